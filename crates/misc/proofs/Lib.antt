@@ -1,0 +1,11 @@
+pub mod ParseLaws
+pub mod Walk
+pub mod OutputLaws
+pub mod LeLaws
+pub mod VarlenLaws
+pub mod SignedLaws
+pub mod LenencLaws
+pub mod MarkLaws
+pub mod RoundTrip
+pub mod Accepted
+pub mod Forward

@@ -1,0 +1,90 @@
+-- Laws of the language of writing (`specs/Output.antt`).
+use mathlib.Core.Path.{_≡_, refl, sym, ap, _∙_}
+use mathlib.Core.List.{List, [], _∷_, _++_}
+use Prim.Native.Nat.{ℕ, zero, suc, _+_, _≤_, _<_}
+use native.Mathlib.Nat.{zero-add, add-zero, add-suc, suc-add, add-assoc}
+use native.Mathlib.Numerals.{add-one}
+use native.Mathlib.Omega.{arith}
+use lib.ListN.{length, take, drop, set, length-append}
+use lib.Seq.{length-sets, sets-eq}
+use borrow.Author.Tests.{le-leb, lt-leb}
+use Rattle.misc.specs.Refusal.{Refusal, number, noRoom}
+use Rattle.misc.specs.Output.{bytes, refused, outputOf, answerOf, written, Placed, WhereFits}
+use Rattle.misc.specs.declared.Wrote.{Wrote}
+
+-- ---- bytes written over a list
+
+-- one byte, then the rest
+pub written-cons : (l : List ℕ) (at b : ℕ) (bs : List ℕ) → written (set l at b) (at + 1) bs ≡ written l at (b ∷ bs)
+unfolding written
+written-cons l at b bs = rw add-one
+
+-- two runs, one after the other, are one run
+pub written-then : (l : List ℕ) (at : ℕ) (a b : List ℕ) → written (written l at a) (at + length a) b ≡ written l at (a ++ b)
+unfolding written
+written-then l at [] b = rw add-zero
+written-then l at (x ∷ a) b = rw (add-suc, ← suc-add) (written-then (set l at x) (suc at) a b)
+
+pub length-written : (l : List ℕ) (at : ℕ) (bs : List ℕ) → length (written l at bs) ≡ length l
+unfolding written
+length-written l at bs = length-sets l at bs
+
+-- what it is where there is room: what was before, the bytes, what was behind
+pub written-is : (l : List ℕ) (at : ℕ) (bs : List ℕ) → at + length bs ≤ length l → written l at bs ≡ take at l ++ bs ++ drop (at + length bs) l
+unfolding written
+written-is l at bs h = sets-eq bs l at h
+
+-- ---- runs of writes
+
+-- a run of writes is one write
+infixl 40 _then_
+pub _then_ : {l l₁ l₂ a b : List ℕ} {at at₁ at₂ : ℕ} → Placed l at a l₁ at₁ → Placed l₁ at₁ b l₂ at₂ → Placed l at (a ++ b) l₂ at₂
+_then_ {l} {l₁} {l₂} {a} {b} {at} {at₁} {at₂} p q =
+    record {
+      holds = q .holds ∙ rw (p .holds, p .ends) (written-then l at a b);
+      ends = q .ends ∙ rw (p .ends, length-append a b) (add-assoc at (length a) (length b));
+    }
+
+pub nothing-placed : (l : List ℕ) (at : ℕ) → Placed l at [] l at
+unfolding written
+nothing-placed l at = record { holds = refl; ends = sym (add-zero at) }
+
+pub one-placed : (l : List ℕ) (at b : ℕ) → Placed l at (b ∷ []) (set l at b) (at + 1)
+unfolding written
+one-placed l at b = record { holds = refl; ends = refl }
+
+-- a run of writes, each where it fits, is one: room is asked once, at the end
+infixl 40 _also_
+pub _also_ : {l l₁ l₂ a b : List ℕ} {at at₁ at₂ : ℕ} → WhereFits l at a l₁ at₁ → WhereFits l₁ at₁ b l₂ at₂ → WhereFits l at (a ++ b) l₂ at₂
+_also_ {l} {l₁} {l₂} {a} {b} {at} {at₁} {at₂} p q = record { placed = go }
+  where
+    go : at + length (a ++ b) ≤ length l → Placed l at (a ++ b) l₂ at₂
+    go room =
+        let both : at + (length a + length b) ≤ length l = rw length-append at room in
+        let first : Placed l at a l₁ at₁ = p .placed (omega arith) in
+        let same : length l₁ ≡ length l = ap length (first .holds) ∙ length-written l at a in
+        first then q .placed (omega arith)
+
+-- ---- what a writer leaves and answers
+
+-- what is placed at the front is the answer
+pub output-fits : {l l′ bs : List ℕ} {n : ℕ} → length bs ≤ length l → Placed l 0 bs l′ n
+    → (record { refusal = 0; len = n } ≡ answerOf l (bytes bs)) × (l′ ≡ outputOf l (bytes bs))
+unfolding answerOf outputOf
+output-fits {l} {l′} {bs} {n} room p = (
+  simp (le-leb (length bs) (length l) room, p .ends, zero-add),
+  simp (le-leb (length bs) (length l) room) (p .holds ∙ written-is l 0 bs (omega arith) ∙ rw zero-add),
+)
+
+-- there is no room
+pub output-short : (l bs : List ℕ) (n : ℕ) → n ≡ length bs → length l < n
+    → (record { refusal = number noRoom; len = n } ≡ answerOf l (bytes bs)) × (l ≡ outputOf l (bytes bs))
+unfolding answerOf outputOf
+output-short l bs n size h =
+    let over : length l < length bs = omega arith in
+    (simp (lt-leb (length bs) (length l) over, size), simp (lt-leb (length bs) (length l) over))
+
+-- a refusal writes nothing
+pub output-refused : (l : List ℕ) (x : Refusal) → (record { refusal = number x; len = 0 } ≡ answerOf l (refused x)) × (l ≡ outputOf l (refused x))
+unfolding answerOf outputOf
+output-refused l x = (refl, refl)

@@ -1,0 +1,12 @@
+-- `packets::is_gno` meets its contract. The code is the rule, with the top written out.
+use mathlib.Core.Path.{refl}
+use Rattle.packets.specs.Gno.{gnoTop}
+use Rattle.packets.proofs.is_gno.Statement.{statement}
+use Rattle.packets.proofs.is_gno.Tie as tie
+
+returns : tie.Need-returns
+unfolding gnoTop
+returns c = refl
+
+pub is-gno-spec : {M : Type 1} → statement M
+is-gno-spec = tie.close (tie.spec returns)

@@ -1,0 +1,93 @@
+// The rules of packets::{Tag, GnoInterval}: which bytes are a tag, which numbers are a gno and an interval of them; and the order
+// of keys, a key being the 16 bytes of a uuid followed by those of a tag, if there is one.
+ghost use mathlib.Core.Path.{_≡_};
+ghost use Rattle.packets.specs.Tag.{isTagByte, allTagBytes, isTag};
+ghost use Rattle.packets.specs.Gno.{isGno, interval, isInterval};
+ghost use Rattle.packets.specs.Key.{order, orderRead};
+
+// The first number that is too great for a gno; an interval ends there at the latest.
+const GNO_TOP: u64 = 0x8000_0000_0000_0000;
+
+fn is_tag_byte(b: u8) -> bool
+    ensures { λ r. ⌜ r ≡ isTagByte b ⌝ }
+{
+    ((b'a' <= b) & (b <= b'z')) | ((b'0' <= b) & (b <= b'9')) | (b == b'_')
+}
+
+fn all_tag_bytes(tag: &[u8]) -> bool
+    ensures { λ r. ⌜ r ≡ allTagBytes (now (tag .entry)) ⌝ }
+{
+    let mut i: usize = 0;
+    while i < tag.len() {
+        if is_tag_byte(tag[i]) {
+            i += 1;
+        } else {
+            return false;
+        }
+    }
+    true
+}
+
+// Whether the bytes are a tag: 1 to 32 of them, a to z, 0 to 9 or an underscore, and no digit first. Upper case is refused.
+pub fn is_tag(tag: &[u8]) -> bool
+    ensures { λ r. ⌜ r ≡ isTag (now (tag .entry)) ⌝ }
+{
+    if tag.len() == 0 {
+        return false;
+    }
+    if 32 < tag.len() {
+        return false;
+    }
+    let first = tag[0];
+    let digit = (b'0' <= first) & (first <= b'9');
+    if digit {
+        return false;
+    }
+    all_tag_bytes(tag)
+}
+
+// Whether a number may be a gno.
+pub fn is_gno(gno: u64) -> bool
+    ensures { λ r. ⌜ r ≡ isGno gno ⌝ }
+{
+    (1 <= gno) & (gno < GNO_TOP)
+}
+
+// Whether the numbers from `start` up to, and without, `end` are an interval of gnos.
+pub fn is_interval(start: u64, end: u64) -> bool
+    ensures { λ r. ⌜ r ≡ isInterval (interval start end) ⌝ }
+{
+    (1 <= start) & (start < end) & (end <= GNO_TOP)
+}
+
+// How a key stands to another.
+pub enum KeyOrder {
+    Before,
+    Same,
+    After,
+}
+
+// The order of keys: bytewise, a prefix first.
+pub fn key_order(a: &[u8], b: &[u8]) -> KeyOrder
+    ensures { λ r. ⌜ r ≡ orderRead (order (now (a .entry)) (now (b .entry))) ⌝ }
+{
+    let mut i = 0;
+    while i < a.len() {
+        if b.len() <= i {
+            return KeyOrder::After;
+        }
+        let x = a[i];
+        let y = b[i];
+        if x < y {
+            return KeyOrder::Before;
+        }
+        if y < x {
+            return KeyOrder::After;
+        }
+        i += 1;
+    }
+    if i < b.len() {
+        return KeyOrder::Before;
+    }
+    KeyOrder::Same
+}
