@@ -1,4 +1,5 @@
 pub mod ParseLaws
+pub mod BodyLaws
 pub mod Walk
 pub mod OutputLaws
 pub mod LeLaws

@@ -1,12 +1,14 @@
 -- Laws of the language of writing (`specs/Output.antt`).
 use mathlib.Core.Path.{_≡_, refl, sym, ap, _∙_}
-use mathlib.Core.List.{List, [], _∷_, _++_}
-use Prim.Native.Nat.{ℕ, zero, suc, _+_, _≤_, _<_}
+use mathlib.Core.List.{List, [], _∷_, _++_, append-assoc, append-nil}
+use Prim.Native.Nat.{ℕ, zero, suc, _+_, _-_, _≤_, _<_}
 use native.Mathlib.Nat.{zero-add, add-zero, add-suc, suc-add, add-assoc}
 use native.Mathlib.Numerals.{add-one}
 use native.Mathlib.Omega.{arith}
-use lib.ListN.{length, take, drop, set, length-append}
-use lib.Seq.{length-sets, sets-eq}
+use lib.ListN.{length, getD, take, drop, set, length-append, length-drop, drop-of-length-le}
+use lib.Seq.{drop-cons, take-all, length-sets, sets-eq, drop-drop}
+use borrow.Rule.Slice.PartMut.{midOf, putMid}
+use Rattle.misc.proofs.ParseLaws.{split}
 use borrow.Author.Tests.{le-leb, lt-leb}
 use Rattle.misc.specs.Refusal.{Refusal, number, noRoom}
 use Rattle.misc.specs.Output.{bytes, refused, outputOf, answerOf, written, Placed, WhereFits}
@@ -18,6 +20,15 @@ use Rattle.misc.specs.declared.Wrote.{Wrote}
 pub written-cons : (l : List ℕ) (at b : ℕ) (bs : List ℕ) → written (set l at b) (at + 1) bs ≡ written l at (b ∷ bs)
 unfolding written
 written-cons l at b bs = rw add-one
+
+-- nothing is left to write
+pub written-none : (l : List ℕ) (at : ℕ) → l ≡ written l at []
+unfolding written
+written-none l at = refl
+
+-- a turn of a copy: the byte at i is written, and those after it are left
+pub copy-turn : (l s : List ℕ) (i : ℕ) → i < length s → written (set l i (getD s i 0)) (i + 1) (drop (i + 1) s) ≡ written l i (drop i s)
+copy-turn l s i h = written-cons l i (getD s i 0) (drop (i + 1) s) ∙ rw (drop-cons s i 0 h, add-one)
 
 -- two runs, one after the other, are one run
 pub written-then : (l : List ℕ) (at : ℕ) (a b : List ℕ) → written (written l at a) (at + length a) b ≡ written l at (a ++ b)
@@ -46,8 +57,7 @@ _then_ {l} {l₁} {l₂} {a} {b} {at} {at₁} {at₂} p q =
     }
 
 pub nothing-placed : (l : List ℕ) (at : ℕ) → Placed l at [] l at
-unfolding written
-nothing-placed l at = record { holds = refl; ends = sym (add-zero at) }
+nothing-placed l at = record { holds = written-none l at; ends = sym (add-zero at) }
 
 pub one-placed : (l : List ℕ) (at b : ℕ) → Placed l at (b ∷ []) (set l at b) (at + 1)
 unfolding written
@@ -88,3 +98,69 @@ output-short l bs n size h =
 pub output-refused : (l : List ℕ) (x : Refusal) → (record { refusal = number x; len = 0 } ≡ answerOf l (refused x)) × (l ≡ outputOf l (refused x))
 unfolding answerOf outputOf
 output-refused l x = (refl, refl)
+
+-- ---- a part of an output, from a place on, lent to a writer and put back
+
+-- such a part, and the output with something else in its place
+abbrev pub fromOn : List ℕ → ℕ → List ℕ
+fromOn l at = midOf at (length l - at) l
+
+abbrev pub putBack : List ℕ → ℕ → List ℕ → List ℕ
+putBack l at part = putMid at (length l - at) l part
+
+-- no place is left
+pub past-end : {l bs l′ : List ℕ} {at next : ℕ} → length l < at → WhereFits l at bs l′ next
+past-end {l} {bs} {l′} {at} {next} h = record { placed = λ room. absurd (omega arith) }
+
+module _ (l bs : List ℕ) (at : ℕ) (inside : at ≤ length l) (r : Wrote) (told : r ≡ answerOf (fromOn l at) (bytes bs)) where
+  part-is : fromOn l at ≡ drop at l
+  part-is = take-all (length l - at) (drop at l) (rw length-drop (omega arith))
+
+  part-length : length (fromOn l at) ≡ length l - at
+  part-length = rw part-is (length-drop at l)
+
+  -- the writer answered 13: they don't fit
+  pub lent-refused : {l′ : List ℕ} {next : ℕ} → (r .refusal ≡ 0 → ⊥) → WhereFits l at bs l′ next
+  unfolding answerOf
+  lent-refused {l′} {next} full =
+      record {
+        placed = λ room.
+            let size = part-length in
+            let fits : length bs ≤ length (fromOn l at) = omega arith in
+            absurd (full (ap (λ (y : Wrote). y .refusal) told ∙ rw (le-leb (length bs) (length (fromOn l at)) fits)));
+      }
+
+  module _ (done : r .refusal ≡ 0) where
+    fits : length bs ≤ length (fromOn l at)
+    unfolding answerOf
+    fits =
+        split (length bs) (length (fromOn l at)) (λ h. h)
+        (λ h.
+        let full : r .refusal ≡ 13 = ap (λ (y : Wrote). y .refusal) told ∙ rw (lt-leb (length bs) (length (fromOn l at)) h) in
+        absurd (omega arith))
+
+    len-is : r .len ≡ length bs
+    unfolding answerOf
+    len-is = ap (λ (y : Wrote). y .len) told ∙ rw (le-leb (length bs) (length (fromOn l at)) fits)
+
+    -- it wrote them: they stand in the whole, and the place after them is within it
+    pub lent-ends : at + r .len ≤ length l
+    lent-ends = omega (arith, len-is, fits, part-length)
+
+    pub lent-placed : {part : List ℕ} → part ≡ outputOf (fromOn l at) (bytes bs) → WhereFits l at bs (putBack l at part) (at + r .len)
+    unfolding outputOf
+    lent-placed {part} is =
+        let size = part-length in
+        let whole = fits in
+        let rest : drop (length l - at) (drop at l) ≡ [] = drop-of-length-le (drop at l) {i = length l - at} (rw length-drop (omega arith)) in
+        let now : part ≡ bs ++ drop (length bs) (drop at l) = is ∙ rw (le-leb (length bs) (length (fromOn l at)) whole, part-is) in
+        let after : drop (length bs) (drop at l) ≡ drop (at + length bs) l = drop-drop (length bs) at l in
+        record {
+          placed = λ room.
+              record {
+                holds =
+                    ap (λ (p : List ℕ). take at l ++ (p ++ drop (length l - at) (drop at l))) now
+                    ∙ rw (rest, after) (simp append-nil (sym (written-is l at bs room ∙ append-assoc (take at l) bs (drop (at + length bs) l))));
+                ends = rw len-is;
+              };
+        }

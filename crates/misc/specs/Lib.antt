@@ -4,6 +4,7 @@
 pub mod Pick
 pub mod Refusal
 pub mod Parse
+pub mod Body
 pub mod Output
 pub mod Le
 pub mod Varlen

@@ -4,12 +4,16 @@
 ghost use mathlib.Core.Path.{_≡_};
 ghost use Rattle.misc.specs.Parse.{refusedUint};
 
+pub mod bytes;
 pub mod le;
 pub mod lenenc;
 pub mod mark;
 pub mod refusal;
 pub mod signed;
 pub mod varlen;
+
+// The longest body that the calls over bodies take.
+pub const MAX_BODY: usize = 65_536;
 
 // What reading a number finds: its value and the place after it, both 0 on a refusal.
 pub struct ReadUint {

@@ -4,3 +4,4 @@ pub mod Keys
 pub mod OrderWalk
 pub mod TagLaws
 pub mod GnoLaws
+pub mod KeptLaws

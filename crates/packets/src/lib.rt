@@ -4,6 +4,9 @@ ghost use mathlib.Core.Path.{_≡_};
 ghost use Rattle.packets.specs.Tag.{isTagByte, allTagBytes, isTag};
 ghost use Rattle.packets.specs.Gno.{isGno, interval, isInterval};
 ghost use Rattle.packets.specs.Key.{order, orderRead};
+ghost use lib.ListN.{take};
+ghost use Rattle.packets.specs.Kept.{kept};
+use misc::bytes::write_bytes;
 
 // The first number that is too great for a gno; an interval ends there at the latest.
 const GNO_TOP: u64 = 0x8000_0000_0000_0000;
@@ -90,4 +93,32 @@ pub fn key_order(a: &[u8], b: &[u8]) -> KeyOrder
         return KeyOrder::Before;
     }
     KeyOrder::Same
+}
+
+// The first bytes of a slice, `most` of them or as many as there are.
+fn front(s: &[u8], most: usize) -> &[u8]
+    ensures { λ r. ⌜ now r ≡ take most (now (s .entry)) ⌝ }
+{
+    if s.len() < most {
+        return s;
+    }
+    &s[..most]
+}
+
+// A uuid as records keep it: the first 16 bytes, zeros where there are fewer.
+pub fn uuid_bytes(uuid: &[u8]) -> [u8; 16]
+    ensures { λ r. ⌜ r ≡ kept 16 (now (uuid .entry)) ⌝ }
+{
+    let mut field = [0u8; 16];
+    write_bytes(front(uuid, 16), &mut field);
+    field
+}
+
+// A tag as records keep it: the first 32 bytes, and zeros after them.
+pub fn tag_bytes(tag: &[u8]) -> [u8; 32]
+    ensures { λ r. ⌜ r ≡ kept 32 (now (tag .entry)) ⌝ }
+{
+    let mut field = [0u8; 32];
+    write_bytes(front(tag, 32), &mut field);
+    field
 }

@@ -11,9 +11,6 @@ use Rattle.misc.specs.Le.{leOf}
 use Rattle.misc.proofs.LeLaws.{gather-step, gather-bound, gather-none, gather-room}
 use Rattle.misc.proofs.le.gather.Statement.{statement}
 use Rattle.misc.proofs.le.gather.Tie as tie
-use Rattle.misc.proofs.le.gather.Reads as reads
-use Rattle.misc.proofs.le.gather.Lts as lts
-use Rattle.misc.proofs.le.wide.Reads as wide-reads
 
 abbrev Inv-loop : tie.InvT-loop
 Inv-loop s at n value₀ i₀ value i = (i ≤ n) × (value ≡ leOf (part s (at + i) (n - i))) × (value < 256 ^ (n - i))

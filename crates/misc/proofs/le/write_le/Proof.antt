@@ -1,3 +1,5 @@
+-- `misc::le::write_le` meets its contract.
+-- Assumes nothing.
 use Rattle.misc.proofs.LeLaws.{length-leBytes}
 use Rattle.misc.proofs.OutputLaws.{output-fits, output-short}
 use mathlib.Core.Path.{sym}
@@ -6,25 +8,18 @@ use native.Mathlib.Omega.{arith}
 use borrow.Author.Needs.{needs}
 use Rattle.misc.proofs.le.write_le.Statement.{statement}
 use Rattle.misc.proofs.le.write_le.Tie as tie
-use Rattle.misc.proofs.le.write_le.Reads as reads
-use Rattle.misc.proofs.le.write_le.Lts as lts
-use Rattle.misc.proofs.le.scatter.Reads as scatter-reads
 
--- src/le.rt:89:9
 returns : tie.Need-returns
 returns c =
     let a = c .before .before .args in
     output-short (a .out .now) (leBytes (a .n) (a .value)) (a .n) (sym (length-leBytes (a .n) (a .value))) (c .if1 .taken)
 
--- src/le.rt:94:5
 scatter-requires : tie.Need-scatter-requires
 scatter-requires c κs = search needs
 
--- src/le.rt:84:1
 same-length : tie.Need-same-length
 same-length c = search needs
 
--- src/le.rt:84:1
 returns-2 : tie.Need-returns-2
 returns-2 c =
     let a = c .before .before .before .before .before .before .args in

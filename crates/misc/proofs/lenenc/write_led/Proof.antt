@@ -1,3 +1,5 @@
+-- `misc::lenenc::write_led` meets its contract.
+-- Assumes nothing.
 use Rattle.misc.proofs.LeLaws.{length-leBytes}
 use Rattle.misc.proofs.OutputLaws.{written-cons, output-fits, output-short}
 use Rattle.misc.specs.Le.{leBytes}
@@ -9,33 +11,24 @@ use native.Mathlib.Omega.{arith}
 use borrow.Author.Needs.{needs}
 use Rattle.misc.proofs.lenenc.write_led.Statement.{statement}
 use Rattle.misc.proofs.lenenc.write_led.Tie as tie
-use Rattle.misc.proofs.lenenc.write_led.Reads as reads
-use Rattle.misc.proofs.lenenc.write_led.Lts as lts
-use Rattle.misc.proofs.le.scatter.Reads as scatter-reads
 
--- src/lenenc.rt:63:18
 add-needed : tie.Need-add-needed
 add-needed c = search needs
 
--- src/lenenc.rt:65:9
 returns : tie.Need-returns
 returns c =
     let a = c .before .before .args in
     output-short (a .out .now) (a .lead ∷ leBytes (a .n) (a .value)) (a .n + 1) (omega (arith, length-leBytes (a .n) (a .value))) (c .if1 .taken)
 
--- src/lenenc.rt:70:5
 slice-write-out : tie.Need-slice-write-out
 slice-write-out c = search needs
 
--- src/lenenc.rt:71:5
 scatter-requires : tie.Need-scatter-requires
 scatter-requires c κs = simp length-set (omega arith)
 
--- src/lenenc.rt:58:1
 same-length : tie.Need-same-length
 same-length c = c .before .before .scatter .kept .1 .0 ∙ simp length-set
 
--- src/lenenc.rt:58:1
 returns-2 : tie.Need-returns-2
 returns-2 c =
     let a = c .before .before .before .before .before .before .args in

@@ -1,27 +1,21 @@
+-- `misc::signed::read_varlen_int` meets its contract.
+-- Assumes nothing.
 use Rattle.misc.proofs.SignedLaws.{signed-refused, signed-read}
 use mir.Facts.{toZ-ofZ}
 use mathlib.Core.Path.{_∙_}
 use borrow.Author.Needs.{needs}
 use Rattle.misc.proofs.signed.read_varlen_int.Statement.{statement}
 use Rattle.misc.proofs.signed.read_varlen_int.Tie as tie
-use Rattle.misc.proofs.signed.read_varlen_int.Reads as reads
-use Rattle.misc.proofs.signed.read_varlen_int.Lts as lts
-use Rattle.misc.proofs.signed.meant_by.Reads as meant-by-reads
-use Rattle.misc.proofs.varlen.read_varlen_uint.Reads as read-varlen-uint-reads
 
--- src/signed.rt:36:9
 read-varlen-uint-requires : tie.Need-read-varlen-uint-requires
 read-varlen-uint-requires c κs = search needs
 
--- src/signed.rt:39:9
 returns : tie.Need-returns
 returns c = signed-refused _ _ _ (c .before .read-varlen-uint .ensures) (c .if1 .taken)
 
--- src/signed.rt:47:16
 meant-by-requires : tie.Need-meant-by-requires
 meant-by-requires c κs = search needs
 
--- src/signed.rt:33:1
 returns-2 : tie.Need-returns-2
 returns-2 c = signed-read _ _ _ (c .before .before .read-varlen-uint .ensures) (c .before .if1 .left) (toZ-ofZ (record { sfits = c .meant-by .ok }) ∙ c .meant-by .ensures)
 

@@ -1,3 +1,5 @@
+-- `misc::varlen::read_varlen_uint` meets its contract.
+-- Assumes nothing.
 use Rattle.misc.proofs.VarlenLaws.{varlen-past, varlen-cut, varlen-narrow, varlen-nine}
 use Rattle.misc.specs.Parse.{parsed, uintRead}
 use native.Mathlib.Omega.{arith}
@@ -6,60 +8,43 @@ use mathlib.Core.Path.{sym, ap, _∙_}
 use borrow.Author.Needs.{needs}
 use Rattle.misc.proofs.varlen.read_varlen_uint.Statement.{statement}
 use Rattle.misc.proofs.varlen.read_varlen_uint.Tie as tie
-use Rattle.misc.proofs.varlen.read_varlen_uint.Reads as reads
-use Rattle.misc.proofs.varlen.read_varlen_uint.Lts as lts
-use Rattle.misc.proofs.le.gather.Reads as gather-reads
-use Rattle.misc.proofs.refused_uint.Reads as refused-uint-reads
-use Rattle.misc.proofs.varlen.trailing_ones.Reads as trailing-ones-reads
 
--- src/varlen.rt:24:9
 refused-uint-requires : tie.Need-refused-uint-requires
 refused-uint-requires c κs = search needs
 
--- src/varlen.rt:24:9
 returns : tie.Need-returns
 returns c = c .refused-uint .ensures ∙ ap uintRead (sym (varlen-past _ _ (c .before .if1 .taken)))
 
--- src/varlen.rt:26:30
 shared-slice-read-trailing-ones : tie.Need-shared-slice-read-trailing-ones
 shared-slice-read-trailing-ones c = search needs
 
--- src/varlen.rt:26:9
 trailing-ones-requires : tie.Need-trailing-ones-requires
 trailing-ones-requires c κs = search needs
 
--- src/varlen.rt:27:21
 add-num-bytes : tie.Need-add-num-bytes
 add-num-bytes c = search needs
 
--- src/varlen.rt:28:8
 sub-if2 : tie.Need-sub-if2
 sub-if2 c = search needs
 
--- src/varlen.rt:29:9
 refused-uint-requires-2 : tie.Need-refused-uint-requires-2
 refused-uint-requires-2 c κs = search needs
 
--- src/varlen.rt:29:9
 returns-2 : tie.Need-returns-2
 returns-2 c =
     let t = c .before .before .trailing-ones in
     let a = c .before .before .before .before .before .before .args in
     c .refused-uint2 .ensures ∙ ap uintRead (sym (varlen-cut (a .s .now) (a .at) (t .result) (omega arith) (t .ensures .0) (omega arith)))
 
--- src/varlen.rt:34:34
 add-gather : tie.Need-add-gather
 add-gather c = search needs
 
--- src/varlen.rt:34:20
 gather-requires : tie.Need-gather-requires
 gather-requires c κs = search needs
 
--- src/varlen.rt:35:19
 add-t13 : tie.Need-add-t13
 add-t13 c = search needs
 
--- src/varlen.rt:32:9
 returns-3 : tie.Need-returns-3
 returns-3 c =
     let t = c .before .before .before .trailing-ones in
@@ -67,19 +52,15 @@ returns-3 c =
     let law = varlen-nine (a .s .now) (a .at) (t .result) (omega arith) (t .ensures .0) (omega arith) (c .before .if3 .taken) in
     ap (λ (v : ℕ). uintRead (parsed v (a .at + 9))) (c .gather .ensures .0) ∙ ap uintRead (sym law)
 
--- src/varlen.rt:38:9
 gather-requires-2 : tie.Need-gather-requires-2
 gather-requires-2 c κs = search needs
 
--- src/varlen.rt:41:16
 shr-t15 : tie.Need-shr-t15
 shr-t15 c = search needs
 
--- src/varlen.rt:42:15
 add-t6 : tie.Need-add-t6
 add-t6 c = search needs
 
--- src/varlen.rt:20:1
 returns-4 : tie.Need-returns-4
 returns-4 c =
     let t = c .before .before .before .trailing-ones in

@@ -8,8 +8,6 @@ use lib.ListN.{length}
 use Rattle.misc.proofs.VarlenLaws.{size-found, size-passed, size-nine, size-range, length-varlenBytes}
 use Rattle.misc.proofs.varlen.varlen_uint_size.Statement.{statement}
 use Rattle.misc.proofs.varlen.varlen_uint_size.Tie as tie
-use Rattle.misc.proofs.varlen.varlen_uint_size.Reads as reads
-use Rattle.misc.proofs.varlen.varlen_uint_size.Lts as lts
 
 abbrev Inv-loop : tie.InvT-loop
 Inv-loop value n₀ n = (1 ≤ n) × (n ≤ 9) × (sizeFrom (9 - n) n value ≡ varlenSize value)
