@@ -1,0 +1,74 @@
+// A request: its head, and reading its parts.
+ghost use Prim.Native.Nat.{_<_};
+
+pub const HEAD_LEN: usize = 24;
+
+pub struct Head {
+    pub call: u8,
+    pub event_type: u8,
+    pub c_len: usize,
+    pub a_len: usize,
+    pub b_len: usize,
+    pub out_len: usize,
+    pub number: u64,
+}
+
+// The byte at a place, or 0 past the end.
+pub fn byte_at(s: &[u8], at: usize) -> u8 {
+    if at < s.len() {
+        return s[at];
+    }
+    0
+}
+
+fn wide(b: u8) -> usize
+    ensures { λ r. ⌜ r < 256 ⌝ }
+{
+    b as usize
+}
+
+// The number whose low byte and high byte stand at two places.
+fn two_at(s: &[u8], low: usize, high: usize) -> usize {
+    wide(byte_at(s, low)) + 256 * wide(byte_at(s, high))
+}
+
+// The number that the four bytes from `at` on spell.
+fn four_at(s: &[u8], at: usize) -> usize {
+    misc::le::read_u32_le(s, at).value as usize
+}
+
+pub fn head_of(raw: &[u8]) -> Head {
+    Head {
+        call: byte_at(raw, 0),
+        event_type: byte_at(raw, 1),
+        c_len: two_at(raw, 2, 3),
+        a_len: four_at(raw, 4),
+        b_len: four_at(raw, 8),
+        out_len: four_at(raw, 12),
+        number: misc::le::read_u64_le(raw, 16).value,
+    }
+}
+
+// Fills the first `n` bytes of `part` from standard input; false where they do not fit or do not come.
+fn read_part(part: &mut [u8], n: usize) -> bool {
+    if n == 0 {
+        return true;
+    }
+    if part.len() < n {
+        return false;
+    }
+    io::read_full(0, &mut part[..n]) == n
+}
+
+pub fn read_parts(head: Head, a: &mut [u8], b: &mut [u8], c: &mut [u8]) -> bool {
+    let a_len = head.a_len;
+    let b_len = head.b_len;
+    let c_len = head.c_len;
+    if !read_part(a, a_len) {
+        return false;
+    }
+    if !read_part(b, b_len) {
+        return false;
+    }
+    read_part(c, c_len)
+}
