@@ -1,10 +1,10 @@
 -- What a read that finds a value says of places: it ends behind where it began, and within the bytes. A loop over items falls by this.
-use mathlib.Core.Path.{_≡_, sym, _∙_}
+use mathlib.Core.Path.{_≡_, sym}
 use mathlib.Core.List.{List}
 use Prim.Native.Nat.{ℕ, _+_, _≤_, _<_}
 use native.Mathlib.Omega.{arith}
-use lib.ListN.{length, getD}
-use lib.Dec.{ltb, leb, eqb}
+use lib.ListN.{length}
+use lib.Dec.{ltb, eqb}
 use Rattle.misc.specs.Parse.{parsed, bytesAt, byteAt}
 use Rattle.misc.specs.Le.{leOf, leAt}
 use Rattle.misc.specs.Lenenc.{ledAt, lenencAt}

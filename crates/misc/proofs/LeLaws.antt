@@ -1,13 +1,12 @@
 -- Laws of the little-endian definitions (`specs/Le.antt`).
 use mathlib.Core.Path.{_≡_, refl, sym, ap, _∙_}
-use mathlib.Core.List.{List, [], _∷_, _++_, append-assoc}
+use mathlib.Core.List.{List, _++_, append-assoc}
 use Prim.Native.Nat.{ℕ, zero, suc, _+_, _-_, _*_, _/_, _%_, _^_, _≤_, _<_}
-use native.Mathlib.Nat.{add-zero, add-suc, suc-add, pow-suc, sub-self, pow-le-pow-right}
+use native.Mathlib.Nat.{pow-suc, sub-self, pow-le-pow-right}
 use native.Mathlib.Omega.{arith}
-use lib.ListN.{length, getD, take, drop, set}
+use lib.ListN.{length, getD, set}
 use lib.Pow.{pow-add, pow-pos}
-use lib.Seq.{drop-append-seam, take-append-seam, drop-cons, length-sets, sets-eq}
-use native.Mathlib.Numerals.{add-one}
+use lib.Seq.{drop-append-seam, take-append-seam, drop-cons}
 use Rattle.misc.specs.Refusal.{number, ended}
 use Rattle.misc.specs.Parse.{refuse, parsed, part, refusedUint, uintRead}
 use Rattle.misc.specs.declared.ReadUint.{ReadUint}

@@ -2,7 +2,7 @@
 use mathlib.Core.Path.{_≡_, refl, sym, ap, _∙_}
 use mathlib.Core.List.{List, [], _∷_, _++_, append-assoc}
 use Prim.Native.Nat.{ℕ, zero, suc, _+_, _-_, _*_, _/_, _%_, _^_, _≤_, _<_}
-use native.Mathlib.Nat.{pow-suc, suc-add, add-zero, mul-assoc, mul-le-mul-right}
+use native.Mathlib.Nat.{pow-suc, suc-add, mul-assoc}
 use native.Mathlib.Numerals.{add-one}
 use native.Mathlib.Decide.{decLt}
 use native.Mathlib.Omega.{arith}
@@ -11,11 +11,11 @@ use lib.Pow.{pow-pos, pow-mono, pow-add, high, field, mod-mod-pow}
 use lib.ListN.{length, getD, length-append}
 use lib.Seq.{getD-append-seam, append-snoc}
 use borrow.Author.Tests.{lt-ltb}
-use Rattle.misc.specs.Parse.{Parse, parsed, mapped, part}
+use Rattle.misc.specs.Parse.{parsed, mapped, part}
 use Rattle.misc.specs.Le.{leOf, leBytes, leAt}
 use Rattle.misc.specs.Lenenc.{ledAt, lenencAt, lenencBytes}
 use Rattle.misc.proofs.LenencLaws.{lenenc-led, led-value, led-2, led-3, led-8, bytes-1, bytes-3, bytes-4, bytes-9}
-use Rattle.misc.specs.Varlen.{above, trailingOnes, varlenAt, varlenSize, itemOf, varlenBytes}
+use Rattle.misc.specs.Varlen.{trailingOnes, varlenAt, varlenSize, itemOf, varlenBytes}
 use lib.IntN.{ℤ}
 use mir.Syntax.{w64}
 use mir.Val.{SFits}

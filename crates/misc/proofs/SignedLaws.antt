@@ -1,21 +1,20 @@
 -- Laws of signed integers as they are sent (`specs/Signed.antt`), and of the machine's -1 - x.
 use mathlib.Core.Path.{_≡_, refl, sym, ap, subst, _∙_}
 use mathlib.Core.Bool.{Bool, true, false}
-use Prim.Native.Nat.{ℕ, zero, suc, _+_, _-_, _*_, _/_, _%_, _^_, _≤_, _<_}
+use Prim.Native.Nat.{ℕ, zero, suc, _+_, _-_, _*_, _/_, _%_, _^_, _<_}
 use native.Mathlib.Nat.{zero-add}
 use native.Mathlib.Omega.{arith}
 use lib.IntN.{ℤ, pos, negsuc, _-ℤ_}
-use lib.Signed.{ltZ, mag}
+use lib.Signed.{ltZ}
 use lib.Dec.{eqb}
 use Rattle.misc.specs.Pick.{pick}
 use borrow.Author.Tests.{eqb-true, eqb-false, eq-eqb, ne-eqb, le-ltb, ltb-true}
 use mir.Syntax.{w64}
 use mir.Val.{toZ, ofZ, SFits}
 use mir.Facts.{toZ-ofZ, toZ-pos}
-use Rattle.misc.specs.Refusal.{Refusal, negative}
+use Rattle.misc.specs.Refusal.{negative}
 use Rattle.misc.specs.Parse.{Parse, refuse, parsed, andThen, mapped, uintRead}
 use Rattle.misc.specs.declared.ReadUint.{ReadUint}
-use Rattle.misc.specs.declared.ReadInt.{ReadInt}
 use Rattle.misc.specs.Varlen.{varlenAt}
 use Rattle.misc.specs.Signed.{sentAs, meantBy, signedAt, notNegative, naturalAt, intRead}
 use Rattle.misc.proofs.ParseLaws.{uint-told, uint-refused}

@@ -1,24 +1,23 @@
 -- Laws of the variable-length integers (`specs/Varlen.antt`).
 use mathlib.Core.Path.{_≡_, refl, sym, ap, _∙_}
-use mathlib.Core.List.{List, [], _∷_}
+use mathlib.Core.List.{List, _∷_}
 use Prim.Native.Nat.{ℕ, zero, suc, _+_, _-_, _*_, _/_, _%_, _^_, _≤_, _<_}
-use native.Mathlib.Nat.{pow-suc, mod-lt, zero-lt-suc, zero-add, one-mul, div-lt-iff-lt-mul, div-eq-of-lt}
+use native.Mathlib.Nat.{one-mul, div-lt-iff-lt-mul, div-eq-of-lt}
 use mathlib.Core.Bool.{Bool, true, false}
-use lib.Dec.{ltb, leb}
-use borrow.Author.Tests.{lt-ltb, le-ltb, le-leb, lt-leb, ltb-true}
+use lib.Dec.{ltb}
+use borrow.Author.Tests.{lt-ltb, le-ltb, ltb-true}
 use native.Mathlib.Numerals.{add-one}
 use native.Mathlib.Decide.{decLt}
 use native.Mathlib.Omega.{arith}
 use Rattle.misc.proofs.LeLaws.{length-leBytes}
 use lib.Pow.{pow-pos, pow-mono, shl-exact}
 use lib.Bits.{bitOr, or-shifted}
-use lib.ListN.{length, getD, take, drop}
+use lib.ListN.{length, getD, drop}
 use lib.Seq.{drop-cons}
 use Rattle.misc.specs.Refusal.{ended}
 use Rattle.misc.specs.Parse.{refuse, parsed, part}
 use Rattle.misc.specs.Le.{leOf, leBytes}
 use Rattle.misc.proofs.ParseLaws.{bytes-here, bytes-gone, byte-here, byte-gone}
-use Rattle.misc.specs.Output.{written}
 use lib.Count.{trailingZeros, under}
 use Rattle.misc.specs.Pick.{pick}
 use Rattle.misc.specs.Varlen.{above, trailingOnes, itemValue, itemAt, varlenAt, sizeFrom, varlenSize, itemOf, varlenBytes}

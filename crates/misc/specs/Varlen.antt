@@ -1,7 +1,7 @@
 -- Variable-length integers, as the server's serialization library lays them out: t trailing ones in the first byte say that the
 -- item has t + 1 bytes. The number that they spell is the value above those ones and a zero; after FF it is eight plain bytes.
 use Prim.Native.Nat.{ℕ, zero, suc, _+_, _-_, _*_, _/_, _%_, _^_}
-use mathlib.Core.List.{List, [], _∷_}
+use mathlib.Core.List.{List, _∷_}
 use lib.ListN.{drop}
 use lib.Dec.{ltb}
 use Rattle.misc.specs.Pick.{pick}

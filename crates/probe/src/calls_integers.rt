@@ -41,7 +41,7 @@ fn lenencsize(number: u64, line: &mut [u8]) -> usize {
     answers::size(line, misc::lenenc::lenenc_int_len(number))
 }
 
-pub fn answer(call: u8, number: u64, a: &[u8], out: &mut [u8], line: &mut [u8]) -> usize {
+pub(crate) fn answer(call: u8, number: u64, a: &[u8], out: &mut [u8], line: &mut [u8]) -> usize {
     match call {
         1 => uint(a, line),
         2 => putuint(number, out, line),

@@ -3,7 +3,7 @@
 
 const MARK: u8 = 0xa5;
 
-pub fn fill(out: &mut [u8]) {
+pub(crate) fn fill(out: &mut [u8]) {
     let mut i = 0;
     while i < out.len() {
         out[i] = MARK;
@@ -12,7 +12,7 @@ pub fn fill(out: &mut [u8]) {
 }
 
 // Whether a byte from `from` on isn't the mark.
-pub fn dirty(out: &[u8], from: usize) -> bool {
+pub(crate) fn dirty(out: &[u8], from: usize) -> bool {
     let mut i = from;
     while i < out.len() {
         if out[i] != MARK {

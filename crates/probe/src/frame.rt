@@ -14,7 +14,7 @@ pub struct Head {
 }
 
 // The byte at a place, or 0 past the end.
-pub fn byte_at(s: &[u8], at: usize) -> u8 {
+pub(crate) fn byte_at(s: &[u8], at: usize) -> u8 {
     if at < s.len() {
         return s[at];
     }
@@ -37,7 +37,7 @@ fn four_at(s: &[u8], at: usize) -> usize {
     misc::le::read_u32_le(s, at).value as usize
 }
 
-pub fn head_of(raw: &[u8]) -> Head {
+pub(crate) fn head_of(raw: &[u8]) -> Head {
     Head {
         call: byte_at(raw, 0),
         event_type: byte_at(raw, 1),
@@ -60,7 +60,7 @@ fn read_part(part: &mut [u8], n: usize) -> bool {
     io::read_full(0, &mut part[..n]) == n
 }
 
-pub fn read_parts(head: Head, a: &mut [u8], b: &mut [u8], c: &mut [u8]) -> bool {
+pub(crate) fn read_parts(head: Head, a: &mut [u8], b: &mut [u8], c: &mut [u8]) -> bool {
     let a_len = head.a_len;
     let b_len = head.b_len;
     let c_len = head.c_len;

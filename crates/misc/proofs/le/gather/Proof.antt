@@ -1,11 +1,10 @@
 -- `misc::le::gather` meets its contract. The invariant: `value` is what the bytes from `at + i` on spell.
 -- Assumes nothing.
-use mathlib.Core.Path.{_≡_, refl, sym, ap, _∙_}
-use Prim.Native.Nat.{ℕ, _+_, _-_, _≤_, _<_, _^_, suc, _*_}
+use mathlib.Core.Path.{_≡_}
+use Prim.Native.Nat.{_+_, _-_, _≤_, _<_, _^_, suc}
 use native.Mathlib.Nat.{add-zero, sub-zero}
 use native.Mathlib.Omega.{arith}
 use borrow.Author.Needs.{needs}
-use lib.ListN.{length}
 use Rattle.misc.specs.Parse.{part}
 use Rattle.misc.specs.Le.{leOf}
 use Rattle.misc.proofs.LeLaws.{gather-step, gather-bound, gather-none, gather-room}

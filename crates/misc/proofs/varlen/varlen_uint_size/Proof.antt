@@ -1,7 +1,7 @@
 -- `misc::varlen::varlen_uint_size` meets its contract. The invariant: the sizes from `n` on have the answer.
 -- Assumes nothing.
-use mathlib.Core.Path.{_≡_, refl, sym, ap, _∙_}
-use Prim.Native.Nat.{ℕ, _+_, _-_, _≤_, _<_, _^_}
+use mathlib.Core.Path.{_≡_, refl, sym, _∙_}
+use Prim.Native.Nat.{ℕ, _-_, _≤_}
 use native.Mathlib.Omega.{arith}
 use Rattle.misc.specs.Varlen.{sizeFrom, varlenSize, varlenBytes}
 use lib.ListN.{length}

@@ -7,7 +7,7 @@ use Rattle.misc.specs.Le.{leBytes}
 use lib.Pow.{pow-pos}
 use lib.ListN.{length, length-set}
 use native.Mathlib.Omega.{arith}
-use Prim.Native.Nat.{ℕ, _+_, _-_, _≤_, _<_, _^_, _*_}
+use Prim.Native.Nat.{ℕ, _-_, _≤_, _<_, _^_, _*_}
 use mathlib.Core.Path.{_≡_, sym, _∙_}
 use borrow.Author.Needs.{needs}
 use Rattle.misc.proofs.varlen.write_varlen_uint.Statement.{statement}
