@@ -1,7 +1,7 @@
 // Calls 1 to 8: the integers of crate misc.
-use crate::answers;
-use crate::checks;
-use crate::twos;
+use probe_lines::answers;
+use probe_lines::checks;
+use probe_lines::twos;
 
 fn uint(a: &[u8], line: &mut [u8]) -> usize {
     answers::read_uint(line, misc::varlen::read_varlen_uint(a, 0))

@@ -2,12 +2,8 @@
 //
 // A request is a head of 24 bytes and three parts, A, B and C (frame.rt). The calls of a library crate stand in a
 // module of their own (calls_*.rt), whose `answer` has an arm for each; `answer` here has one for each such module.
-mod answers;
 mod calls_integers;
-mod checks;
 mod frame;
-mod line;
-mod twos;
 
 use crate::frame::Head;
 
@@ -28,7 +24,7 @@ fn answer(head: Head, a: &[u8], b: &[u8], c: &[u8], out: &mut [u8], line: &mut [
     if call < 16 {
         return calls_integers::answer(call, head.number, a, out, line);
     }
-    answers::none(line)
+    probe_lines::answers::none(line)
 }
 
 // Answers the request whose parts stand at the front of `a`, `b` and `c`; false where one doesn't fit there.
@@ -48,7 +44,7 @@ fn answer_read(head: Head, a: &[u8], b: &[u8], c: &[u8], out: &mut [u8], line: &
         &mut out[..out_len],
         line,
     );
-    line::write(line, end)
+    probe_lines::line::write(line, end)
 }
 
 // Reads a request and answers it; false at the end of the input.

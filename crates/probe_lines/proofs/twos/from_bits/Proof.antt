@@ -1,10 +1,10 @@
--- `probe::twos::from_bits` is safe: what is left of `u64::MAX` is below 2^63, so -1 less it fits an `i64`.
+-- `probe_lines::twos::from_bits` is safe: what is left of `u64::MAX` is below 2^63, so -1 less it fits an `i64`.
 use Prim.Native.Nat.{_-_, _^_, _<_}
 use native.Mathlib.Omega.{arith}
 use borrow.Author.Needs.{needs}
 use Rattle.misc.proofs.SignedLaws.{turned-half}
-use Rattle.probe.proofs.twos.from_bits.Statement.{statement}
-use Rattle.probe.proofs.twos.from_bits.Tie as tie
+use Rattle.probe_lines.proofs.twos.from_bits.Statement.{statement}
+use Rattle.probe_lines.proofs.twos.from_bits.Tie as tie
 
 cast-result : tie.Need-cast-result
 cast-result c = search needs

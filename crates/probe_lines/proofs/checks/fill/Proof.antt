@@ -1,10 +1,10 @@
--- `probe::checks::fill` is safe and ends. The output keeps its length.
+-- `probe_lines::checks::fill` is safe and ends. The output keeps its length.
 use mathlib.Core.Path.{_≡_}
 use Prim.Native.Nat.{_-_}
 use lib.ListN.{length}
 use borrow.Author.Needs.{needs}
-use Rattle.probe.proofs.checks.fill.Statement.{statement}
-use Rattle.probe.proofs.checks.fill.Tie as tie
+use Rattle.probe_lines.proofs.checks.fill.Statement.{statement}
+use Rattle.probe_lines.proofs.checks.fill.Tie as tie
 
 abbrev Inv-loop : tie.InvT-loop
 Inv-loop out₀ i₀ out i = length out ≡ length out₀

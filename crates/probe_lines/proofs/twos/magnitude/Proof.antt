@@ -1,4 +1,4 @@
--- `probe::twos::magnitude` is safe: -1 less a negative number is from 0 on and below 2^63.
+-- `probe_lines::twos::magnitude` is safe: -1 less a negative number is from 0 on and below 2^63.
 use mathlib.Core.Path.{_≡_}
 use Prim.Native.Nat.{ℕ, _^_, _<_}
 use native.Mathlib.Omega.{arith}
@@ -7,8 +7,8 @@ use mir.Val.{toZ, ofZ}
 use mir.Syntax.{w64}
 use borrow.Author.Needs.{needs}
 use Rattle.misc.proofs.SignedLaws.{turned, kept}
-use Rattle.probe.proofs.twos.magnitude.Statement.{statement}
-use Rattle.probe.proofs.twos.magnitude.Tie as tie
+use Rattle.probe_lines.proofs.twos.magnitude.Statement.{statement}
+use Rattle.probe_lines.proofs.twos.magnitude.Tie as tie
 
 -- what is known where the number is negative, and where it isn't
 negative : (c : tie.Then1) → let z = c .before .args .v in

@@ -1,10 +1,10 @@
--- `probe::answers::push_output` is safe: the bytes that are shown are within the output.
+-- `probe_lines::answers::push_output` is safe: the bytes that are shown are within the output.
 use mathlib.Core.Path.{sym}
 use native.Mathlib.Omega.{arith}
 use lib.Seq.{length-take-le}
 use borrow.Author.Needs.{needs}
-use Rattle.probe.proofs.answers.push_output.Statement.{statement}
-use Rattle.probe.proofs.answers.push_output.Tie as tie
+use Rattle.probe_lines.proofs.answers.push_output.Statement.{statement}
+use Rattle.probe_lines.proofs.answers.push_output.Tie as tie
 
 push-decimal-requires : tie.Need-push-decimal-requires
 push-decimal-requires c κs = search needs

@@ -11,35 +11,35 @@ use misc::ReadUint;
 use misc::Wrote;
 use misc::refusal::NO_ROOM;
 
-pub(crate) fn none(line: &mut [u8]) -> usize {
+pub fn none(line: &mut [u8]) -> usize {
     push_text(line, 0, b"none")
 }
 
 // The beginning of an answer.
-pub(crate) fn ok(line: &mut [u8]) -> usize {
+pub fn ok(line: &mut [u8]) -> usize {
     push_text(line, 0, b"ok ")
 }
 
 // `nonzero` says that the refusal carries a part that isn't zero.
-pub(crate) fn refused(line: &mut [u8], refusal: u8, nonzero: bool) -> usize {
+pub fn refused(line: &mut [u8], refusal: u8, nonzero: bool) -> usize {
     let number_at = push_text(line, 0, b"refused ");
     let end = push_decimal(line, number_at, refusal as u64);
     push_text_if(line, end, nonzero, b" nonzero")
 }
 
 // A space and a number.
-pub(crate) fn push_next(line: &mut [u8], at: usize, n: usize) -> usize {
+pub fn push_next(line: &mut [u8], at: usize, n: usize) -> usize {
     let number_at = push_byte(line, at, b' ');
     push_decimal(line, number_at, n as u64)
 }
 
 // `ok LEN`
-pub(crate) fn size(line: &mut [u8], len: usize) -> usize {
+pub fn size(line: &mut [u8], len: usize) -> usize {
     let at = ok(line);
     push_decimal(line, at, len as u64)
 }
 
-pub(crate) fn read_uint(line: &mut [u8], read: ReadUint) -> usize {
+pub fn read_uint(line: &mut [u8], read: ReadUint) -> usize {
     let refusal = read.refusal;
     let value = read.value;
     let next = read.next;
@@ -51,7 +51,7 @@ pub(crate) fn read_uint(line: &mut [u8], read: ReadUint) -> usize {
     push_next(line, end, next)
 }
 
-pub(crate) fn read_int(line: &mut [u8], read: ReadInt) -> usize {
+pub fn read_int(line: &mut [u8], read: ReadInt) -> usize {
     let refusal = read.refusal;
     let value = read.value;
     let next = read.next;
@@ -75,7 +75,7 @@ fn refused_write(line: &mut [u8], wrote: Wrote) -> usize {
 }
 
 // `LEN HEX` of the first `len` bytes of the output. A length beyond the output is a wrong answer, and has no HEX.
-pub(crate) fn push_output(line: &mut [u8], at: usize, out: &[u8], len: usize) -> usize {
+pub fn push_output(line: &mut [u8], at: usize, out: &[u8], len: usize) -> usize {
     let end = push_decimal(line, at, len as u64);
     let hex_at = push_byte(line, end, b' ');
     if out.len() < len {
@@ -84,12 +84,12 @@ pub(crate) fn push_output(line: &mut [u8], at: usize, out: &[u8], len: usize) ->
     push_hex(line, hex_at, &out[..len])
 }
 
-pub(crate) fn push_dirty(line: &mut [u8], at: usize, out: &[u8], from: usize) -> usize {
+pub fn push_dirty(line: &mut [u8], at: usize, out: &[u8], from: usize) -> usize {
     push_text_if(line, at, checks::dirty(out, from), b" dirty")
 }
 
 // The answer of a call with an output, which was filled before the call.
-pub(crate) fn wrote(line: &mut [u8], out: &[u8], wrote: Wrote) -> usize {
+pub fn wrote(line: &mut [u8], out: &[u8], wrote: Wrote) -> usize {
     let refusal = wrote.refusal;
     let len = wrote.len;
     if refusal != 0 {

@@ -1,9 +1,9 @@
--- `probe::checks::dirty` is safe and ends.
+-- `probe_lines::checks::dirty` is safe and ends.
 use Prim.Native.Nat.{_-_}
 use lib.ListN.{length}
 use borrow.Author.Needs.{needs}
-use Rattle.probe.proofs.checks.dirty.Statement.{statement}
-use Rattle.probe.proofs.checks.dirty.Tie as tie
+use Rattle.probe_lines.proofs.checks.dirty.Statement.{statement}
+use Rattle.probe_lines.proofs.checks.dirty.Tie as tie
 
 abbrev Inv-loop : tie.InvT-loop
 Inv-loop out from i₀ i = Unit {0}

@@ -1,10 +1,10 @@
--- `probe::line::write` is safe: what is written is within the buffer.
+-- `probe_lines::line::write` is safe: what is written is within the buffer.
 use mathlib.Core.Path.{sym}
 use native.Mathlib.Omega.{arith}
 use lib.Seq.{length-take-le}
 use borrow.Author.Needs.{needs}
-use Rattle.probe.proofs.line.write.Statement.{statement}
-use Rattle.probe.proofs.line.write.Tie as tie
+use Rattle.probe_lines.proofs.line.write.Statement.{statement}
+use Rattle.probe_lines.proofs.line.write.Tie as tie
 
 push-byte-requires : tie.Need-push-byte-requires
 push-byte-requires c κs = search needs

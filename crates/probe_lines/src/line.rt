@@ -3,7 +3,7 @@
 use crate::twos;
 ghost use Prim.Native.Nat.{_<_};
 
-pub(crate) fn push_byte(line: &mut [u8], at: usize, b: u8) -> usize {
+pub fn push_byte(line: &mut [u8], at: usize, b: u8) -> usize {
     if at < line.len() {
         line[at] = b;
         return at + 1;
@@ -11,7 +11,7 @@ pub(crate) fn push_byte(line: &mut [u8], at: usize, b: u8) -> usize {
     at
 }
 
-pub(crate) fn push_text(line: &mut [u8], at: usize, text: &[u8]) -> usize {
+pub fn push_text(line: &mut [u8], at: usize, text: &[u8]) -> usize {
     let mut end = at;
     let mut i = 0;
     while i < text.len() {
@@ -22,20 +22,20 @@ pub(crate) fn push_text(line: &mut [u8], at: usize, text: &[u8]) -> usize {
 }
 
 // The text, where the test came out true.
-pub(crate) fn push_text_if(line: &mut [u8], at: usize, test: bool, text: &[u8]) -> usize {
+pub fn push_text_if(line: &mut [u8], at: usize, test: bool, text: &[u8]) -> usize {
     if test {
         return push_text(line, at, text);
     }
     at
 }
 
-pub(crate) fn push_decimal(line: &mut [u8], at: usize, n: u64) -> usize {
+pub fn push_decimal(line: &mut [u8], at: usize, n: u64) -> usize {
     let mut digits = [0u8; 20];
     let count = io::decimal(n, &mut digits);
     push_text(line, at, &digits[..count])
 }
 
-pub(crate) fn push_signed(line: &mut [u8], at: usize, v: i64) -> usize {
+pub fn push_signed(line: &mut [u8], at: usize, v: i64) -> usize {
     let size = twos::magnitude(v);
     if v < 0 {
         let digits_at = push_byte(line, at, b'-');
@@ -58,7 +58,7 @@ fn push_hex_byte(line: &mut [u8], at: usize, b: u8) -> usize {
     push_byte(line, low_at, hex_digit(b % 16))
 }
 
-pub(crate) fn push_hex(line: &mut [u8], at: usize, bytes: &[u8]) -> usize {
+pub fn push_hex(line: &mut [u8], at: usize, bytes: &[u8]) -> usize {
     let mut end = at;
     let mut i = 0;
     while i < bytes.len() {
@@ -69,7 +69,7 @@ pub(crate) fn push_hex(line: &mut [u8], at: usize, bytes: &[u8]) -> usize {
 }
 
 // Ends the line at `at` and writes it to standard output.
-pub(crate) fn write(line: &mut [u8], at: usize) -> bool {
+pub fn write(line: &mut [u8], at: usize) -> bool {
     let end = push_byte(line, at, b'\n');
     if line.len() < end {
         return false;

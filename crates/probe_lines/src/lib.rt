@@ -1,0 +1,6 @@
+// What the test program's calls share: the line that answers a request, and the checks of outputs and parts. Proved to be safe and
+// to end; what a line says is held against the stored list.
+pub mod answers;
+pub mod checks;
+pub mod line;
+pub mod twos;
