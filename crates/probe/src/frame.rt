@@ -1,4 +1,7 @@
 // A request: its head, and reading its parts.
+use probe_lines::parts::byte_at;
+use probe_lines::parts::u32_at;
+use probe_lines::parts::u64_at;
 ghost use Prim.Native.Nat.{_<_};
 
 pub const HEAD_LEN: usize = 24;
@@ -13,14 +16,6 @@ pub struct Head {
     pub number: u64,
 }
 
-// The byte at a place, or 0 past the end.
-pub(crate) fn byte_at(s: &[u8], at: usize) -> u8 {
-    if at < s.len() {
-        return s[at];
-    }
-    0
-}
-
 fn wide(b: u8) -> usize
     ensures { λ r. ⌜ r < 256 ⌝ }
 {
@@ -32,20 +27,15 @@ fn two_at(s: &[u8], low: usize, high: usize) -> usize {
     wide(byte_at(s, low)) + 256 * wide(byte_at(s, high))
 }
 
-// The number that the four bytes from `at` on spell.
-fn four_at(s: &[u8], at: usize) -> usize {
-    misc::le::read_u32_le(s, at).value as usize
-}
-
 pub(crate) fn head_of(raw: &[u8]) -> Head {
     Head {
         call: byte_at(raw, 0),
         event_type: byte_at(raw, 1),
         c_len: two_at(raw, 2, 3),
-        a_len: four_at(raw, 4),
-        b_len: four_at(raw, 8),
-        out_len: four_at(raw, 12),
-        number: misc::le::read_u64_le(raw, 16).value,
+        a_len: u32_at(raw, 4) as usize,
+        b_len: u32_at(raw, 8) as usize,
+        out_len: u32_at(raw, 12) as usize,
+        number: u64_at(raw, 16),
     }
 }
 

@@ -1,7 +1,7 @@
 // A test program. It answers the requests of standard input, one line each on standard output, until the input ends.
 //
 // A request is a head of 24 bytes and three parts, A, B and C (frame.rt). The calls of a library crate stand in a
-// module of their own (calls_*.rt), whose `answer` has an arm for each; `answer` here has one for each such module.
+// module or a crate of their own (probe_*), whose `answer` has an arm for each; `answer` here asks one of them.
 mod calls_integers;
 mod frame;
 
@@ -23,6 +23,9 @@ fn answer(head: Head, a: &[u8], b: &[u8], c: &[u8], out: &mut [u8], line: &mut [
     let call = head.call;
     if call < 16 {
         return calls_integers::answer(call, head.number, a, out, line);
+    }
+    if call < 48 {
+        return probe_previous::answer(call, a, out, line);
     }
     probe_lines::answers::none(line)
 }

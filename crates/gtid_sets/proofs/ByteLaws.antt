@@ -1,0 +1,64 @@
+-- The bytes of entries: how many there are at most, and those of two parts.
+use Prim.Native.Nat.{ℕ, _+_, _*_, _<_, _≤_}
+use mathlib.Core.Path.{_≡_, refl, sym, ap, _∙_}
+use mathlib.Core.Bool.{Bool, true, false}
+use mathlib.Core.List.{List, [], _∷_, _++_, append-assoc}
+use native.Mathlib.Omega.{arith}
+use lib.ListN.{length, take, drop, length-append, length-take}
+use lib.Seq.{take-at, drop-at}
+use borrow.Author.Tests.{lt-ltb}
+use Rattle.misc.specs.Varlen.{varlenSize, sizeFrom, varlenBytes}
+use Rattle.misc.proofs.VarlenLaws.{length-varlenBytes}
+use Rattle.packets.specs.Gno.{Interval, interval}
+use Rattle.packets.specs.Key.{Key}
+use Rattle.previous_gtids_event.specs.Entry.{Entry, entry, uuidOf, tagOf}
+use Rattle.previous_gtids_event.specs.Previous.{noneOrTag}
+use Rattle.previous_gtids_event.specs.Rewrite.{intervalsBytes, tagBytes, entriesBytes, anyTag, bodyBytes}
+use Rattle.previous_gtids_event.proofs.Reading.{none-or-tag-short}
+use Rattle.previous_gtids_event.proofs.Writing.{length-header, entry-length}
+use Rattle.gtid_sets.specs.Limits.{intervals}
+use Rattle.gtid_sets.specs.Lent.{GoodKey, GoodKeys}
+
+-- ---- lengths
+
+pub uuid-length : (k : Key) → GoodKey k → length (uuidOf k) ≡ 16
+unfolding uuidOf
+uuid-length k g = omega (arith, length-take 16 k, g .whole)
+
+one-byte : (v : ℕ) → v < 128 → length (varlenBytes v) ≡ 1
+unfolding varlenSize sizeFrom
+one-byte v h = length-varlenBytes v ∙ rw (lt-ltb v 128 h)
+
+tag-long : (w : Bool) (t : List ℕ) → noneOrTag t ≡ true → length (tagBytes w t) ≤ 33
+tag-long false t h = omega arith
+tag-long true t h = let short = none-or-tag-short t h in rw (length-append, one-byte (length t) (omega arith)) (omega arith)
+
+entries-long : (w : Bool) (es : List Entry) → GoodKeys es → length (entriesBytes w es) ≤ 57 * length es + 16 * intervals es
+unfolding entriesBytes
+entries-long w [] g = omega arith
+entries-long w (entry k is ∷ es) g = simp (length-append, entry-length w k is (uuid-length k (g .0)))
+    (omega (arith, tag-long w (tagOf k) (g .0 .rule), entries-long w es (g .1)))
+
+-- 8 bytes for the header, 57 at most for each entry, and 16 for each interval
+pub body-long : (es : List Entry) → GoodKeys es → length (bodyBytes es) ≤ 8 + 57 * length es + 16 * intervals es
+unfolding bodyBytes
+body-long es g = simp (length-append, length-header) (omega (arith, entries-long (anyTag es) es g))
+
+-- ---- the bytes of two parts are the parts' bytes
+
+pub intervalsBytes-append : (is js : List Interval) → intervalsBytes (is ++ js) ≡ intervalsBytes is ++ intervalsBytes js
+unfolding intervalsBytes
+intervalsBytes-append [] js = refl
+intervalsBytes-append (interval a b ∷ is) js = simp (intervalsBytes-append is js, append-assoc)
+
+pub entriesBytes-append : (w : Bool) (s t : List Entry) → entriesBytes w (s ++ t) ≡ entriesBytes w s ++ entriesBytes w t
+unfolding entriesBytes
+entriesBytes-append w [] t = refl
+entriesBytes-append w (e ∷ s) t = simp (entriesBytes-append w s t, append-assoc)
+
+-- two lists that begin with parts of one length are equal only if both parts are
+pub append-parts : (u v s t : List ℕ) → length u ≡ length v → u ++ s ≡ v ++ t → (u ≡ v) × (s ≡ t)
+append-parts u v s t l e = (
+  sym (take-at u s (length v) l) ∙ ap (take (length v)) e ∙ take-at v t (length v) refl,
+  sym (drop-at u s (length v) l) ∙ ap (drop (length v)) e ∙ drop-at v t (length v) refl,
+)

@@ -1,0 +1,11 @@
+-- What a set of transaction ids is, and what becomes of it: which ids are members (`has`), the one form in which it is written
+-- (`SetForm`), how it takes in the ids of a body (`takeIn`), when it is full (`limits`), what an offer answers (`answer`) and a run of
+-- offers leaves (`run`), which bytes are a set (`lentSet`), and the same run on saved bytes (`savedRun`).
+pub mod Interval
+pub mod Set
+pub mod TakeIn
+pub mod Limits
+pub mod Run
+pub mod Lent
+pub mod Saved
+pub mod Splice

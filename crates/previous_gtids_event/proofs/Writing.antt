@@ -1,0 +1,106 @@
+-- Laws of the bytes of entries (`specs/Rewrite.antt`): their lengths, and that an entry which was read is written as three parts of the
+-- body, with the length of its tag in the shortest form.
+use mathlib.Core.Path.{_≡_, refl, sym, ap, _∙_}
+use mathlib.Core.Bool.{Bool, true, false}
+use mathlib.Core.List.{List, [], _∷_, _++_}
+use Prim.Native.Nat.{ℕ, zero, suc, _+_, _-_, _*_, _/_, _%_, _^_, _≤_, _<_}
+use native.Mathlib.Omega.{arith}
+use lib.ListN.{length, drop, getD, length-append}
+use lib.Seq.{take-add, drop-drop}
+use Rattle.misc.specs.Parse.{parsed, part}
+use Rattle.misc.specs.Le.{leOf, leBytes, leAt}
+use Rattle.misc.proofs.LeLaws.{le-here, length-leBytes}
+use Rattle.misc.proofs.Accepted.{le-accepted}
+use Rattle.packets.specs.Gno.{Interval, interval}
+use Rattle.packets.specs.Key.{Key}
+use Rattle.previous_gtids_event.specs.Entry.{entry, uuidOf, tagOf}
+use Rattle.previous_gtids_event.specs.Rewrite.{intervalsBytes, tagBytes, entryBytes, headerBytes}
+use Rattle.previous_gtids_event.specs.declared.EntryPlace.{EntryPlace}
+use Rattle.previous_gtids_event.proofs.Reading.{intervalOf, intervalsOf, PlaceTold}
+
+-- every element is a byte
+abbrev pub AreBytes : List ℕ → Type 0
+AreBytes s = (i : ℕ) → getD s i 0 < 256
+
+-- ---- lengths
+pub length-intervals-bytes : (is : List Interval) → length (intervalsBytes is) ≡ 16 * length is
+unfolding intervalsBytes
+length-intervals-bytes [] = refl
+length-intervals-bytes (interval start end ∷ is) =
+    simp (length-append, length-leBytes, length-intervals-bytes is) (omega arith)
+
+pub entry-length : (tags : Bool) (k : Key) (is : List Interval) → length (uuidOf k) ≡ 16
+    → length (entryBytes tags (entry k is)) ≡ 24 + 16 * length is + length (tagBytes tags (tagOf k))
+unfolding entryBytes
+entry-length tags k is h = simp (length-append, h, length-leBytes, length-intervals-bytes) (omega arith)
+
+pub length-header : (tags : Bool) (n : ℕ) → length (headerBytes tags n) ≡ 8
+unfolding headerBytes
+length-header false n = length-leBytes 8 n
+length-header true n = rw (length-append, length-leBytes 6 n)
+
+-- ---- the header as a number
+pub header-plain : (n : ℕ) → leBytes 8 n ≡ headerBytes false n
+unfolding headerBytes
+header-plain n = refl
+
+pub header-tagged : (n : ℕ) → n < 2 ^ 48 → leBytes 8 (2 ^ 56 + n * 256 + 1) ≡ headerBytes true n
+unfolding headerBytes leBytes
+header-tagged n h =
+    let low : (2 ^ 56 + n * 256 + 1) % 256 ≡ 1 = omega arith in
+    let rest : (2 ^ 56 + n * 256 + 1) / 256 ≡ 2 ^ 48 + n = omega arith in
+    rw (low, rest) (ap (λ (bs : List ℕ). 1 ∷ bs) (top 6 n h))
+  where
+    top : (w n : ℕ) → n < 256 ^ w → leBytes (suc w) (256 ^ w + n) ≡ leBytes w n ++ (1 ∷ [])
+    top zero n h = let none : n ≡ 0 = omega arith in rw none
+    top (suc w) n h =
+        let low : (256 ^ suc w + n) % 256 ≡ n % 256 = omega arith in
+        let rest : (256 ^ suc w + n) / 256 ≡ 256 ^ w + n / 256 = omega arith in
+        rw (low, rest) (ap (λ (bs : List ℕ). n % 256 ∷ bs) (top w (n / 256) (omega arith)))
+
+-- ---- what was read is written as it stood
+pub part-join : (s : List ℕ) (at a b : ℕ) → part s at a ++ part s (at + a) b ≡ part s at (a + b)
+part-join s at a b = rw (take-add a b (drop at s), drop-drop a at s)
+
+module _ (s : List ℕ) (are-bytes : AreBytes s) where
+  number-bytes : (n at : ℕ) → at + n ≤ length s → leBytes n (leOf (part s at n)) ≡ part s at n
+  number-bytes n at h = sym (le-accepted s at are-bytes n (leOf (part s at n)) (at + n) (le-here n s at h) .0)
+
+  intervals-bytes : (n at : ℕ) → at + 16 * n ≤ length s → intervalsBytes (intervalsOf s n at) ≡ part s at (16 * n)
+  unfolding intervalsBytes intervalsOf intervalOf
+  intervals-bytes zero at h = refl
+  intervals-bytes (suc n) at h =
+      let m : 16 * suc n ≡ 8 + (8 + 16 * n) = omega arith in
+      let k : at + 16 ≡ at + 8 + 8 = omega arith in
+      rw (
+        number-bytes 8 at (omega arith),
+        number-bytes 8 (at + 8) (omega arith),
+        intervals-bytes n (at + 16) (omega arith),
+        k,
+        part-join s (at + 8) 8 (16 * n),
+        part-join s at 8 (8 + 16 * n),
+        m,
+      )
+
+  -- the count and the intervals are one part of the body
+  pub counted-bytes : (at n first : ℕ) (is : List Interval) → leAt 8 s at ≡ parsed n first → length is ≡ n → intervalsOf s n first ≡ is
+      → first + 16 * n ≤ length s → leBytes 8 (length is) ++ intervalsBytes is ≡ part s at (8 + 16 * n)
+  counted-bytes at n first is count all list room =
+      let c = le-accepted s at are-bytes 8 n first count in
+      ap (λ (m : ℕ). leBytes 8 m ++ intervalsBytes is) all
+      ∙ ap (λ (l : List Interval). leBytes 8 n ++ intervalsBytes l) (sym list)
+      ∙ rw (← c .0, c .1, intervals-bytes n (at + 8) (omega (arith, c .1))) (part-join s at 8 (16 * n))
+
+-- an entry that was read, as its place says
+pub entry-bytes : (tagged : Bool) (s : List ℕ) (at : ℕ) (r : EntryPlace) (told : PlaceTold tagged s at r) (tags : Bool)
+    → AreBytes s
+    → entryBytes tags (entry (told .key) (told .list))
+    ≡ part s at 16
+    ++ (tagBytes tags (part s (r .first - 8 - r .«tag_len») (r .«tag_len»)) ++ part s (r .first - 8) (r .next - (r .first - 8)))
+unfolding entryBytes
+entry-bytes tagged s at r told tags are-bytes =
+    let there = told .there in
+    let head = there .head in
+    let rest = counted-bytes s are-bytes (there .first - 8) (length (told .list)) (there .first) (told .list) (head .count-is) refl (there .intervals) (omega (arith, there .end, there .inside)) in
+    let size : r .next - (r .first - 8) ≡ 8 + 16 * length (told .list) = omega (arith, told .first, there .end, head .eight) in
+    rw (head .uuid, rest, size, told .first, told .tag-len, head .tag .bytes)

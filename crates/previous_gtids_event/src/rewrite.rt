@@ -1,0 +1,214 @@
+// Writing the entries of a body anew: tagged only if one of them has a tag, and every length in its shortest form.
+use crate::Put;
+use crate::Sizes;
+use crate::TOP_ONE;
+use crate::read::header_of;
+use crate::read::place_at;
+use misc::Wrote;
+use misc::bytes::write_bytes;
+use misc::le::write_u64_le;
+use misc::refusal::NO_ROOM;
+use misc::varlen::varlen_uint_size;
+use misc::varlen::write_varlen_uint;
+ghost use mathlib.Core.Path.{_≡_};
+ghost use Prim.Native.Nat.{_+_, _^_, _≤_, _<_};
+ghost use lib.ListN.{length};
+ghost use Rattle.misc.specs.Pick.{pick};
+ghost use Rattle.misc.specs.Parse.{many, refusalOf};
+ghost use Rattle.misc.specs.Body.{usedOf};
+ghost use Rattle.misc.specs.Le.{leBytes};
+ghost use Rattle.misc.specs.Varlen.{varlenBytes};
+ghost use Rattle.misc.specs.Output.{outputOf, answerOf, WhereFits};
+ghost use Rattle.previous_gtids_event.specs.Previous.{entryAt, previous};
+ghost use Rattle.previous_gtids_event.specs.Rewrite.{tagBytes, headerBytes, rewritten};
+ghost use Rattle.previous_gtids_event.specs.Inside.{sizesOf, refusedSizes, entryBytesOf, entriesBytesOf};
+
+fn refused_sizes(refusal: u8) -> Sizes
+    ensures { λ r. ⌜ r ≡ refusedSizes refusal ⌝ }
+{
+    Sizes {
+        refusal,
+        entries: 0,
+        tagged: false,
+        plain: 0,
+        full: 0,
+    }
+}
+
+// The first pass: the sizes of entries one after another, as many as are counted.
+fn sizes_at(body: &[u8], from: usize, tagged: bool, count: u64) -> Sizes
+    requires { ⌜ (from ≤ length (now body)) × (length (now body) ≤ 65536) ⌝ }
+    ensures { λ r. ⌜ r ≡ sizesOf (many (entryAt tagged (now (body .entry))) count from) ⌝ }
+    ensures { λ r. ⌜ (r .entries ≤ 65536) × (r .plain ≤ 65536) × (r .full ≤ 131072) ⌝ }
+{
+    let mut at = from;
+    let mut done: u64 = 0;
+    let mut any = false;
+    let mut plain: usize = 0;
+    let mut full: usize = 0;
+    while done < count {
+        let place = place_at(body, at, tagged);
+        let refusal = place.refusal;
+        if refusal != 0 {
+            return refused_sizes(refusal);
+        }
+        let tag_len = place.tag_len;
+        let size = 24 + 16 * (place.intervals as usize);
+        any = any | (0 < tag_len);
+        plain += size;
+        full += size + varlen_uint_size(tag_len as u64) + tag_len;
+        at = place.next;
+        done += 1;
+    }
+    Sizes {
+        refusal: 0,
+        entries: done,
+        tagged: any,
+        plain,
+        full,
+    }
+}
+
+// The `put` functions write from a place of the output on where there is room, and return the place behind what they wrote.
+fn put_bytes(source: &[u8], out: &mut [u8], at: usize) -> usize
+    ensures { λ r. ⌜ WhereFits (now (out .entry)) at (now (source .entry)) (now (out .exit)) r ⌝ }
+{
+    if out.len() < at {
+        return at;
+    }
+    let wrote = write_bytes(source, &mut out[at..]);
+    let refusal = wrote.refusal;
+    if refusal != 0 {
+        return at;
+    }
+    at + wrote.len
+}
+
+fn put_varlen(value: u64, out: &mut [u8], at: usize) -> usize
+    ensures { λ r. ⌜ WhereFits (now (out .entry)) at (varlenBytes value) (now (out .exit)) r ⌝ }
+{
+    if out.len() < at {
+        return at;
+    }
+    let wrote = write_varlen_uint(value, &mut out[at..]);
+    let refusal = wrote.refusal;
+    if refusal != 0 {
+        return at;
+    }
+    at + wrote.len
+}
+
+// A tag with its length, where tags are wanted.
+fn put_tag(tag: &[u8], tags: bool, out: &mut [u8], at: usize) -> usize
+    ensures { λ r. ⌜ WhereFits (now (out .entry)) at (tagBytes tags (now (tag .entry))) (now (out .exit)) r ⌝ }
+{
+    if tags {
+        let from = put_varlen(tag.len() as u64, out, at);
+        return put_bytes(tag, out, from);
+    }
+    at
+}
+
+// The entry at a place of the body, which has been read before: its uuid, its tag, and then the count and the intervals as
+// they stand there.
+fn put_entry(body: &[u8], from: usize, tagged: bool, tags: bool, out: &mut [u8], at: usize) -> Put
+    requires { ⌜ refusalOf (entryAt tagged (now body) from) ≡ 0 ⌝ }
+    ensures { λ r. ⌜ r .next ≡ usedOf (entryAt tagged (now (body .entry)) from) ⌝ }
+    ensures { λ r. ⌜ WhereFits (now (out .entry)) at (entryBytesOf tags (entryAt tagged (now (body .entry)) from)) (now (out .exit)) (r .at) ⌝ }
+{
+    let place = place_at(body, from, tagged);
+    let next = place.next;
+    let counted = place.first - 8;
+    let tag = counted - place.tag_len;
+    let named = from + 16;
+    let after_uuid = put_bytes(&body[from..named], out, at);
+    let after_tag = put_tag(&body[tag..counted], tags, out, after_uuid);
+    let put = put_bytes(&body[counted..next], out, after_tag);
+    Put { next, at: put }
+}
+
+// The second pass: entries one after another, which have been read before.
+fn put_entries(
+    body: &[u8],
+    from: usize,
+    tagged: bool,
+    count: u64,
+    tags: bool,
+    out: &mut [u8],
+    at: usize,
+) -> usize
+    requires { ⌜ refusalOf (many (entryAt tagged (now body)) count from) ≡ 0 ⌝ }
+    ensures { λ r. ⌜ WhereFits (now (out .entry)) at (entriesBytesOf tags (many (entryAt tagged (now (body .entry))) count from)) (now (out .exit)) r ⌝ }
+{
+    let mut next = from;
+    let mut put = at;
+    let mut done: u64 = 0;
+    while done < count {
+        let entry = put_entry(body, next, tagged, tags, out, put);
+        next = entry.next;
+        put = entry.at;
+        done += 1;
+    }
+    put
+}
+
+// The header as a number: where tags follow, its top and its bottom byte are 1, and the count stands between.
+fn header_number(count: u64, tags: bool) -> u64
+    requires { ⌜ count < 2 ^ 48 ⌝ }
+    ensures { λ r. ⌜ leBytes 8 r ≡ headerBytes tags count ⌝ }
+{
+    if tags {
+        return TOP_ONE + count * 256 + 1;
+    }
+    count
+}
+
+// The length of a body whose entries have these sizes.
+fn body_len(tags: bool, plain: usize, full: usize) -> usize
+    requires { ⌜ (plain ≤ 65536) × (full ≤ 131072) ⌝ }
+    ensures { λ r. ⌜ r ≡ 8 + pick tags full plain ⌝ }
+{
+    if tags {
+        return 8 + full;
+    }
+    8 + plain
+}
+
+fn rewrite_entries(body: &[u8], tagged: bool, count: u64, out: &mut [u8]) -> Wrote
+    requires { ⌜ (8 ≤ length (now body)) × (length (now body) ≤ 65536) ⌝ }
+    ensures { λ r. ⌜ r ≡ answerOf (now (out .entry)) (rewritten (many (entryAt tagged (now (body .entry))) count 8)) ⌝ }
+    ensures { λ _. ⌜ now (out .exit) ≡ outputOf (now (out .entry)) (rewritten (many (entryAt tagged (now (body .entry))) count 8)) ⌝ }
+{
+    let sizes = sizes_at(body, 8, tagged, count);
+    let refusal = sizes.refusal;
+    if refusal != 0 {
+        return Wrote { refusal, len: 0 };
+    }
+    let tags = sizes.tagged;
+    let len = body_len(tags, sizes.plain, sizes.full);
+    if out.len() < len {
+        return Wrote {
+            refusal: NO_ROOM,
+            len,
+        };
+    }
+    write_u64_le(header_number(sizes.entries, tags), out);
+    let end = put_entries(body, 8, tagged, count, tags, out, 8);
+    Wrote {
+        refusal: 0,
+        len: end,
+    }
+}
+
+// Writes the entries that a body holds anew.
+pub fn rewrite(body: &[u8], out: &mut [u8]) -> Wrote
+    ensures { λ r. ⌜ r ≡ answerOf (now (out .entry)) (rewritten (previous (now (body .entry)))) ⌝ }
+    ensures { λ _. ⌜ now (out .exit) ≡ outputOf (now (out .entry)) (rewritten (previous (now (body .entry)))) ⌝ }
+{
+    let header = header_of(body);
+    let refusal = header.refusal;
+    if refusal != 0 {
+        return Wrote { refusal, len: 0 };
+    }
+    rewrite_entries(body, header.tagged, header.entries, out)
+}
