@@ -21,8 +21,11 @@ const LINE_ROOM: usize = 450_000;
 // C yet.
 fn answer(head: Head, a: &[u8], b: &[u8], c: &[u8], out: &mut [u8], line: &mut [u8]) -> usize {
     let call = head.call;
-    if call < 16 {
+    if call < 9 {
         return calls_integers::answer(call, head.number, a, out, line);
+    }
+    if call < 32 {
+        return probe_gtid::answer(call, head.event_type, head.number, a, out, line);
     }
     if call < 48 {
         return probe_previous::answer(call, a, out, line);

@@ -1,0 +1,82 @@
+-- A record that can be written reads back equal from the bytes of its event, under the type that it is written as.
+use mathlib.Core.Path.{_≡_, refl}
+use mathlib.Core.Bool.{true, false}
+use mathlib.Core.List.{List, [], _++_, append-nil}
+use Prim.Native.Nat.{ℕ, _≤_}
+use native.Mathlib.Omega.{arith}
+use lib.ListN.{length}
+use Rattle.misc.specs.Parse.{parsed}
+use Rattle.misc.proofs.BodyLaws.{body-fits}
+use Rattle.packets.proofs.Tests.{split}
+use Rattle.gtid_event.specs.Event.{typeOf}
+use Rattle.gtid_event.specs.Event as event
+use Rattle.gtid_event.specs.declared.GtidEvent.{GtidEvent}
+use Rattle.gtid_event_read.specs.Untagged.{typecodeAt, untagged}
+use Rattle.gtid_event_read.specs.Tagged.{tagged}
+use Rattle.gtid_event_read.specs.Read.{gtid}
+use Rattle.gtid_event_write.specs.Writable.{writable}
+use Rattle.gtid_event_write.specs.Layout.{taggedBytes, untaggedBytes}
+use Rattle.gtid_event_write.specs.Write.{eventBytes}
+use Rattle.gtid_event_laws.specs.Fits.{Fits}
+use Rattle.gtid_event_laws.proofs.WritableLaws.{tagged-facts}
+use Rattle.gtid_event_laws.proofs.UntaggedBack.{untagged-most, untagged-back}
+use Rattle.gtid_event_laws.proofs.TaggedBack.{tagged-most, tagged-back}
+
+-- ---- a body of each type
+module _ (s : List ℕ) (fits : length s ≤ 65536) where
+  gtid-untagged : gtid 33 s ≡ untagged s
+  unfolding gtid
+  gtid-untagged = body-fits s (untagged s) fits
+
+  gtid-anonymous : gtid 34 s ≡ untagged s
+  unfolding gtid
+  gtid-anonymous = body-fits s (untagged s) fits
+
+  gtid-tagged : gtid 42 s ≡ tagged s
+  unfolding gtid
+  gtid-tagged = body-fits s (tagged s) fits
+
+module _ (e : GtidEvent) where
+  bytes-tagged : event.tagged e ≡ true → eventBytes e ≡ taggedBytes e
+  unfolding eventBytes
+  bytes-tagged is = rw is
+
+  bytes-untagged : event.tagged e ≡ false → eventBytes e ≡ untaggedBytes e
+  unfolding eventBytes
+  bytes-untagged is = rw is
+
+  type-tagged : event.tagged e ≡ true → typeOf e ≡ 42
+  type-tagged is = rw is
+
+  type-untagged : event.tagged e ≡ false → typeOf e ≡ 33
+  type-untagged is = rw is
+
+-- ---- the whole
+module _ (e : GtidEvent) (fits : Fits e) (can : writable e ≡ true) where
+  -- Written, it reads back equal, and its bytes are those used, whatever follows them in a body; but after an untagged record
+  -- without a typecode the next byte must not be 2, which would be taken for the typecode.
+  pub event-back : (rest : List ℕ) → (event.tagged e ≡ false → e .«lc_typecode» ≡ 0 → typecodeAt rest 0 ≡ false)
+      → length (eventBytes e ++ rest) ≤ 65536 → gtid (typeOf e) (eventBytes e ++ rest) ≡ parsed e (length (eventBytes e))
+  event-back rest free size =
+      split (event.tagged e)
+      (λ is. rw (type-tagged e is, gtid-tagged (eventBytes e ++ rest) size, bytes-tagged e is) (tagged-back e fits can is rest))
+      (λ is. rw (type-untagged e is, gtid-untagged (eventBytes e ++ rest) size, bytes-untagged e is) (untagged-back e fits can is rest (free is)))
+
+  -- an untagged record reads back as an anonymous event too
+  pub anonymous-back : event.tagged e ≡ false → (rest : List ℕ) → (e .«lc_typecode» ≡ 0 → typecodeAt rest 0 ≡ false)
+      → length (eventBytes e ++ rest) ≤ 65536 → gtid 34 (eventBytes e ++ rest) ≡ parsed e (length (eventBytes e))
+  anonymous-back is rest free size =
+      rw (gtid-anonymous (eventBytes e ++ rest) size, bytes-untagged e is) (untagged-back e fits can is rest free)
+
+  -- the event has few bytes
+  pub event-most : length (eventBytes e) ≤ 394
+  event-most =
+      split (event.tagged e)
+      (λ is. rw (bytes-tagged e is) (tagged-most e fits (tagged-facts e fits can is)))
+      (λ is. rw (bytes-untagged e is) (omega (arith, untagged-most e fits .most)))
+
+  -- so it reads back from a body that is just its bytes
+  pub event-alone : gtid (typeOf e) (eventBytes e) ≡ parsed e (length (eventBytes e))
+  event-alone =
+      let most = event-most in
+      rw append-nil at (event-back [] (λ _ _. refl) (rw append-nil (omega arith)))

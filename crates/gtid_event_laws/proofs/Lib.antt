@@ -1,0 +1,12 @@
+-- Laws that read and written GTID records obey, in the order in which they build on each other.
+pub mod Stands
+pub mod AtMost
+pub mod WritableLaws
+pub mod UntaggedBack
+pub mod FieldsBack
+pub mod TaggedBack
+pub mod EventBack
+pub mod Ranges
+pub mod UntaggedRead
+pub mod TaggedRead
+pub mod ReadWritable

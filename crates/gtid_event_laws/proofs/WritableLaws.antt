@@ -1,0 +1,179 @@
+-- What it says of a record that it can be written (`Writable` of `gtid_event_write`), in facts instead of tests.
+use mathlib.Core.Path.{_≡_, refl}
+use mathlib.Core.Bool.{true, false, _||_}
+use mathlib.Core.List.{List, [], _∷_}
+use Prim.Native.Nat.{ℕ, _-_, _^_, _<_, _≤_}
+use native.Mathlib.Omega.{arith}
+use lib.Dec.{eqb}
+use lib.ListN.{length, take, drop, replicate, length-drop, take-append-drop}
+use lib.Seq.{length-take-le}
+use borrow.Author.Tests.{eqb-true, ltb-true, ltb-false, leb-true}
+use Rattle.misc.specs.Pick.{pick}
+use Rattle.packets.specs.Kept.{padded}
+use Rattle.packets.specs.Tag.{isTag}
+use Rattle.packets.proofs.Tests.{split, and-true}
+use Rattle.gtid_event.specs.Event.{undefinedVersion, tagged}
+use Rattle.gtid_event.specs.declared.GtidEvent.{GtidEvent}
+use Rattle.gtid_event_write.specs.Writable.{signedTop, allZero, tagOf, writableTagged, laterAbsent, writableUntagged, writable}
+use Rattle.gtid_event_laws.specs.Fits.{Fits}
+
+-- two records with the same fields are the same
+pub same-event : (a b : GtidEvent) → a .flags ≡ b .flags → a .sid ≡ b .sid → a .gno ≡ b .gno → a .tag ≡ b .tag → a .«tag_len» ≡ b .«tag_len»
+    → a .«lc_typecode» ≡ b .«lc_typecode» → a .«last_committed» ≡ b .«last_committed» → a .«sequence_number» ≡ b .«sequence_number»
+    → a .«immediate_commit_timestamp» ≡ b .«immediate_commit_timestamp» → a .«original_commit_timestamp» ≡ b .«original_commit_timestamp»
+    → a .«tx_length» ≡ b .«tx_length» → a .«immediate_server_version» ≡ b .«immediate_server_version»
+    → a .«original_server_version» ≡ b .«original_server_version» → a .«commit_group_ticket» ≡ b .«commit_group_ticket» → a ≡ b
+same-event a b flags sid gno tag tagLen typecode last sequence immediate original len version originalVersion ticket =
+    λ i.
+    record {
+      flags = flags i;
+      sid = sid i;
+      gno = gno i;
+      tag = tag i;
+      «tag_len» = tagLen i;
+      «lc_typecode» = typecode i;
+      «last_committed» = last i;
+      «sequence_number» = sequence i;
+      «immediate_commit_timestamp» = immediate i;
+      «original_commit_timestamp» = original i;
+      «tx_length» = len i;
+      «immediate_server_version» = version i;
+      «original_server_version» = originalVersion i;
+      «commit_group_ticket» = ticket i;
+    }
+
+-- ---- zeros
+
+zeros : (bs : List ℕ) → allZero bs ≡ true → replicate (length bs) 0 ≡ bs
+unfolding allZero
+zeros [] h = refl
+zeros (b ∷ bs) h =
+    let (first, rest) = and-true (eqb b 0) (allZero bs) h in
+    rw (eqb-true b 0 first, zeros bs rest)
+
+-- bytes with zeros behind them are those bytes, padded
+pub padded-front : (n : ℕ) (bs : List ℕ) → n ≤ length bs → allZero (drop n bs) ≡ true → padded (length bs) (take n bs) ≡ bs
+unfolding padded
+padded-front n bs h z =
+    let size : length (take n bs) ≡ n = length-take-le n bs h in
+    let rest : replicate (length bs - n) 0 ≡ drop n bs = rw length-drop at (zeros (drop n bs) z) in
+    rw (size, rest) (take-append-drop n bs)
+
+-- ---- both
+
+-- the three tests of a record that can be written
+writable-parts : (e : GtidEvent) → writable e ≡ true
+    → ((eqb (e .«lc_typecode») 2 || eqb (e .«lc_typecode») 0) ≡ true) × (allZero (drop (e .«tag_len») (e .tag)) ≡ true)
+    × (pick (tagged e) (writableTagged e) (writableUntagged e) ≡ true)
+unfolding writable
+writable-parts e w =
+    let (front, rest) = and-true _ _ w in
+    let (code, behind) = and-true _ _ front in
+    (code, behind, rest)
+
+-- ---- untagged
+
+-- the fields that follow the typecode are absent
+pub record LaterAbsent (e : GtidEvent) : Type 0 where
+  pub no-typecode : e .«lc_typecode» ≡ 0
+  pub no-last : e .«last_committed» ≡ 0
+  pub no-sequence : e .«sequence_number» ≡ 0
+  pub no-immediate : e .«immediate_commit_timestamp» ≡ 0
+  pub no-original : e .«original_commit_timestamp» ≡ 0
+  pub no-length : e .«tx_length» ≡ 0
+  pub no-version : e .«immediate_server_version» ≡ undefinedVersion
+  pub no-original-version : e .«original_server_version» ≡ undefinedVersion
+
+-- the typecode is there, or it and all that follows it are absent
+pub data Later (e : GtidEvent) : Type 0 where
+  there : e .«lc_typecode» ≡ 2 → Later e
+  absent : LaterAbsent e → Later e
+
+pub record UntaggedFacts (e : GtidEvent) : Type 0 where
+  pub no-tag : replicate 32 0 ≡ e .tag
+  pub no-tag-len : e .«tag_len» ≡ 0
+  pub no-ticket : e .«commit_group_ticket» ≡ 0
+  pub immediate-below : e .«immediate_commit_timestamp» < 2 ^ 55
+  pub original-below : e .«original_commit_timestamp» < 2 ^ 56
+  pub version-below : e .«immediate_server_version» < 2 ^ 31
+  pub later : Later e
+
+module _ (e : GtidEvent) where
+  absent-facts : e .«lc_typecode» ≡ 0 → laterAbsent e ≡ true → LaterAbsent e
+  absent-facts none h =
+      let (h₆, t₇) = and-true _ _ h in
+      let (h₅, t₆) = and-true _ _ h₆ in
+      let (h₄, t₅) = and-true _ _ h₅ in
+      let (h₃, t₄) = and-true _ _ h₄ in
+      let (h₂, t₃) = and-true _ _ h₃ in
+      let (t₁, t₂) = and-true _ _ h₂ in
+      record {
+        no-typecode = none;
+        no-last = eqb-true _ _ t₁;
+        no-sequence = eqb-true _ _ t₂;
+        no-immediate = eqb-true _ _ t₃;
+        no-original = eqb-true _ _ t₄;
+        no-length = eqb-true _ _ t₅;
+        no-version = eqb-true _ _ t₆;
+        no-original-version = eqb-true _ _ t₇;
+      }
+
+  later-facts : (eqb (e .«lc_typecode») 2 || eqb (e .«lc_typecode») 0) ≡ true → (eqb (e .«lc_typecode») 2 || laterAbsent e) ≡ true → Later e
+  later-facts =
+      split (eqb (e .«lc_typecode») 2)
+      (λ two a b. there (eqb-true (e .«lc_typecode») 2 two))
+      (λ other a b. absent (absent-facts (eqb-true (e .«lc_typecode») 0 (rw other at a)) (rw other at b)))
+
+  pub untagged-facts : Fits e → writable e ≡ true → tagged e ≡ false → UntaggedFacts e
+  untagged-facts fits w is =
+      let size = fits .tag-size in
+      let none : e .«tag_len» ≡ 0 = omega (arith, ltb-false 0 (e .«tag_len») is) in
+      let (code, behind, rest) = writable-parts e w in
+      let h : writableUntagged e ≡ true = rw is at rest in
+      let (h₄, t₅) = and-true _ _ h in
+      let (h₃, t₄) = and-true _ _ h₄ in
+      let (h₂, t₃) = and-true _ _ h₃ in
+      let (t₁, t₂) = and-true _ _ h₂ in
+      record {
+        no-tag = rw size at (zeros (e .tag) (rw none at behind));
+        no-tag-len = none;
+        no-ticket = eqb-true _ _ t₁;
+        immediate-below = ltb-true _ _ t₂;
+        original-below = ltb-true _ _ t₃;
+        version-below = ltb-true _ _ t₄;
+        later = later-facts code t₅;
+      }
+
+-- ---- tagged
+
+pub record TaggedFacts (e : GtidEvent) : Type 0 where
+  pub tag-len-most : e .«tag_len» ≤ 32
+  pub tag-is : isTag (tagOf e) ≡ true
+  pub tag-padded : padded 32 (tagOf e) ≡ e .tag
+  pub typecode-none : e .«lc_typecode» ≡ 0
+  pub gno-below : e .gno < 2 ^ 63
+  pub last-below : e .«last_committed» < 2 ^ 63
+  pub sequence-below : e .«sequence_number» < 2 ^ 63
+
+module _ (e : GtidEvent) where
+  pub tagged-facts : Fits e → writable e ≡ true → tagged e ≡ true → TaggedFacts e
+  unfolding signedTop
+  tagged-facts fits w is =
+      let (code, behind, rest) = writable-parts e w in
+      let h : writableTagged e ≡ true = rw is at rest in
+      let (h₅, t₆) = and-true _ _ h in
+      let (h₄, t₅) = and-true _ _ h₅ in
+      let (h₃, t₄) = and-true _ _ h₄ in
+      let (h₂, t₃) = and-true _ _ h₃ in
+      let (t₁, t₂) = and-true _ _ h₂ in
+      let size = fits .tag-size in
+      let most : e .«tag_len» ≤ 32 = leb-true _ _ t₁ in
+      record {
+        tag-len-most = most;
+        tag-is = t₂;
+        tag-padded = rw size at (padded-front (e .«tag_len») (e .tag) (omega arith) behind);
+        typecode-none = eqb-true _ _ t₃;
+        gno-below = ltb-true _ _ t₄;
+        last-below = ltb-true _ _ t₅;
+        sequence-below = ltb-true _ _ t₆;
+      }

@@ -1,0 +1,64 @@
+-- `gtid_event_read::read` meets its contract.
+-- Assumes nothing.
+use mathlib.Core.Path.{sym, ap, _∙_}
+use borrow.Author.Needs.{needs}
+use Rattle.gtid_event_read.specs.Read.{gtidRead}
+use Rattle.gtid_event_read.proofs.ReadLaws.{gtid-too-long, gtid-33, gtid-34, gtid-42, gtid-other}
+use Rattle.gtid_event_read.proofs.read.Statement.{statement}
+use Rattle.gtid_event_read.proofs.read.Tie as tie
+
+refused-requires : tie.Need-refused-requires
+refused-requires c κs = search needs
+
+returns : tie.Need-returns
+returns c =
+    let a = c .before .before .before .args in
+    c .refused .ensures ∙ ap gtidRead (sym (gtid-too-long (a .event-type) (a .body .now) (c .before .if1 .taken)))
+
+deserialize-untagged-requires : tie.Need-deserialize-untagged-requires
+deserialize-untagged-requires c κs = search needs
+
+deserialize-untagged-requires-2 : tie.Need-deserialize-untagged-requires-2
+deserialize-untagged-requires-2 c κs = search needs
+
+deserialize-tagged-requires : tie.Need-deserialize-tagged-requires
+deserialize-tagged-requires c κs = search needs
+
+refused-requires-2 : tie.Need-refused-requires-2
+refused-requires-2 c κs = search needs
+
+returns-2 : tie.Need-returns-2
+returns-2 c =
+    let a = c .before .before .before .before .args in
+    c .deserialize-untagged .ensures ∙ ap gtidRead (sym (gtid-33 (a .event-type) (a .body .now) (c .before .before .if1 .left) (c .before .match .keys1)))
+
+returns-3 : tie.Need-returns-3
+returns-3 c =
+    let a = c .before .before .before .before .args in
+    c .deserialize-untagged2 .ensures ∙ ap gtidRead (sym (gtid-34 (a .event-type) (a .body .now) (c .before .before .if1 .left) (c .before .match .keys2)))
+
+returns-4 : tie.Need-returns-4
+returns-4 c =
+    let a = c .before .before .before .before .args in
+    c .deserialize-tagged .ensures ∙ ap gtidRead (sym (gtid-42 (a .event-type) (a .body .now) (c .before .before .if1 .left) (c .before .match .keys3)))
+
+returns-5 : tie.Need-returns-5
+returns-5 c =
+    let a = c .before .before .before .before .args in
+    let rest = c .before .match .rest in
+    c .refused2 .ensures ∙ ap gtidRead (sym (gtid-other (a .event-type) (a .body .now) (c .before .before .if1 .left) (rest .0 .0 .1) (rest .0 .1) (rest .1)))
+
+pub read-spec : {M : Type 1} → statement M
+read-spec =
+    tie.close
+    (tie.spec
+    refused-requires
+    returns
+    deserialize-untagged-requires
+    deserialize-untagged-requires-2
+    deserialize-tagged-requires
+    refused-requires-2
+    returns-2
+    returns-3
+    returns-4
+    returns-5)

@@ -1,0 +1,73 @@
+-- `gtid_event_read::untagged::read_later` meets its contract.
+-- Assumes nothing.
+use mathlib.Core.Path.{_∙_}
+use borrow.Author.Needs.{needs}
+use Rattle.gtid_event_read.proofs.Telling.{goes, stops, stops-mapped, maps, refused-so, read-so}
+use Rattle.gtid_event_read.proofs.untagged.read_later.Statement.{statement}
+use Rattle.gtid_event_read.proofs.untagged.read_later.Tie as tie
+
+read-timestamps-requires : tie.Need-read-timestamps-requires
+read-timestamps-requires c κs = search needs
+
+refused-requires : tie.Need-refused-requires
+refused-requires c κs = search needs
+
+returns : tie.Need-returns
+returns c = c .refused .ensures ∙ refused-so (stops (c .before .before .before .read-timestamps .ensures) (c .before .if1 .taken) _) (c .before .if1 .taken)
+
+read-tx-length-requires : tie.Need-read-tx-length-requires
+read-tx-length-requires c κs = search needs
+
+refused-requires-2 : tie.Need-refused-requires-2
+refused-requires-2 c κs = search needs
+
+returns-2 : tie.Need-returns-2
+returns-2 c =
+    c .refused2 .ensures
+    ∙ refused-so
+    (goes (c .before .before .before .before .before .before .read-timestamps .ensures) (c .before .before .before .before .if1 .left) _
+    (stops (c .before .before .before .read-tx-length .ensures) (c .before .if2 .taken) _))
+    (c .before .if2 .taken)
+
+read-versions-requires : tie.Need-read-versions-requires
+read-versions-requires c κs = search needs
+
+refused-requires-3 : tie.Need-refused-requires-3
+refused-requires-3 c κs = search needs
+
+returns-3 : tie.Need-returns-3
+returns-3 c =
+    c .refused3 .ensures
+    ∙ refused-so
+    (goes (c .before .before .before .before .before .before .before .before .before .read-timestamps .ensures) (c .before .before .before .before .before .before .before .if1 .left) _
+    (goes (c .before .before .before .before .before .before .read-tx-length .ensures) (c .before .before .before .before .if2 .left) _
+    (stops-mapped (c .before .before .before .read-versions .ensures) (c .before .if3 .taken) _)))
+    (c .before .if3 .taken)
+
+clocked-requires : tie.Need-clocked-requires
+clocked-requires c κs = search needs
+
+returns-4 : tie.Need-returns-4
+returns-4 c =
+    rw (c .clocked .ensures)
+    (read-so
+    (goes (c .before .before .before .before .before .before .before .before .before .read-timestamps .ensures) (c .before .before .before .before .before .before .before .if1 .left) _
+    (goes (c .before .before .before .before .before .before .read-tx-length .ensures) (c .before .before .before .before .if2 .left) _
+    (maps (c .before .before .before .read-versions .ensures) _)))
+    (c .before .if3 .left))
+
+pub read-later-spec : {M : Type 1} → statement M
+read-later-spec =
+    tie.close
+    (tie.spec
+    read-timestamps-requires
+    refused-requires
+    returns
+    read-tx-length-requires
+    refused-requires-2
+    returns-2
+    read-versions-requires
+    refused-requires-3
+    returns-3
+    clocked-requires
+    returns-4)

@@ -1,0 +1,265 @@
+// The fields of a tagged event: one field, and all of them.
+ghost use mathlib.Core.Path.{_≡_};
+ghost use Prim.Native.Nat.{_<_};
+ghost use lib.Dec.{leb};
+ghost use Rattle.misc.specs.Pick.{pick};
+ghost use Rattle.misc.specs.Refusal.{unknownField};
+ghost use Rattle.misc.specs.Parse.{refuse, parsed, andThen, mapped, bytesAt};
+ghost use Rattle.misc.specs.Varlen.{varlenAt};
+ghost use Rattle.gtid_event_read.specs.Fields.{kindOf, noFields, withNumber, withUuid, withTagBytes, limitedAt, uuidAt, tagAt, valueAt, fieldAt, fieldsOf};
+ghost use Rattle.gtid_event_read.specs.Told.{Told, ToldPart};
+use crate::Fields;
+use gtid_event::UNDEFINED_SERVER_VERSION;
+use misc::ReadUint;
+use misc::bytes::left_at;
+use misc::refusal::BAD_TAG;
+use misc::refusal::ENDED;
+use misc::refusal::TOO_LARGE;
+use misc::refusal::UNKNOWN_FIELD;
+use misc::signed::read_varlen_natural;
+use misc::varlen::read_varlen_uint;
+use packets::is_tag;
+use packets::tag_bytes;
+
+// The fields after one more was read, and the place behind it; or a refusal.
+pub(crate) struct FieldsRead {
+    pub refusal: u8,
+    pub fields: Fields,
+    pub next: usize,
+}
+
+pub(crate) struct UuidRead {
+    pub refusal: u8,
+    pub uuid: [u8; 16],
+    pub next: usize,
+}
+
+// Bytes from `start` to `end`.
+pub(crate) struct StringRead {
+    pub refusal: u8,
+    pub start: usize,
+    pub end: usize,
+}
+
+// An integer that is at most `limit`.
+fn read_limited(s: &[u8], at: usize, limit: u64) -> ReadUint
+    ensures { λ r. ⌜ Told (limitedAt limit (now (s .entry)) at) (r .refusal) (r .value) (r .next) ⌝ }
+{
+    let read = read_varlen_uint(s, at);
+    if read.value <= limit {
+        return read;
+    }
+    ReadUint {
+        refusal: TOO_LARGE,
+        value: 0,
+        next: 0,
+    }
+}
+
+// 16 integers, each judged before the next is read.
+fn read_serialized_uuid(s: &[u8], at: usize) -> UuidRead
+    ensures { λ r. ⌜ Told (uuidAt (now (s .entry)) at) (r .refusal) (r .uuid) (r .next) ⌝ }
+{
+    let mut uuid = [0u8; 16];
+    let mut next = at;
+    let mut i = 0;
+    while i < 16 {
+        let byte = read_limited(s, next, 255);
+        if byte.refusal != 0 {
+            return UuidRead {
+                refusal: byte.refusal,
+                uuid,
+                next,
+            };
+        }
+        uuid[i] = byte.value as u8;
+        next = byte.next;
+        i += 1;
+    }
+    UuidRead {
+        refusal: 0,
+        uuid,
+        next,
+    }
+}
+
+// A length, and so many bytes.
+fn read_varlen_string(s: &[u8], at: usize) -> StringRead
+    ensures { λ r. ⌜ ToldPart (now (s .entry)) (andThen (varlenAt (now (s .entry)) at) (λ n from. bytesAt n (now (s .entry)) from)) (r .refusal) (r .start) (r .end) ⌝ }
+{
+    let len = read_varlen_uint(s, at);
+    if len.refusal != 0 {
+        return StringRead {
+            refusal: len.refusal,
+            start: 0,
+            end: 0,
+        };
+    }
+    let start = len.next;
+    if (left_at(s, start) as u64) < len.value {
+        return StringRead {
+            refusal: ENDED,
+            start: 0,
+            end: 0,
+        };
+    }
+    StringRead {
+        refusal: 0,
+        start,
+        end: start + (len.value as usize),
+    }
+}
+
+impl Fields {
+    // Nothing was read: all zero, but for the server version.
+    fn none() -> Self
+        ensures { λ r. ⌜ r ≡ noFields ⌝ }
+    {
+        let mut numbers = [0u64; 12];
+        numbers[9] = UNDEFINED_SERVER_VERSION as u64;
+        Self {
+            numbers,
+            sid: [0u8; 16],
+            tag: [0u8; 32],
+            tag_len: 0,
+            present: [false; 12],
+        }
+    }
+
+    // The number of the field `id`; the last of a repeated field counts.
+    fn number(mut self, id: usize, read: ReadUint) -> FieldsRead
+        requires { ⌜ id < 12 ⌝ }
+        ensures { λ r. ⌜ r ≡ record { refusal = read .refusal; fields = withNumber id self (read .value); next = read .next } ⌝ }
+    {
+        self.numbers[id] = read.value;
+        self.present[id] = true;
+        FieldsRead {
+            refusal: read.refusal,
+            fields: self,
+            next: read.next,
+        }
+    }
+
+    fn uuid(mut self, read: UuidRead) -> FieldsRead
+        ensures { λ r. ⌜ r ≡ record { refusal = read .refusal; fields = withUuid self (read .uuid); next = read .next } ⌝ }
+    {
+        let uuid = read.uuid;
+        self.sid = uuid;
+        self.present[1] = true;
+        FieldsRead {
+            refusal: read.refusal,
+            fields: self,
+            next: read.next,
+        }
+    }
+
+    // A string that obeys the tag rule.
+    fn tag(mut self, s: &[u8], at: usize) -> FieldsRead
+        ensures { λ r. ⌜ Told (mapped (withTagBytes self) (tagAt (now (s .entry)) at)) (r .refusal) (r .fields) (r .next) ⌝ }
+    {
+        let read = read_varlen_string(s, at);
+        let start = read.start;
+        let end = read.end;
+        if read.refusal != 0 {
+            return self.refused(read.refusal);
+        }
+        let tag = &s[start..end];
+        if is_tag(tag) {
+            let bytes = tag_bytes(tag);
+            self.tag = bytes;
+            self.tag_len = tag.len() as u8;
+            self.present[3] = true;
+            return FieldsRead {
+                refusal: 0,
+                fields: self,
+                next: end,
+            };
+        }
+        self.refused(BAD_TAG)
+    }
+
+    // A field that isn't known ends the fields if it may be ignored: it can't be skipped, since its length isn't known.
+    fn unknown(self, id: u64, last_non_ignorable_field_id: u64, end: usize) -> FieldsRead
+        ensures { λ r. ⌜ Told (pick (leb id «last_non_ignorable_field_id») (refuse unknownField) (parsed self end)) (r .refusal) (r .fields) (r .next) ⌝ }
+    {
+        if id <= last_non_ignorable_field_id {
+            return self.refused(UNKNOWN_FIELD);
+        }
+        FieldsRead {
+            refusal: 0,
+            fields: self,
+            next: end,
+        }
+    }
+
+    // Of a refused answer only the number is looked at.
+    fn refused(self, refusal: u8) -> FieldsRead
+        ensures { λ r. ⌜ r .refusal ≡ refusal ⌝ }
+    {
+        FieldsRead {
+            refusal,
+            fields: self,
+            next: 0,
+        }
+    }
+}
+
+// The value of the field `id`: 0 flags, 1 uuid, 2 gno, 3 tag, 4 last_committed, 5 sequence_number, 6 and 7 immediate and
+// original timestamp, 8 transaction length, 9 and 10 immediate and original server version, 11 ticket.
+fn read_value(
+    s: &[u8],
+    last_non_ignorable_field_id: u64,
+    f: Fields,
+    id: u64,
+    at: usize,
+) -> FieldsRead
+    ensures { λ r. ⌜ Told (valueAt (kindOf id) «last_non_ignorable_field_id» id (now (s .entry)) f at) (r .refusal) (r .fields) (r .next) ⌝ }
+{
+    match id {
+        0 => f.number(0, read_limited(s, at, 0xff)),
+        1 => f.uuid(read_serialized_uuid(s, at)),
+        2 => f.number(2, read_varlen_natural(s, at)),
+        3 => f.tag(s, at),
+        4 => f.number(4, read_varlen_natural(s, at)),
+        5 => f.number(5, read_varlen_natural(s, at)),
+        6 => f.number(6, read_varlen_uint(s, at)),
+        7 => f.number(7, read_varlen_uint(s, at)),
+        8 => f.number(8, read_varlen_uint(s, at)),
+        9 => f.number(9, read_limited(s, at, 0xffff_ffff)),
+        10 => f.number(10, read_limited(s, at, 0xffff_ffff)),
+        11 => f.number(11, read_varlen_uint(s, at)),
+        _ => f.unknown(id, last_non_ignorable_field_id, s.len()),
+    }
+}
+
+// A field: its id, and then its value.
+fn read_field(s: &[u8], last_non_ignorable_field_id: u64, f: Fields, at: usize) -> FieldsRead
+    ensures { λ r. ⌜ Told (fieldAt «last_non_ignorable_field_id» (now (s .entry)) f at) (r .refusal) (r .fields) (r .next) ⌝ }
+{
+    let id = read_varlen_uint(s, at);
+    if id.refusal != 0 {
+        return f.refused(id.refusal);
+    }
+    read_value(s, last_non_ignorable_field_id, f, id.value, id.next)
+}
+
+// Field after field up to the end of `s`.
+pub(crate) fn read_fields(s: &[u8], last_non_ignorable_field_id: u64) -> FieldsRead
+    ensures { λ r. ⌜ Told (fieldsOf «last_non_ignorable_field_id» (now (s .entry))) (r .refusal) (r .fields) (r .next) ⌝ }
+{
+    let mut fields = Fields::none();
+    let mut at = 0;
+    while at < s.len() {
+        let read = read_field(s, last_non_ignorable_field_id, fields, at);
+        if read.refusal != 0 {
+            return read;
+        }
+        fields = read.fields;
+        at = read.next;
+    }
+    FieldsRead {
+        refusal: 0,
+        fields,
+        next: at,
+    }
+}

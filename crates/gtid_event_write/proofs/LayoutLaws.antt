@@ -1,0 +1,73 @@
+-- The lengths of a record's parts.
+use mathlib.Core.Path.{_≡_, _∙_}
+use mathlib.Core.List.{List, _++_, append-nil}
+use Prim.Native.Nat.{ℕ, _+_, _^_}
+use native.Mathlib.Omega.{arith}
+use lib.ListN.{length, length-append}
+use borrow.Author.Tests.{eq-eqb, ne-eqb}
+use Rattle.misc.specs.Lenenc.{lenencBytes}
+use Rattle.misc.specs.Varlen.{varlenBytes, varlenSize, sizeFrom}
+use Rattle.misc.proofs.VarlenLaws.{length-varlenBytes}
+use Rattle.misc.proofs.LeLaws.{length-leBytes}
+use Rattle.gtid_event.specs.declared.GtidEvent.{GtidEvent}
+use Rattle.gtid_event_write.specs.Writable.{tagOf}
+use Rattle.gtid_event_write.specs.Size.{payloadSize}
+use Rattle.gtid_event_write.specs.Layout.{numberBytes, naturalBytes, unlessBytes, itemsBytes, identityBytes, clockBytes, restBytes, fieldBytes, taggedBytes, pairBytes, openingBytes, laterBytes, untaggedBytes}
+use Rattle.gtid_event_write.proofs.SizeLaws.{payload-agrees}
+
+length-four : (a b c d : List ℕ) → length (a ++ b ++ c ++ d) ≡ length a + length b + length c + length d
+length-four a b c d = simp length-append
+
+module _ (e : GtidEvent) where
+  -- ---- tagged
+  pub length-identity : length (identityBytes e)
+      ≡ length (numberBytes 0 (e .flags)) + (length (varlenBytes 1) + length (itemsBytes (e .sid))) + length (naturalBytes 2 (e .gno))
+      + length (varlenBytes 3 ++ varlenBytes (e .«tag_len») ++ tagOf e)
+  unfolding identityBytes
+  length-identity =
+      length-four (numberBytes 0 (e .flags)) (varlenBytes 1 ++ itemsBytes (e .sid)) (naturalBytes 2 (e .gno)) (varlenBytes 3 ++ varlenBytes (e .«tag_len») ++ tagOf e)
+      ∙ omega (arith, length-append (varlenBytes 1) (itemsBytes (e .sid)))
+
+  pub length-clock : length (clockBytes e)
+      ≡ length (naturalBytes 4 (e .«last_committed»)) + length (naturalBytes 5 (e .«sequence_number»))
+      + length (numberBytes 6 (e .«immediate_commit_timestamp»))
+      + length (unlessBytes 7 (e .«original_commit_timestamp») (e .«immediate_commit_timestamp»))
+  unfolding clockBytes
+  length-clock =
+      length-four (naturalBytes 4 (e .«last_committed»)) (naturalBytes 5 (e .«sequence_number»)) (numberBytes 6 (e .«immediate_commit_timestamp»))
+      (unlessBytes 7 (e .«original_commit_timestamp») (e .«immediate_commit_timestamp»))
+
+  pub length-rest : length (restBytes e)
+      ≡ length (numberBytes 8 (e .«tx_length»)) + length (numberBytes 9 (e .«immediate_server_version»))
+      + length (unlessBytes 10 (e .«original_server_version») (e .«immediate_server_version»))
+      + length (unlessBytes 11 (e .«commit_group_ticket») 0)
+  unfolding restBytes
+  length-rest =
+      length-four (numberBytes 8 (e .«tx_length»)) (numberBytes 9 (e .«immediate_server_version»))
+      (unlessBytes 10 (e .«original_server_version») (e .«immediate_server_version»)) (unlessBytes 11 (e .«commit_group_ticket») 0)
+
+  pub length-fields : length (fieldBytes e) ≡ length (identityBytes e) + length (clockBytes e) + length (restBytes e)
+  unfolding fieldBytes
+  length-fields = simp length-append
+
+  pub length-tagged : length (taggedBytes e) ≡ payloadSize (length (fieldBytes e))
+  unfolding taggedBytes varlenSize sizeFrom
+  length-tagged =
+      simp (length-append, length-varlenBytes) (omega (arith, payload-agrees (length (fieldBytes e))))
+
+  -- ---- untagged
+  module _ (sized : length (e .sid) ≡ 16) where
+    pub length-opening : length (openingBytes e) ≡ 25
+    unfolding openingBytes
+    length-opening = simp (length-append, length-leBytes) (omega arith)
+
+    pub length-short : e .«lc_typecode» ≡ 0 → length (untaggedBytes e) ≡ 25
+    unfolding untaggedBytes
+    length-short none = rw (eq-eqb (e .«lc_typecode») 0 none, append-nil) length-opening
+
+    pub length-long : (e .«lc_typecode» ≡ 0 → ⊥) → length (untaggedBytes e)
+        ≡ 42 + length (pairBytes 7 (2 ^ 55) (e .«immediate_commit_timestamp») (e .«original_commit_timestamp»))
+        + length (lenencBytes (e .«tx_length»))
+        + length (pairBytes 4 (2 ^ 31) (e .«immediate_server_version») (e .«original_server_version»))
+    unfolding untaggedBytes laterBytes
+    length-long some = rw (ne-eqb (e .«lc_typecode») 0 some) (simp (length-append, length-leBytes, length-opening) (omega arith))

@@ -1,0 +1,5 @@
+pub mod SizeLaws
+pub mod WritableLaws
+pub mod LayoutLaws
+pub mod PutLaws
+pub mod WriteLaws

@@ -1,0 +1,47 @@
+-- What the public calls give, by whether the record can be written and has a tag.
+use mathlib.Core.Path.{_≡_}
+use mathlib.Core.Bool.{true, false}
+use mathlib.Core.List.{List}
+use Prim.Native.Nat.{ℕ, _≤_, _<_, min}
+use lib.ListN.{length}
+use Rattle.misc.specs.Refusal.{number, notWritable, noRoom}
+use Rattle.misc.specs.Output.{Placed, outputOf, answerOf}
+use Rattle.misc.proofs.OutputLaws.{output-fits, output-short, output-refused}
+use Rattle.gtid_event.specs.Event.{tagged}
+use Rattle.gtid_event.specs.declared.GtidEvent.{GtidEvent}
+use Rattle.gtid_event_write.specs.Writable.{writable}
+use Rattle.gtid_event_write.specs.Layout.{taggedBytes, untaggedBytes}
+use Rattle.gtid_event_write.specs.Write.{eventBytes, eventOutput, lengthOf, lengthCap}
+
+module _ (e : GtidEvent) where
+  pub bytes-tagged : tagged e ≡ true → taggedBytes e ≡ eventBytes e
+  unfolding eventBytes
+  bytes-tagged h = rw h
+
+  pub bytes-untagged : tagged e ≡ false → untaggedBytes e ≡ eventBytes e
+  unfolding eventBytes
+  bytes-untagged h = rw h
+
+  module _ (able : writable e ≡ true) where
+    pub write-short : (l : List ℕ) (n : ℕ) → n ≡ length (eventBytes e) → length l < n
+        → (record { refusal = number noRoom; len = n } ≡ answerOf l (eventOutput e)) × (l ≡ outputOf l (eventOutput e))
+    unfolding eventOutput
+    write-short l n size less = rw able (output-short l (eventBytes e) n size less)
+
+    pub write-fits : {l l′ : List ℕ} {n : ℕ} → length (eventBytes e) ≤ length l → Placed l 0 (eventBytes e) l′ n
+        → (record { refusal = 0; len = n } ≡ answerOf l (eventOutput e)) × (l′ ≡ outputOf l (eventOutput e))
+    unfolding eventOutput
+    write-fits room p = rw able (output-fits room p)
+
+    pub length-able : (n r : ℕ) → n ≡ length (eventBytes e) → r ≡ min n lengthCap → record { refusal = 0; len = r } ≡ lengthOf e
+    unfolding lengthOf
+    length-able n r size cap = rw (able, ← size, ← cap)
+
+  module _ (unable : writable e ≡ false) where
+    pub write-refused : (l : List ℕ) → (record { refusal = number notWritable; len = 0 } ≡ answerOf l (eventOutput e)) × (l ≡ outputOf l (eventOutput e))
+    unfolding eventOutput
+    write-refused l = rw unable (output-refused l notWritable)
+
+    pub length-refused : record { refusal = number notWritable; len = 0 } ≡ lengthOf e
+    unfolding lengthOf
+    length-refused = rw unable

@@ -1,0 +1,39 @@
+-- `gtid_event_write::untagged::put_timestamps` meets its contract.
+use borrow.Author.Tests.{eq-eqb}
+use borrow.Author.Needs.{needs}
+use Rattle.gtid_event_write.proofs.PutLaws.{pair-placed}
+use Rattle.gtid_event_write.proofs.untagged.put_timestamps.Statement.{statement}
+use Rattle.gtid_event_write.proofs.untagged.put_timestamps.Tie as tie
+
+put-u56-le-requires : tie.Need-put-u56-le-requires
+put-u56-le-requires c κs = search needs
+
+same-length : tie.Need-same-length
+same-length c = search needs
+
+returns : tie.Need-returns
+returns c = simp (eq-eqb _ _ (c .before .before .before .before .if1 .taken)) (c .before .before .put-u56-le .ensures)
+
+put-u56-le-requires-2 : tie.Need-put-u56-le-requires-2
+put-u56-le-requires-2 c κs = search needs
+
+put-u56-le-requires-3 : tie.Need-put-u56-le-requires-3
+put-u56-le-requires-3 c κs = search needs
+
+same-length-2 : tie.Need-same-length-2
+same-length-2 c = search needs
+
+returns-2 : tie.Need-returns-2
+returns-2 c = pair-placed 55 7 _ _ (c .before .before .before .before .before .before .before .before .before .before .pre) (c .before .before .before .before .before .before .before .before .if1 .left) (c .before .before .before .before .before .before .put-u56-le2 .ensures) (c .before .before .put-u56-le3 .ensures)
+
+pub put-timestamps-spec : {M : Type 1} → statement M
+put-timestamps-spec =
+    tie.close
+    (tie.spec
+    put-u56-le-requires
+    same-length
+    returns
+    put-u56-le-requires-2
+    put-u56-le-requires-3
+    same-length-2
+    returns-2)
