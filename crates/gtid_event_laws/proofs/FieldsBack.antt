@@ -9,7 +9,7 @@ use lib.Dec.{eqb}
 use lib.ListN.{length, set, length-append}
 use borrow.Author.Tests.{lt-ltb, le-ltb, le-leb}
 use Rattle.misc.specs.Pick.{pick}
-use Rattle.misc.specs.Parse.{parsed, mapped, many}
+use Rattle.misc.specs.Parse.{Bytes, parsed, mapped, many}
 use Rattle.misc.specs.Varlen.{varlenBytes}
 use Rattle.misc.proofs.SignedLaws.{natural-even}
 use Rattle.misc.proofs.VarlenLaws.{length-varlenBytes, size-range}
@@ -20,7 +20,6 @@ use Rattle.packets.proofs.TagLaws.{tag-at-most-32}
 use Rattle.gtid_event_read.specs.declared.Fields.{Fields}
 use Rattle.gtid_event_read.specs.Fields.{Kind, anyNumber, upTo, natural, tag, kindOf, withNumber, withUuid, withTagBytes, limitedAt, uuidAt, tagAt, valueAt, fieldAt, fieldsFrom}
 use Rattle.gtid_event_write.specs.Layout.{numberBytes, unlessBytes, itemsBytes}
-use Rattle.gtid_event_laws.specs.Fits.{Bytes}
 use Rattle.gtid_event_laws.proofs.Stands.{Stands, each, bytes-stand, varlen-stands}
 
 -- an item has a byte at least, and nine at most

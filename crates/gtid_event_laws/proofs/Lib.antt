@@ -6,7 +6,4 @@ pub mod UntaggedBack
 pub mod FieldsBack
 pub mod TaggedBack
 pub mod EventBack
-pub mod Ranges
-pub mod UntaggedRead
-pub mod TaggedRead
 pub mod ReadWritable

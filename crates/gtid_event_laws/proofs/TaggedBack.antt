@@ -61,7 +61,7 @@ module _ (e : GtidEvent) (fits : Fits e) (facts : TaggedFacts e) where
   tag-length : length (tagOf e) ≡ e .«tag_len»
   tag-length =
       let size = fits .tag-size in
-      let most = facts .tag-len-most in
+      let most = facts .tests .tag in
       length-take-le (e .«tag_len») (e .tag) (omega arith)
 
   identity-run : Run noFields (identityBytes e) (identified e noFields)
@@ -70,14 +70,14 @@ module _ (e : GtidEvent) (fits : Fits e) (facts : TaggedFacts e) where
       let flags = fits .flags-fit in
       one (number-field 0 (omega arith) (limited (omega arith) (omega arith)))
       then one (uuid-field (e .sid) (fits .sid-size) (fits .sid-fits))
-      then one (number-field 2 (omega arith) (doubled (facts .gno-below)))
-      then one (tag-field (tagOf e) (e .«tag_len») (sym tag-length) (facts .tag-is))
+      then one (number-field 2 (omega arith) (doubled (facts .tests .gno)))
+      then one (tag-field (tagOf e) (e .«tag_len») (sym tag-length) (facts .tests .valid))
 
   clock-run : Run (identified e noFields) (clockBytes e) (timed e (identified e noFields))
   unfolding clockBytes
   clock-run =
-      one (number-field 4 (omega arith) (doubled (facts .last-below)))
-      then one (number-field 5 (omega arith) (doubled (facts .sequence-below)))
+      one (number-field 4 (omega arith) (doubled (facts .tests .last)))
+      then one (number-field 5 (omega arith) (doubled (facts .tests .sequence)))
       then one (number-field 6 (omega arith) (plain (fits .immediate-fits)))
       then optional 7 (e .«original_commit_timestamp») (e .«immediate_commit_timestamp») refl
       (number-field 7 (omega arith) (plain (fits .original-fits)))
@@ -99,7 +99,7 @@ module _ (e : GtidEvent) (fits : Fits e) (facts : TaggedFacts e) where
 
   record-is : recordOf (allRead e) ≡ e
   record-is =
-      same-event (recordOf (allRead e)) e refl refl refl (facts .tag-padded) tag-length (sym (facts .typecode-none)) refl refl refl
+      same-event (recordOf (allRead e)) e refl refl refl (facts .tag-padded) tag-length (sym (facts .tests .typecode)) refl refl refl
       (original-back (e .«original_commit_timestamp») (e .«immediate_commit_timestamp»)) refl refl
       (original-back (e .«original_server_version») (e .«immediate_server_version»)) (zero-back (e .«commit_group_ticket»))
 
@@ -131,7 +131,7 @@ module _ (e : GtidEvent) (fits : Fits e) (facts : TaggedFacts e) where
       items = let size = fits .sid-size in record { most = omega (arith, items-length (e .sid)) }
 
       tag : AtMost (tagOf e) 32
-      tag = let size = facts .tag-len-most in record { most = omega (arith, tag-length e fits facts) }
+      tag = let size = facts .tests .tag in record { most = omega (arith, tag-length e fits facts) }
 
   fields-most : AtMost (fieldBytes e) 383
   unfolding fieldBytes clockBytes restBytes

@@ -137,16 +137,16 @@ module _ (e : GtidEvent) (fits : Fits e) where
         st (simp (append-assoc, append-nil)) in
         let last-fits = fits .last-fits in
         let sequence-fits = fits .sequence-fits in
-        let original-fits = facts .original-below in
+        let original-fits = facts .tests .original in
         let original-version-fits = fits .original-version-fits in (
           typecode-stands code,
           rw (
             le-stands 8 (e .«last_committed») (omega arith) last,
             le-stands 8 (e .«sequence_number») (omega arith) sequence,
-            pair-there 7 55 (e .«immediate_commit_timestamp») (e .«original_commit_timestamp») refl (facts .immediate-below) (omega arith)
+            pair-there 7 55 (e .«immediate_commit_timestamp») (e .«original_commit_timestamp») refl (facts .tests .time) (omega arith)
                 (pair 0 0) times,
             lenenc-there (e .«tx_length») (fits .length-fits) len,
-            pair-there 4 31 (e .«immediate_server_version») (e .«original_server_version») refl (facts .version-below) (omega arith)
+            pair-there 4 31 (e .«immediate_server_version») (e .«original_server_version») refl (facts .tests .version) (omega arith)
                 (pair undefinedVersion undefinedVersion) version,
           )
               (ap (parsed (within opening)) (simp length-append (omega arith))),
@@ -204,12 +204,12 @@ module _ (e : GtidEvent) (fits : Fits e) (facts : UntaggedFacts e) where
   opened-is none =
       same-event _ e refl refl refl (facts .no-tag) (sym (facts .no-tag-len)) (sym (none .no-typecode)) (sym (none .no-last)) (sym (none .no-sequence))
       (sym (none .no-immediate)) (sym (none .no-original)) (sym (none .no-length)) (sym (none .no-version)) (sym (none .no-original-version))
-      (sym (facts .no-ticket))
+      (sym (facts .tests .ticket))
 
   -- with it
   clocked-is : e .«lc_typecode» ≡ 2 → within e fits facts (opened (e .flags) (e .sid) (e .gno)) ≡ e
   clocked-is two =
-      same-event _ e refl refl refl (facts .no-tag) (sym (facts .no-tag-len)) (sym two) refl refl refl refl refl refl refl (sym (facts .no-ticket))
+      same-event _ e refl refl refl (facts .no-tag) (sym (facts .no-tag-len)) (sym two) refl refl refl refl refl refl refl (sym (facts .tests .ticket))
 
 -- the bytes, by the typecode
 bytes-with : (e : GtidEvent) (typecode : ℕ) → e .«lc_typecode» ≡ typecode

@@ -2,19 +2,18 @@
 use mathlib.Core.Path.{_≡_, refl}
 use mathlib.Core.Bool.{true, false, _||_}
 use mathlib.Core.List.{List, [], _∷_}
-use Prim.Native.Nat.{ℕ, _-_, _^_, _<_, _≤_}
+use Prim.Native.Nat.{ℕ, _-_, _≤_}
 use native.Mathlib.Omega.{arith}
 use lib.Dec.{eqb}
 use lib.ListN.{length, take, drop, replicate, length-drop, take-append-drop}
 use lib.Seq.{length-take-le}
-use borrow.Author.Tests.{eqb-true, ltb-true, ltb-false, leb-true}
-use Rattle.misc.specs.Pick.{pick}
+use borrow.Author.Tests.{eqb-true, ltb-false}
 use Rattle.packets.specs.Kept.{padded}
-use Rattle.packets.specs.Tag.{isTag}
 use Rattle.packets.proofs.Tests.{split, and-true}
 use Rattle.gtid_event.specs.Event.{undefinedVersion, tagged}
 use Rattle.gtid_event.specs.declared.GtidEvent.{GtidEvent}
-use Rattle.gtid_event_write.specs.Writable.{signedTop, allZero, tagOf, writableTagged, laterAbsent, writableUntagged, writable}
+use Rattle.gtid_event_write.specs.Writable.{allZero, tagOf, laterAbsent, writable}
+use Rattle.gtid_event_write.proofs.WritableLaws.{TaggedFits, UntaggedFits, tagged-fits, untagged-fits, parts, as-tagged, as-untagged}
 use Rattle.gtid_event_laws.specs.Fits.{Fits}
 
 -- two records with the same fields are the same
@@ -59,18 +58,6 @@ padded-front n bs h z =
     let rest : replicate (length bs - n) 0 ≡ drop n bs = rw length-drop at (zeros (drop n bs) z) in
     rw (size, rest) (take-append-drop n bs)
 
--- ---- both
-
--- the three tests of a record that can be written
-writable-parts : (e : GtidEvent) → writable e ≡ true
-    → ((eqb (e .«lc_typecode») 2 || eqb (e .«lc_typecode») 0) ≡ true) × (allZero (drop (e .«tag_len») (e .tag)) ≡ true)
-    × (pick (tagged e) (writableTagged e) (writableUntagged e) ≡ true)
-unfolding writable
-writable-parts e w =
-    let (front, rest) = and-true _ _ w in
-    let (code, behind) = and-true _ _ front in
-    (code, behind, rest)
-
 -- ---- untagged
 
 -- the fields that follow the typecode are absent
@@ -90,12 +77,9 @@ pub data Later (e : GtidEvent) : Type 0 where
   absent : LaterAbsent e → Later e
 
 pub record UntaggedFacts (e : GtidEvent) : Type 0 where
+  pub tests : UntaggedFits e
   pub no-tag : replicate 32 0 ≡ e .tag
   pub no-tag-len : e .«tag_len» ≡ 0
-  pub no-ticket : e .«commit_group_ticket» ≡ 0
-  pub immediate-below : e .«immediate_commit_timestamp» < 2 ^ 55
-  pub original-below : e .«original_commit_timestamp» < 2 ^ 56
-  pub version-below : e .«immediate_server_version» < 2 ^ 31
   pub later : Later e
 
 module _ (e : GtidEvent) where
@@ -126,54 +110,27 @@ module _ (e : GtidEvent) where
 
   pub untagged-facts : Fits e → writable e ≡ true → tagged e ≡ false → UntaggedFacts e
   untagged-facts fits w is =
-      let size = fits .tag-size in
+      let tests = untagged-fits e (as-untagged e w is) in
       let none : e .«tag_len» ≡ 0 = omega (arith, ltb-false 0 (e .«tag_len») is) in
-      let (code, behind, rest) = writable-parts e w in
-      let h : writableUntagged e ≡ true = rw is at rest in
-      let (h₄, t₅) = and-true _ _ h in
-      let (h₃, t₄) = and-true _ _ h₄ in
-      let (h₂, t₃) = and-true _ _ h₃ in
-      let (t₁, t₂) = and-true _ _ h₂ in
+      let (code, behind, _) = parts e w in
       record {
-        no-tag = rw size at (zeros (e .tag) (rw none at behind));
+        tests = tests;
+        no-tag = rw (fits .tag-size) at (zeros (e .tag) (rw none at behind));
         no-tag-len = none;
-        no-ticket = eqb-true _ _ t₁;
-        immediate-below = ltb-true _ _ t₂;
-        original-below = ltb-true _ _ t₃;
-        version-below = ltb-true _ _ t₄;
-        later = later-facts code t₅;
+        later = later-facts code (tests .later);
       }
 
 -- ---- tagged
 
 pub record TaggedFacts (e : GtidEvent) : Type 0 where
-  pub tag-len-most : e .«tag_len» ≤ 32
-  pub tag-is : isTag (tagOf e) ≡ true
+  pub tests : TaggedFits e
   pub tag-padded : padded 32 (tagOf e) ≡ e .tag
-  pub typecode-none : e .«lc_typecode» ≡ 0
-  pub gno-below : e .gno < 2 ^ 63
-  pub last-below : e .«last_committed» < 2 ^ 63
-  pub sequence-below : e .«sequence_number» < 2 ^ 63
 
-module _ (e : GtidEvent) where
-  pub tagged-facts : Fits e → writable e ≡ true → tagged e ≡ true → TaggedFacts e
-  unfolding signedTop
-  tagged-facts fits w is =
-      let (code, behind, rest) = writable-parts e w in
-      let h : writableTagged e ≡ true = rw is at rest in
-      let (h₅, t₆) = and-true _ _ h in
-      let (h₄, t₅) = and-true _ _ h₅ in
-      let (h₃, t₄) = and-true _ _ h₄ in
-      let (h₂, t₃) = and-true _ _ h₃ in
-      let (t₁, t₂) = and-true _ _ h₂ in
-      let size = fits .tag-size in
-      let most : e .«tag_len» ≤ 32 = leb-true _ _ t₁ in
-      record {
-        tag-len-most = most;
-        tag-is = t₂;
-        tag-padded = rw size at (padded-front (e .«tag_len») (e .tag) (omega arith) behind);
-        typecode-none = eqb-true _ _ t₃;
-        gno-below = ltb-true _ _ t₄;
-        last-below = ltb-true _ _ t₅;
-        sequence-below = ltb-true _ _ t₆;
-      }
+pub tagged-facts : (e : GtidEvent) → Fits e → writable e ≡ true → tagged e ≡ true → TaggedFacts e
+tagged-facts e fits w is =
+    let tests = tagged-fits e (as-tagged e w is) in
+    let size = fits .tag-size in
+    record {
+      tests = tests;
+      tag-padded = rw size at (padded-front (e .«tag_len») (e .tag) (omega (arith, tests .tag)) (parts e w .1));
+    }

@@ -1,13 +1,9 @@
 -- What the types of a GTID record's fields say of every record: so many bytes, and numbers of so many bits.
-use Prim.Native.Nat.{ℕ, _^_, _<_}
+use Prim.Native.Nat.{_^_, _<_}
 use mathlib.Core.Path.{_≡_}
-use mathlib.Core.List.{List}
-use lib.ListN.{length, getD}
+use lib.ListN.{length}
+use Rattle.misc.specs.Parse.{Bytes}
 use Rattle.gtid_event.specs.declared.GtidEvent.{GtidEvent}
-
--- each entry is a byte
-abbrev pub Bytes : List ℕ → Type 0
-Bytes bs = (i : ℕ) → getD bs i 0 < 256
 
 pub record Fits (e : GtidEvent) : Type 0 where
   pub flags-fit : e .flags < 256

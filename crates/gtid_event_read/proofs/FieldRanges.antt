@@ -3,23 +3,23 @@
 use mathlib.Core.Path.{_≡_, refl, ap}
 use mathlib.Core.Bool.{true, false, false≢true}
 use mathlib.Core.List.{List, [], _∷_}
-use Prim.Native.Nat.{ℕ, zero, suc, _-_, _≤_}
+use Prim.Native.Nat.{ℕ, zero, suc, _≤_}
 use native.Mathlib.Omega.{arith}
 use lib.Dec.{leb, ltb}
-use lib.ListN.{length, getD, set, replicate, getD-replicate, List·getD-eq-default}
+use lib.ListN.{length, getD, set, replicate}
 use lib.Seq.{set-out, getD-set-same, getD-set-other}
 use Rattle.misc.specs.Refusal.{badTag}
-use Rattle.misc.specs.Parse.{Parse, parsed, andThen, many, bytesAt}
+use Rattle.misc.specs.Parse.{Bytes, parsed, andThen, many, bytesAt}
 use Rattle.misc.specs.Varlen.{varlenAt}
 use Rattle.misc.specs.Signed.{naturalAt}
 use Rattle.misc.proofs.ParseLaws.{split, never, then-parsed, mapped-parsed, judged-parsed, pick-either}
+use Rattle.misc.proofs.Bounds.{zero-at, zeros-bytes, varlen-below, natural-below}
 use Rattle.packets.specs.Tag.{isTag}
 use Rattle.packets.specs.Kept.{padded}
 use Rattle.gtid_event.specs.Event.{undefinedVersion}
 use Rattle.gtid_event_read.specs.Fields.{Kind, anyNumber, upTo, natural, uuid, tag, unknown, kindOf, noFields, withNumber, withUuid, withTagBytes, limitedAt, uuidAt, tagAt, valueAt, fieldAt, fieldsFrom, fieldsOf}
 use Rattle.gtid_event_read.specs.Range.{limitOf, InRange}
 use Rattle.gtid_event_read.specs.declared.Fields.{Fields}
-use Rattle.gtid_event_read.proofs.Bounds.{AreBytes, varlen-below, natural-below}
 use Rattle.gtid_event_read.proofs.FieldLaws.{limited-parsed}
 
 -- what holds of no fields, and after a field if it held before it, holds of all of them
@@ -54,17 +54,10 @@ set-in-range l i v h b = record { limited = go }
         (λ other. rw (getD-set-other l i id v 0 other) (h .limited id)))
 
 none-in-range : InRange (noFields .numbers)
-none-in-range = set-in-range (replicate 12 0) 9 undefinedVersion zeros (omega arith)
-  where
-    zeros : InRange (replicate 12 0)
-    zeros = record {
-      limited = λ id.
-          split 12 id
-          (λ h. rw (List·getD-eq-default {A = ℕ} (replicate 12 0) 0 {n = id} h) (omega arith))
-          (λ h. rw (getD-replicate {A = ℕ} 12 id 0 0 h) (omega arith));
-    }
+none-in-range =
+    set-in-range (replicate 12 0) 9 undefinedVersion (record { limited = λ id. rw (zero-at 12 id) (omega arith) }) (omega arith)
 
-module _ (last : ℕ) (s : List ℕ) (bytes : AreBytes s) where
+module _ (last : ℕ) (s : List ℕ) (bytes : Bytes s) where
   value-in-range : (k : Kind) (id : ℕ) → kindOf id ≡ k → (f : Fields) (at : ℕ) → InRange (f .numbers) → {g : Fields} {next : ℕ} → valueAt k last id s f at ≡ parsed g next → InRange (g .numbers)
   value-in-range anyNumber id is f at h {g} {next} e =
       let (v, p, q) = mapped-parsed (withNumber id f) (varlenAt s at) g next e in
@@ -90,7 +83,7 @@ module _ (last : ℕ) (s : List ℕ) (bytes : AreBytes s) where
       let (id, m, p, q) = then-parsed (varlenAt s at) _ g next e in
       value-in-range (kindOf id) id refl f m h q
 
-pub fields-in-range : (last : ℕ) (s : List ℕ) → AreBytes s → {g : Fields} {next : ℕ} → fieldsOf last s ≡ parsed g next → InRange (g .numbers)
+pub fields-in-range : (last : ℕ) (s : List ℕ) → Bytes s → {g : Fields} {next : ℕ} → fieldsOf last s ≡ parsed g next → InRange (g .numbers)
 fields-in-range last s bytes e =
     fields-hold (λ (f : Fields). InRange (f .numbers)) last s none-in-range (λ f at g next h p. field-in-range last s bytes f at h p) e
 
@@ -99,6 +92,7 @@ fields-in-range last s bytes e =
 -- the tag's bytes are those of a tag once its field was there
 pub record Shaped (f : Fields) : Type 0 where
   pub uuid : length (f .sid) ≡ 16
+  pub uuid-bytes : Bytes (f .sid)
   pub tag : List ℕ
   pub kept : f .tag ≡ padded 32 tag
   pub counted : f .«tag_len» ≡ length tag
@@ -106,29 +100,35 @@ pub record Shaped (f : Fields) : Type 0 where
 
 none-shaped : Shaped noFields
 unfolding padded
-none-shaped = record { uuid = refl; tag = []; kept = refl; counted = refl; valid = λ h. absurd (false≢true h) }
+none-shaped = record { uuid = refl; uuid-bytes = zeros-bytes 16; tag = []; kept = refl; counted = refl; valid = λ h. absurd (false≢true h) }
 
 number-shaped : (f : Fields) (id v : ℕ) → (3 ≡ id → ⊥) → Shaped f → Shaped (withNumber id f v)
 number-shaped f id v other h = record {
   uuid = h .uuid;
+  uuid-bytes = h .uuid-bytes;
   tag = h .tag;
   kept = h .kept;
   counted = h .counted;
   valid = λ there. h .valid (rw (getD-set-other (f .present) id 3 true false other) at there);
 }
 
-many-length : {A : Type 0} (item : ℕ → Parse A) (n at : ℕ) {l : List A} {next : ℕ} → many item n at ≡ parsed l next → length l ≡ n
-unfolding many
-many-length item zero at {l} {next} e = let none : [] ≡ l = cc in rw (← none)
-many-length {A} item (suc n) at {l} {next} e =
-    let (a, m, p, q) = then-parsed (item at) _ l next e in
-    let (rest, last, r, u) = then-parsed (many item n m) _ l next q in
-    let whole : a ∷ rest ≡ l = cc in
-    rw (← whole) (ap suc (many-length item n m r))
+cons-bytes : (b : ℕ) (bs : List ℕ) → b ≤ 255 → Bytes bs → Bytes (b ∷ bs)
+cons-bytes b bs low rest zero = omega arith
+cons-bytes b bs low rest (suc i) = rest i
 
-uuid-length : (s : List ℕ) (at : ℕ) {l : List ℕ} {next : ℕ} → uuidAt s at ≡ parsed l next → length l ≡ 16
+items-read : (s : List ℕ) (n at : ℕ) {l : List ℕ} {next : ℕ} → many (limitedAt 255 s) n at ≡ parsed l next → (length l ≡ n) × Bytes l
+unfolding many
+items-read s zero at {l} {next} e = let none : [] ≡ l = cc in rw (← none) (refl, λ i. omega arith)
+items-read s (suc n) at {l} {next} e =
+    let (b, m, p, q) = then-parsed (limitedAt 255 s at) _ l next e in
+    let (rest, last, r, u) = then-parsed (many (limitedAt 255 s) n m) _ l next q in
+    let whole : b ∷ rest ≡ l = cc in
+    let others = items-read s n m r in
+    rw (← whole) (ap suc (others .0), cons-bytes b rest (limited-parsed 255 s at b m p .1) (others .1))
+
+uuid-read : (s : List ℕ) (at : ℕ) {l : List ℕ} {next : ℕ} → uuidAt s at ≡ parsed l next → (length l ≡ 16) × Bytes l
 unfolding uuidAt
-uuid-length s at e = many-length (limitedAt 255 s) 16 at e
+uuid-read s at e = items-read s 16 at e
 
 tag-valid : (s : List ℕ) (at : ℕ) {t : List ℕ} {next : ℕ} → tagAt s at ≡ parsed t next → isTag t ≡ true
 unfolding tagAt
@@ -150,8 +150,10 @@ module _ (last : ℕ) (s : List ℕ) where
       rw q (number-shaped f id v (not-three id is (λ t. let clash : _≡_ {A = ℕ} 0 1 = cc in omega arith)) h)
   value-shaped uuid id is f at h {g} {next} e =
       let (v, p, q) = mapped-parsed (withUuid f) (uuidAt s at) g next e in
+      let read = uuid-read s at p in
       rw q record {
-        uuid = uuid-length s at p;
+        uuid = read .0;
+        uuid-bytes = read .1;
         tag = h .tag;
         kept = h .kept;
         counted = h .counted;
@@ -159,7 +161,7 @@ module _ (last : ℕ) (s : List ℕ) where
       }
   value-shaped tag id is f at h {g} {next} e =
       let (t, p, q) = mapped-parsed (withTagBytes f) (tagAt s at) g next e in
-      rw q record { uuid = h .uuid; tag = t; kept = refl; counted = refl; valid = λ _. tag-valid s at p }
+      rw q record { uuid = h .uuid; uuid-bytes = h .uuid-bytes; tag = t; kept = refl; counted = refl; valid = λ _. tag-valid s at p }
   value-shaped unknown id is f at h {g} {next} e =
       pick-either (leb id last) e (λ _ p. never p) (λ _ p. let same : f ≡ g = cc in rw same at h)
 

@@ -1,7 +1,6 @@
 -- Laws of this crate's definitions: in the form in which its functions use them (`Telling`, `UntaggedLaws`, `FieldLaws`, `TaggedLaws`,
--- `ReadLaws`), and what holds of every record that is read (`Bounds`, `FieldRanges`, `Ranges`).
+-- `ReadLaws`), and what holds of every record that is read (`FieldRanges`, `Ranges`).
 pub mod Telling
-pub mod Bounds
 pub mod UntaggedLaws
 pub mod FieldLaws
 pub mod FieldRanges

@@ -1,5 +1,5 @@
 -- What every record that is read from bytes has: its numbers within their fields, its uuid whole, its tag kept as a record keeps one.
-use mathlib.Core.Path.{_≡_, refl, sym, ap, _∙_}
+use mathlib.Core.Path.{_≡_, refl}
 use mathlib.Core.Logic.{_⊎_, inl, inr}
 use mathlib.Core.Bool.{Bool, true, false, _||_}
 use mathlib.Core.List.{List}
@@ -9,12 +9,13 @@ use lib.Dec.{leb, eqb}
 use lib.ListN.{length, getD, replicate}
 use Rattle.misc.specs.Pick.{pick}
 use Rattle.misc.specs.Refusal.{tooLong}
-use Rattle.misc.specs.Parse.{parsed, part, bytesAt}
+use Rattle.misc.specs.Parse.{Bytes, parsed, part, bytesAt}
 use Rattle.misc.specs.Body.{bodyLimit}
 use Rattle.misc.specs.Le.{leAt}
 use Rattle.misc.specs.Mark.{hasBit, clearBit}
 use Rattle.misc.proofs.ParseLaws.{never, then-parsed, mapped-parsed, pick-either, pick-parsed, bytes-parsed, part-length}
 use Rattle.misc.proofs.LeLaws.{pow-bytes}
+use Rattle.misc.proofs.Bounds.{part-bytes, byte-below, le-below, lenenc-below, cleared-below, unmarked-below}
 use Rattle.packets.specs.Kept.{padded}
 use Rattle.packets.specs.Tag.{isTag}
 use Rattle.gtid_event.specs.Event.{undefinedVersion}
@@ -24,7 +25,6 @@ use Rattle.gtid_event_read.specs.Tagged.{recordOf, tagged}
 use Rattle.gtid_event_read.specs.Range.{InRange}
 use Rattle.gtid_event_read.specs.Read.{gtid}
 use Rattle.gtid_event_read.specs.declared.Fields.{Fields}
-use Rattle.gtid_event_read.proofs.Bounds.{AreBytes, part-bytes, byte-below, le-below, lenenc-below, cleared-below, unmarked-below}
 use Rattle.gtid_event_read.proofs.FieldRanges.{Shaped, fields-in-range, fields-shaped}
 use Rattle.gtid_event_read.proofs.UntaggedLaws.{OpeningParts, opening-parsed, clock-parsed}
 use Rattle.gtid_event_read.proofs.TaggedLaws.{tagged-parsed}
@@ -32,6 +32,7 @@ use Rattle.gtid_event_read.proofs.TaggedLaws.{tagged-parsed}
 -- ---- tagged records
 pub record TaggedRange (e : GtidEvent) : Type 0 where
   pub uuid : length (e .sid) ≡ 16
+  pub uuid-bytes : Bytes (e .sid)
   pub tag : List ℕ
   pub kept : e .tag ≡ padded 32 tag
   pub counted : e .«tag_len» ≡ length tag
@@ -55,6 +56,7 @@ pick-below false a b n h k = k
 record-range : (f : Fields) → InRange (f .numbers) → Shaped f → getD (f .present) 3 false ≡ true → TaggedRange (recordOf f)
 record-range f n h there = record {
   uuid = h .uuid;
+  uuid-bytes = h .uuid-bytes;
   tag = h .tag;
   kept = h .kept;
   counted = h .counted;
@@ -72,7 +74,7 @@ record-range f n h there = record {
   ticket = omega (arith, n .limited 11);
 }
 
-pub tagged-range : (s : List ℕ) → AreBytes s → {e : GtidEvent} {next : ℕ} → tagged s ≡ parsed e next → TaggedRange e
+pub tagged-range : (s : List ℕ) → Bytes s → {e : GtidEvent} {next : ℕ} → tagged s ≡ parsed e next → TaggedRange e
 tagged-range s bytes q =
     let t = tagged-parsed s q in
     let size = t .size - t .start in
@@ -83,6 +85,7 @@ tagged-range s bytes q =
 -- ---- untagged records
 pub record UntaggedRange (e : GtidEvent) : Type 0 where
   pub uuid : length (e .sid) ≡ 16
+  pub uuid-bytes : Bytes (e .sid)
   pub no-tag : e .tag ≡ replicate 32 0
   pub none : e .«tag_len» ≡ 0
   pub flags : e .flags < 2 ^ 8
@@ -102,7 +105,7 @@ pub record UntaggedRange (e : GtidEvent) : Type 0 where
 abbrev PairBelow : ℕ → Pair → Type 0
 PairBelow w (pair i o) = (i < 2 ^ (8 * w - 1)) × (o < 2 ^ (8 * w))
 
-module _ (s : List ℕ) (bytes : AreBytes s) where
+module _ (s : List ℕ) (bytes : Bytes s) where
   pair-below : (w at : ℕ) → 0 < w → {p : Pair} {next : ℕ} → pairAt w s at ≡ parsed p next → PairBelow w p
   unfolding pairAt
   pair-below w at some {p} {next} e =
@@ -134,13 +137,16 @@ module _ (s : List ℕ) (bytes : AreBytes s) where
   length-below at {v} {next} e =
       pick-either (leb 1 (length s - at)) e (λ _ q. lenenc-below s bytes at q) (λ _ q. let same : 0 ≡ v = cc in omega arith)
 
-  sid-length : (at : ℕ) {sid : List ℕ} {next : ℕ} → bytesAt 16 s at ≡ parsed sid next → length sid ≡ 16
-  sid-length at {sid} {next} e = let b = bytes-parsed 16 s at sid next e in ap length (sym (b .1)) ∙ part-length 16 s at (b .0)
+  sid-read : (at : ℕ) {sid : List ℕ} {next : ℕ} → bytesAt 16 s at ≡ parsed sid next → (length sid ≡ 16) × Bytes sid
+  sid-read at {sid} {next} e =
+      let b = bytes-parsed 16 s at sid next e in
+      rw (← b .1) (part-length 16 s at (b .0), part-bytes s at 16 bytes)
 
   opened-range : (at : ℕ) {e : GtidEvent} {next : ℕ} → OpeningParts s at e next → UntaggedRange e
   opened-range at o =
       rw (o .is) record {
-        uuid = sid-length (o .at₁) (o .sid-read);
+        uuid = sid-read (o .at₁) (o .sid-read) .0;
+        uuid-bytes = sid-read (o .at₁) (o .sid-read) .1;
         no-tag = refl;
         none = refl;
         flags = byte-below s bytes at (o .flags-read);
@@ -160,6 +166,7 @@ module _ (s : List ℕ) (bytes : AreBytes s) where
       → last < 2 ^ 64 → sequence < 2 ^ 64 → PairBelow 7 t → len < 2 ^ 64 → PairBelow 4 v → UntaggedRange (clocked event last sequence t len v)
   clocked-range event last sequence len (pair i o) (pair w x) h hl hs ht hn hv = record {
     uuid = h .uuid;
+    uuid-bytes = h .uuid-bytes;
     no-tag = h .no-tag;
     none = h .none;
     flags = h .flags;
@@ -190,7 +197,7 @@ module _ (s : List ℕ) (bytes : AreBytes s) where
       (λ _ u. let same : event ≡ e = cc in rw same at opening)
 
 -- ---- either, by the event's type
-pub gtid-range : (type : ℕ) (s : List ℕ) → AreBytes s → {e : GtidEvent} {next : ℕ} → gtid type s ≡ parsed e next → UntaggedRange e ⊎ TaggedRange e
+pub gtid-range : (type : ℕ) (s : List ℕ) → Bytes s → {e : GtidEvent} {next : ℕ} → gtid type s ≡ parsed e next → UntaggedRange e ⊎ TaggedRange e
 unfolding gtid
 gtid-range type s bytes {e} {next} p =
     let (_, q) = pick-parsed (leb (length s) bodyLimit) _ tooLong e next p in

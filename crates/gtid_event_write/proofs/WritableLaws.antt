@@ -1,33 +1,19 @@
 -- What it says of a record that it can be written.
-use mathlib.Core.Path.{_≡_, refl, sym, _∙_}
-use mathlib.Core.Bool.{Bool, true, false, _&&_, _||_}
+use mathlib.Core.Path.{_≡_, sym, _∙_}
+use mathlib.Core.Bool.{true, false, _&&_, _||_}
 use mathlib.Core.List.{List}
 use Prim.Native.Nat.{ℕ, _+_, _^_, _≤_, _<_}
 use native.Mathlib.Numerals.{add-one}
 use lib.ListN.{length, getD, drop, drop-of-length-le}
 use lib.Seq.{drop-cons}
-use lib.Dec.{eqb, leb, ltb}
-use borrow.Author.Tests.{leb-true, ltb-true, eq-eqb, ne-eqb}
+use lib.Dec.{eqb}
+use borrow.Author.Tests.{leb-true, ltb-true, eqb-true, eq-eqb, ne-eqb}
 use Rattle.misc.specs.Pick.{pick}
 use Rattle.packets.specs.Tag.{isTag}
+use Rattle.packets.proofs.Tests.{and-true}
 use Rattle.gtid_event.specs.Event.{tagged}
 use Rattle.gtid_event.specs.declared.GtidEvent.{GtidEvent}
 use Rattle.gtid_event_write.specs.Writable.{signedTop, allZero, tagOf, laterAbsent, writable, writableTagged, writableUntagged}
-
--- ---- tests joined by and
-
-both : (a b : Bool) → (a && b) ≡ true → (a ≡ true) × (b ≡ true)
-both true b h = (refl, h)
-both false true h = (h, refl)
-both false false h = (h, h)
-
-all-five : (a b c d f : Bool) → (a && b && c && d && f) ≡ true → (a ≡ true) × (b ≡ true) × (c ≡ true) × (d ≡ true) × (f ≡ true)
-all-five a b c d f h =
-    let h₄ = both (a && b && c && d) f h in
-    let h₃ = both (a && b && c) d (h₄ .0) in
-    let h₂ = both (a && b) c (h₃ .0) in
-    let h₁ = both a b (h₂ .0) in
-    (h₁ .0, h₁ .1, h₂ .1, h₃ .1, h₄ .1)
 
 -- ---- zeros beyond a place
 
@@ -50,6 +36,8 @@ zeros-end s i h = rw (drop-of-length-le s {i = i} h)
 
 pub record TaggedFits (e : GtidEvent) : Type 0 where
   pub tag : e .«tag_len» ≤ 32
+  pub valid : isTag (tagOf e) ≡ true
+  pub typecode : e .«lc_typecode» ≡ 0
   pub gno : e .gno < 2 ^ 63
   pub last : e .«last_committed» < 2 ^ 63
   pub sequence : e .«sequence_number» < 2 ^ 63
@@ -57,36 +45,47 @@ pub record TaggedFits (e : GtidEvent) : Type 0 where
 pub tagged-fits : (e : GtidEvent) → writableTagged e ≡ true → TaggedFits e
 unfolding signedTop
 tagged-fits e h =
-    let tests =
-    all-five (leb (e .«tag_len») 32 && isTag (tagOf e)) (eqb (e .«lc_typecode») 0) (ltb (e .gno) signedTop) (ltb (e .«last_committed») signedTop)
-    (ltb (e .«sequence_number») signedTop) h in
+    let (h₅, t₆) = and-true _ _ h in
+    let (h₄, t₅) = and-true _ _ h₅ in
+    let (h₃, t₄) = and-true _ _ h₄ in
+    let (h₂, t₃) = and-true _ _ h₃ in
+    let (t₁, t₂) = and-true _ _ h₂ in
     record {
-      tag = leb-true _ _ (both (leb (e .«tag_len») 32) (isTag (tagOf e)) (tests .0) .0);
-      gno = ltb-true _ _ (tests .2);
-      last = ltb-true _ _ (tests .3);
-      sequence = ltb-true _ _ (tests .4);
+      tag = leb-true _ _ t₁;
+      valid = t₂;
+      typecode = eqb-true _ _ t₃;
+      gno = ltb-true _ _ t₄;
+      last = ltb-true _ _ t₅;
+      sequence = ltb-true _ _ t₆;
     }
 
 pub record UntaggedFits (e : GtidEvent) : Type 0 where
+  pub ticket : e .«commit_group_ticket» ≡ 0
   pub time : e .«immediate_commit_timestamp» < 2 ^ 55
+  pub original : e .«original_commit_timestamp» < 2 ^ 56
   pub version : e .«immediate_server_version» < 2 ^ 31
+  pub later : (eqb (e .«lc_typecode») 2 || laterAbsent e) ≡ true
 
 pub untagged-fits : (e : GtidEvent) → writableUntagged e ≡ true → UntaggedFits e
 untagged-fits e h =
-    let tests =
-    all-five (eqb (e .«commit_group_ticket») 0) (ltb (e .«immediate_commit_timestamp») (2 ^ 55)) (ltb (e .«original_commit_timestamp») (2 ^ 56))
-    (ltb (e .«immediate_server_version») (2 ^ 31)) (eqb (e .«lc_typecode») 2 || laterAbsent e) h in
-    record { time = ltb-true _ _ (tests .1); version = ltb-true _ _ (tests .3) }
+    let (h₄, t₅) = and-true _ _ h in
+    let (h₃, t₄) = and-true _ _ h₄ in
+    let (h₂, t₃) = and-true _ _ h₃ in
+    let (t₁, t₂) = and-true _ _ h₂ in
+    record { ticket = eqb-true _ _ t₁; time = ltb-true _ _ t₂; original = ltb-true _ _ t₃; version = ltb-true _ _ t₄; later = t₅ }
 
 module _ (e : GtidEvent) (able : writable e ≡ true) where
-  layout : pick (tagged e) (writableTagged e) (writableUntagged e) ≡ true
+  -- its three tests
+  pub parts : ((eqb (e .«lc_typecode») 2 || eqb (e .«lc_typecode») 0) ≡ true) × (allZero (drop (e .«tag_len») (e .tag)) ≡ true)
+      × (pick (tagged e) (writableTagged e) (writableUntagged e) ≡ true)
   unfolding writable
-  layout =
-      both ((eqb (e .«lc_typecode») 2 || eqb (e .«lc_typecode») 0) && allZero (drop (e .«tag_len») (e .tag)))
-      (pick (tagged e) (writableTagged e) (writableUntagged e)) able .1
+  parts =
+      let (front, rest) = and-true _ _ able in
+      let (code, behind) = and-true _ _ front in
+      (code, behind, rest)
 
   pub as-tagged : tagged e ≡ true → writableTagged e ≡ true
-  as-tagged h = rw h at layout
+  as-tagged h = rw h at (parts .2)
 
   pub as-untagged : tagged e ≡ false → writableUntagged e ≡ true
-  as-untagged h = rw h at layout
+  as-untagged h = rw h at (parts .2)

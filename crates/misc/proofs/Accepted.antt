@@ -7,16 +7,17 @@ use native.Mathlib.Numerals.{add-one}
 use native.Mathlib.Decide.{decLt, decLe}
 use native.Mathlib.Omega.{arith}
 use lib.Pow.{pow-pos, split, mod-pow-add}
-use lib.ListN.{length, getD, drop, length-take, List·getD-eq-default}
-use lib.Seq.{getD-take, getD-drop, drop-cons}
+use lib.ListN.{length, getD}
+use lib.Seq.{drop-cons}
 use borrow.Author.Tests.{lt-ltb, ltb-true, eqb-true}
 use lib.Dec.{ltb, eqb}
 use lib.IntN.{ℤ}
-use Rattle.misc.specs.Parse.{parsed, part, bytesAt, byteAt}
+use Rattle.misc.specs.Parse.{Bytes, parsed, part, bytesAt, byteAt}
 use Rattle.misc.specs.Le.{leOf, leBytes, leAt}
 use Rattle.misc.specs.Lenenc.{ledAt, lenencAt}
 use Rattle.misc.specs.Signed.{sentAs, meantBy, signedAt}
 use Rattle.misc.proofs.ParseLaws.{never, pick-either, then-parsed, mapped-parsed, bytes-parsed, byte-parsed, part-length}
+use Rattle.misc.proofs.Bounds.{part-bytes}
 use Rattle.misc.proofs.SignedLaws.{sent-meant}
 use Rattle.misc.specs.Varlen.{above, trailingOnes, varlenAt, itemOf}
 use Rattle.misc.proofs.RoundTrip.{ones-mod}
@@ -54,7 +55,7 @@ ones-full (suc k) x e = go (ones-full k (x / 2)) (x % 2) refl e
         let pos : 0 < 2 ^ k = pow-pos k in
         rw (← add-one k, parts, ih, odd, add-one k) (omega arith)
 
-all-bytes : (bs : List ℕ) → ((i : ℕ) → getD bs i 0 < 256) → leBytes (length bs) (leOf bs) ≡ bs
+all-bytes : (bs : List ℕ) → Bytes bs → leBytes (length bs) (leOf bs) ≡ bs
 unfolding leBytes leOf
 all-bytes [] h = refl
 all-bytes (b ∷ bs) h =
@@ -78,25 +79,16 @@ pub record Item (s : List ℕ) (at v next : ℕ) : Type 0 where
   pub within : next ≤ length s
   pub bytes : part s at size ≡ itemOf size v
 
-module _ (s : List ℕ) (at : ℕ) (are-bytes : (i : ℕ) → getD s i 0 < 256) where
-  part-bytes : (n i : ℕ) → getD (part s at n) i 0 < 256
-  part-bytes n i = go (decLt i n)
-    where
-      go : Dec (i < n) → getD (part s at n) i 0 < 256
-      go (yes h) = rw (getD-take n (drop at s) i 0 h, getD-drop at s i 0) (are-bytes (at + i))
-      go (no h) =
-          let past : length (part s at n) ≤ i = rw length-take (omega (arith, h)) in
-          rw (List·getD-eq-default (part s at n) 0 past) (omega arith)
-
+module _ (s : List ℕ) (at : ℕ) (are-bytes : Bytes s) where
   -- the bytes are those of the number that they spell
-  part-is : (n : ℕ) → at + n ≤ length s → leBytes n (leOf (part s at n)) ≡ part s at n
-  part-is n h = ap (λ (k : ℕ). leBytes k (leOf (part s at n))) (sym (part-length n s at h)) ∙ all-bytes (part s at n) (part-bytes n)
+  pub part-is : (n : ℕ) → at + n ≤ length s → leBytes n (leOf (part s at n)) ≡ part s at n
+  part-is n h = ap (λ (k : ℕ). leBytes k (leOf (part s at n))) (sym (part-length n s at h)) ∙ all-bytes (part s at n) (part-bytes s at n are-bytes)
 
   first-is : (n : ℕ) → at < length s → leOf (part s at (n + 1)) % 256 ≡ getD s at 0
   unfolding leOf
   first-is n h = rw (add-one, drop-cons s at 0 h) (omega (arith, are-bytes at))
 
-module _ (s : List ℕ) (at : ℕ) (are-bytes : (i : ℕ) → getD s i 0 < 256) (v next : ℕ) (read : varlenAt s at ≡ parsed v next) where
+module _ (s : List ℕ) (at : ℕ) (are-bytes : Bytes s) (v next : ℕ) (read : varlenAt s at ≡ parsed v next) where
   accepted-narrow : (t : ℕ) → t ≡ trailingOnes 8 (getD s at 0) → at < length s → at + (t + 1) ≤ length s → t < 8 → Item s at v next
   accepted-narrow t ones inside room small =
       let x = leOf (part s at (t + 1)) in
@@ -153,7 +145,7 @@ module _ (s : List ℕ) (at : ℕ) (are-bytes : (i : ℕ) → getD s i 0 < 256) 
               accepted-nine t ones inside (omega arith) nine
 
 -- ---- fixed, signed and length-encoded integers
-module _ (s : List ℕ) (at : ℕ) (are-bytes : (i : ℕ) → getD s i 0 < 256) where
+module _ (s : List ℕ) (at : ℕ) (are-bytes : Bytes s) where
   -- n bytes, which are those of the value
   pub le-accepted : (n v next : ℕ) → leAt n s at ≡ parsed v next → (part s at n ≡ leBytes n v) × (next ≡ at + n) × (next ≤ length s)
   unfolding leAt
@@ -178,7 +170,7 @@ pub data LenencForm (v : ℕ) : List ℕ → Type 0 where
   led-by-FD : LenencForm v (0xFD ∷ leBytes 3 v)
   led-by-FE : LenencForm v (0xFE ∷ leBytes 8 v)
 
-module _ (s : List ℕ) (at : ℕ) (are-bytes : (i : ℕ) → getD s i 0 < 256) (v next : ℕ) where
+module _ (s : List ℕ) (at : ℕ) (are-bytes : Bytes s) (v next : ℕ) where
   -- the lead byte and n bytes after it
   led-form : (lead n : ℕ) → at < length s → getD s at 0 ≡ lead → leAt n s (at + 1) ≡ parsed v next → part s at (next - at) ≡ lead ∷ leBytes n v
   led-form lead n inside first e =

@@ -8,5 +8,6 @@ pub mod SignedLaws
 pub mod LenencLaws
 pub mod MarkLaws
 pub mod RoundTrip
+pub mod Bounds
 pub mod Accepted
 pub mod Forward

@@ -1,5 +1,5 @@
 -- The language of reading. Reading at a place of some bytes gives a refusal, or a value and the place after it.
-use Prim.Native.Nat.{ℕ, zero, suc, _+_}
+use Prim.Native.Nat.{ℕ, zero, suc, _+_, _<_}
 use mathlib.Core.Bool.{Bool}
 use mathlib.Core.List.{List, [], _∷_}
 use lib.ListN.{length, take, drop, getD}
@@ -37,6 +37,10 @@ many item zero at = parsed [] at
 many item (suc n) at = andThen (item at) (λ a next. andThen (many item n next) (λ rest last. parsed (a ∷ rest) last))
 
 -- ---- bytes
+
+-- bytes, and no other numbers
+abbrev pub Bytes : List ℕ → Type 0
+Bytes s = (i : ℕ) → getD s i 0 < 256
 
 -- n bytes of s from a place on
 abbrev pub part : List ℕ → ℕ → ℕ → List ℕ

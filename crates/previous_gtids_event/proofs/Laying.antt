@@ -3,17 +3,16 @@ use mathlib.Core.Path.{_≡_, refl, sym, ap, subst, _∙_}
 use mathlib.Core.Bool.{Bool, true, false}
 use mathlib.Core.List.{List, [], _∷_, _++_}
 use Prim.Native.Nat.{ℕ, zero, suc, _+_, _-_, _*_, _^_, _≤_, _<_}
-use native.Mathlib.Nat.{add-zero, add-assoc, pow-suc}
+use native.Mathlib.Nat.{add-zero, add-assoc}
 use native.Mathlib.Omega.{arith}
-use lib.ListN.{length, take, drop, length-append}
-use lib.Seq.{getD-drop}
+use lib.ListN.{length, length-append}
 use Rattle.misc.specs.Refusal.{badTag}
-use Rattle.misc.specs.Parse.{parsed, many, part}
-use Rattle.misc.specs.Le.{leOf, leBytes, leAt}
+use Rattle.misc.specs.Parse.{Bytes, parsed, many, part}
+use Rattle.misc.specs.Le.{leOf, leBytes}
 use Rattle.misc.specs.Varlen.{varlenAt, itemOf}
 use Rattle.misc.proofs.ParseLaws.{then-parsed, judged-parsed, bytes-parsed, part-length}
 use Rattle.misc.proofs.LeLaws.{le-here, length-leBytes}
-use Rattle.misc.proofs.Forward.{le-forward}
+use Rattle.misc.proofs.Bounds.{le-below}
 use Rattle.misc.proofs.Accepted.{accepted}
 use Rattle.misc.proofs.Walk.{ahead, many-none, many-next}
 use Rattle.packets.specs.Gno.{Interval, interval}
@@ -22,7 +21,7 @@ use Rattle.previous_gtids_event.specs.Entry.{Entry, entry, uuidOf, tagOf
 use Rattle.previous_gtids_event.specs.Previous.{noneOrTag, tagAt, entryAt}
 use Rattle.previous_gtids_event.specs.Rewrite.{intervalsBytes}
 use Rattle.previous_gtids_event.proofs.Reading.{intervalOf, intervalsOf, none-or-tag-short, key-whole, tag-here, head-here, entry-here, entry-there}
-use Rattle.previous_gtids_event.proofs.Writing.{AreBytes, length-intervals-bytes, counted-bytes}
+use Rattle.previous_gtids_event.proofs.Writing.{length-intervals-bytes, counted-bytes}
 use Rattle.previous_gtids_event.proofs.Standing.{Here, here-part, here-nothing, here-first, here-rest, here-both, le-value, le-stands, length-item, item-stands}
 
 -- ---- entries that can be laid out: 16 uuid bytes, no tag or one that obeys the rule, and numbers of 64 bits
@@ -119,34 +118,10 @@ module _ (s : List ℕ) where
       many-next (entryAt tagged s) (length es) at (entry k is) (at + length one) first
       ∙ ap (ahead (entry k is)) others ∙ ap (parsed (entry k is ∷ es)) end
 
--- ---- bytes
-bytes-take : (n : ℕ) (l : List ℕ) → AreBytes l → AreBytes (take n l)
-bytes-take zero l p i = omega arith
-bytes-take (suc n) [] p i = omega arith
-bytes-take (suc n) (x ∷ l) p zero = p 0
-bytes-take (suc n) (x ∷ l) p (suc i) = bytes-take n l (λ j. p (suc j)) i
-
-bytes-part : (s : List ℕ) (at n : ℕ) → AreBytes s → AreBytes (part s at n)
-bytes-part s at n p = bytes-take n (drop at s) (λ i. rw getD-drop (p (at + i)))
-
-spelt-below : (bs : List ℕ) → AreBytes bs → leOf bs < 256 ^ length bs
-unfolding leOf
-spelt-below [] p = omega arith
-spelt-below (b ∷ bs) p = rw pow-suc (omega (arith, p 0, spelt-below bs (λ i. p (suc i))))
-
 -- ---- what is read is laid out
-module _ (s : List ℕ) (are-bytes : AreBytes s) where
+module _ (s : List ℕ) (are-bytes : Bytes s) where
   number-below : (at : ℕ) → at + 8 ≤ length s → leOf (part s at 8) < 2 ^ 64
-  number-below at h =
-      let size = part-length 8 s at h in
-      rw size at (spelt-below (part s at 8) (bytes-part s at 8 are-bytes))
-
-  pub read-below : (at v next : ℕ) → leAt 8 s at ≡ parsed v next → v < 2 ^ 64
-  read-below at v next e =
-      let room : at + 8 ≤ length s = let f = le-forward s at 8 e in omega arith in
-      let same : parsed v next ≡ parsed (leOf (part s at 8)) (at + 8) = sym e ∙ le-here 8 s at room in
-      let value : v ≡ leOf (part s at 8) = cc in
-      rw value (number-below at room)
+  number-below at h = le-below s are-bytes 8 at (le-here 8 s at h)
 
   intervals-good : (n at : ℕ) → at + 16 * n ≤ length s → GoodIntervals (intervalsOf s n at)
   unfolding intervalsOf intervalOf
@@ -208,7 +183,7 @@ module _ (s : List ℕ) (are-bytes : AreBytes s) where
         omega (arith, length-append (uuidOf k) (tag ++ behind), length-append tag behind, end, size, uuid, there .end, head .eight),
         record { uuid = uuid; rule = head .tag .rule },
         subst GoodIntervals (there .intervals) (intervals-good n first (order .2)),
-        read-below (first - 8) n first (head .count-is),
+        le-below s are-bytes 8 (first - 8) (head .count-is),
       )
 
 -- entries that were read: their bytes, from the place where they began up to the next
@@ -219,7 +194,7 @@ pub record Found (tagged : Bool) (s : List ℕ) (at : ℕ) (es : List Entry) (ne
   pub end : next ≡ at + length bytes
   pub good : WellFormed es
 
-module _ (s : List ℕ) (are-bytes : AreBytes s) (tagged : Bool) where
+module _ (s : List ℕ) (are-bytes : Bytes s) (tagged : Bool) where
   pub entries-accepted : (n at : ℕ) (es : List Entry) (next : ℕ) → at ≤ length s → many (entryAt tagged s) n at ≡ parsed es next
       → (length es ≡ n) × Found tagged s at es next
   unfolding many

@@ -10,7 +10,7 @@ use lib.ListN.{length, drop, length-append}
 use borrow.Author.Tests.{le-leb}
 use Rattle.misc.specs.Pick.{pick}
 use Rattle.misc.specs.Refusal.{Refusal, number, noRoom}
-use Rattle.misc.specs.Parse.{Parse, refuse, parsed, many, part, refusalOf}
+use Rattle.misc.specs.Parse.{Bytes, Parse, refuse, parsed, many, part, refusalOf}
 use Rattle.misc.specs.Body.{usedOf}
 use Rattle.misc.specs.Le.{leBytes}
 use Rattle.misc.specs.Varlen.{varlenBytes}
@@ -28,7 +28,7 @@ use Rattle.previous_gtids_event.specs.Inside.{sizesOf, refusedSizes, ent
 use Rattle.previous_gtids_event.specs.declared.EntryPlace.{EntryPlace}
 use Rattle.previous_gtids_event.specs.declared.Sizes.{Sizes}
 use Rattle.previous_gtids_event.proofs.Reading.{PlaceTold, place-order, was-read, was-not-read}
-use Rattle.previous_gtids_event.proofs.Writing.{AreBytes, entry-length, length-header, entry-bytes}
+use Rattle.previous_gtids_event.proofs.Writing.{entry-length, length-header, entry-bytes}
 
 -- ---- the first pass
 
@@ -109,7 +109,7 @@ pub no-tag-put : {tags : Bool} (t : List ℕ) {l : List ℕ} {at : ℕ} → tags
 no-tag-put {tags} t {l} {at} e = rw e (record { placed = λ _. nothing-placed l at })
 
 -- three parts of the body make an entry
-module _ (tagged : Bool) (s : List ℕ) (from : ℕ) (r : EntryPlace) (told : PlaceTold tagged s from r) (tags : Bool) (are-bytes : AreBytes s) where
+module _ (tagged : Bool) (s : List ℕ) (from : ℕ) (r : EntryPlace) (told : PlaceTold tagged s from r) (tags : Bool) (are-bytes : Bytes s) where
   pub entry-put : {l l₁ l₂ l₃ : List ℕ} {at at₁ at₂ at₃ : ℕ}
       → WhereFits l at (part s from (from + 16 - from)) l₁ at₁
       → WhereFits l₁ at₁ (tagBytes tags (part s (r .first - 8 - r .«tag_len») (r .first - 8 - (r .first - 8 - r .«tag_len»)))) l₂ at₂

@@ -9,12 +9,13 @@ use lib.Dec.{ltb}
 use lib.ListN.{length, length-append}
 use lib.Seq.{take-append-seam}
 use borrow.Author.Tests.{ltb-false}
-use Rattle.misc.specs.Parse.{Parse, refuse, parsed, andThen, many}
+use Rattle.misc.specs.Parse.{Bytes, Parse, refuse, parsed, andThen, many}
 use Rattle.misc.specs.Le.{leBytes, leAt}
 use Rattle.misc.specs.Varlen.{itemOf, varlenSize, varlenBytes}
 use Rattle.misc.specs.Output.{bytes}
 use Rattle.misc.proofs.BodyLaws.{body-fits}
 use Rattle.misc.proofs.LeLaws.{length-leBytes}
+use Rattle.misc.proofs.Bounds.{le-below}
 use Rattle.misc.proofs.Accepted.{le-accepted}
 use Rattle.misc.proofs.VarlenLaws.{size-range, size-found, length-varlenBytes}
 use Rattle.packets.proofs.Tests.{clash}
@@ -22,9 +23,9 @@ use Rattle.previous_gtids_event.specs.Entry.{Entry, entry, uuidOf, tagOf
 use Rattle.previous_gtids_event.specs.Previous.{entryAt, saysTagged, saysCount, entriesAfter, previous}
 use Rattle.previous_gtids_event.specs.Rewrite.{tagBytes, intervalsBytes, entryBytes, entriesBytes, anyTag, headerBytes, bodyBytes, rewritten}
 use Rattle.previous_gtids_event.proofs.Reading.{none-or-tag-short, previous-parts, previous-inside}
-use Rattle.previous_gtids_event.proofs.Writing.{AreBytes, header-plain, header-tagged, length-header, entry-length}
+use Rattle.previous_gtids_event.proofs.Writing.{header-plain, header-tagged, length-header, entry-length}
 use Rattle.previous_gtids_event.proofs.Standing.{Here, here-part, here-first, here-rest, here-both, le-stands, length-item}
-use Rattle.previous_gtids_event.proofs.Laying.{read-below, WellFormed, TagLaid, untagged, sized, Laid, nothing, followed, entries-stand, entries-accepted}
+use Rattle.previous_gtids_event.proofs.Laying.{WellFormed, TagLaid, untagged, sized, Laid, nothing, followed, entries-stand, entries-accepted}
 
 -- ---- bodies
 
@@ -52,7 +53,7 @@ module _ (s : List ℕ) (es : List Entry) (used : ℕ) where
       ∙ ap (λ (n : ℕ). many (entryAt (saysTagged h) s) n 8) (body .count)
       ∙ found ∙ ap (parsed es) end
 
-  pub read-laid : AreBytes s → previous s ≡ parsed es used → BodyLaid s es used × WellFormed es
+  pub read-laid : Bytes s → previous s ≡ parsed es used → BodyLaid s es used × WellFormed es
   read-laid are-bytes e =
       let (h, first, found, room, small) = previous-parts s es used e in
       let front = le-accepted s 0 are-bytes 8 h 8 first in
@@ -62,7 +63,7 @@ module _ (s : List ℕ) (es : List Entry) (used : ℕ) where
       let behind : Here s (0 + length (leBytes 8 h)) (list .bytes) = subst (λ (n : ℕ). Here s (0 + n) (list .bytes)) (sym eight) (list .here) in (
         record {
           header = h;
-          below = read-below s are-bytes 0 h 8 first;
+          below = le-below s are-bytes 8 0 first;
           count = sym count;
           entries = list .bytes;
           laid = list .laid;
@@ -216,7 +217,7 @@ written-least true es bs l = go (anyTag es)
     go true = omega arith
     go false = plain-least es
 
-module _ (s : List ℕ) (are-bytes : AreBytes s) (es : List Entry) (used : ℕ) (read : previous s ≡ parsed es used) where
+module _ (s : List ℕ) (are-bytes : Bytes s) (es : List Entry) (used : ℕ) (read : previous s ≡ parsed es used) where
   pub read-well-formed : WellFormed es
   read-well-formed = read-laid s es used are-bytes read .1
 
@@ -243,7 +244,7 @@ module _ (s : List ℕ) (are-bytes : AreBytes s) (es : List Entry) (used : ℕ) 
       rewritten-read-alone es read-well-formed (omega (arith, rewritten-no-longer, previous-inside s es used read))
 
 -- writing anew what was written anew changes nothing
-pub rewrite-again : (s : List ℕ) → AreBytes s → (bs : List ℕ) → rewritten (previous s) ≡ bytes bs → rewritten (previous bs) ≡ bytes bs
+pub rewrite-again : (s : List ℕ) → Bytes s → (bs : List ℕ) → rewritten (previous s) ≡ bytes bs → rewritten (previous bs) ≡ bytes bs
 rewrite-again s are-bytes bs e = go (previous s) refl e
   where
     go : (p : Parse (List Entry)) → previous s ≡ p → rewritten p ≡ bytes bs → rewritten (previous bs) ≡ bytes bs

@@ -5,22 +5,18 @@ use mathlib.Core.Bool.{Bool, true, false}
 use mathlib.Core.List.{List, [], _∷_, _++_}
 use Prim.Native.Nat.{ℕ, zero, suc, _+_, _-_, _*_, _/_, _%_, _^_, _≤_, _<_}
 use native.Mathlib.Omega.{arith}
-use lib.ListN.{length, drop, getD, length-append}
+use lib.ListN.{length, drop, length-append}
 use lib.Seq.{take-add, drop-drop}
-use Rattle.misc.specs.Parse.{parsed, part}
-use Rattle.misc.specs.Le.{leOf, leBytes, leAt}
-use Rattle.misc.proofs.LeLaws.{le-here, length-leBytes}
-use Rattle.misc.proofs.Accepted.{le-accepted}
+use Rattle.misc.specs.Parse.{Bytes, parsed, part}
+use Rattle.misc.specs.Le.{leBytes, leAt}
+use Rattle.misc.proofs.LeLaws.{length-leBytes}
+use Rattle.misc.proofs.Accepted.{part-is, le-accepted}
 use Rattle.packets.specs.Gno.{Interval, interval}
 use Rattle.packets.specs.Key.{Key}
 use Rattle.previous_gtids_event.specs.Entry.{entry, uuidOf, tagOf}
 use Rattle.previous_gtids_event.specs.Rewrite.{intervalsBytes, tagBytes, entryBytes, headerBytes}
 use Rattle.previous_gtids_event.specs.declared.EntryPlace.{EntryPlace}
 use Rattle.previous_gtids_event.proofs.Reading.{intervalOf, intervalsOf, PlaceTold}
-
--- every element is a byte
-abbrev pub AreBytes : List ℕ → Type 0
-AreBytes s = (i : ℕ) → getD s i 0 < 256
 
 -- ---- lengths
 pub length-intervals-bytes : (is : List Interval) → length (intervalsBytes is) ≡ 16 * length is
@@ -62,10 +58,7 @@ header-tagged n h =
 pub part-join : (s : List ℕ) (at a b : ℕ) → part s at a ++ part s (at + a) b ≡ part s at (a + b)
 part-join s at a b = rw (take-add a b (drop at s), drop-drop a at s)
 
-module _ (s : List ℕ) (are-bytes : AreBytes s) where
-  number-bytes : (n at : ℕ) → at + n ≤ length s → leBytes n (leOf (part s at n)) ≡ part s at n
-  number-bytes n at h = sym (le-accepted s at are-bytes n (leOf (part s at n)) (at + n) (le-here n s at h) .0)
-
+module _ (s : List ℕ) (are-bytes : Bytes s) where
   intervals-bytes : (n at : ℕ) → at + 16 * n ≤ length s → intervalsBytes (intervalsOf s n at) ≡ part s at (16 * n)
   unfolding intervalsBytes intervalsOf intervalOf
   intervals-bytes zero at h = refl
@@ -73,8 +66,8 @@ module _ (s : List ℕ) (are-bytes : AreBytes s) where
       let m : 16 * suc n ≡ 8 + (8 + 16 * n) = omega arith in
       let k : at + 16 ≡ at + 8 + 8 = omega arith in
       rw (
-        number-bytes 8 at (omega arith),
-        number-bytes 8 (at + 8) (omega arith),
+        part-is s at are-bytes 8 (omega arith),
+        part-is s (at + 8) are-bytes 8 (omega arith),
         intervals-bytes n (at + 16) (omega arith),
         k,
         part-join s (at + 8) 8 (16 * n),
@@ -93,7 +86,7 @@ module _ (s : List ℕ) (are-bytes : AreBytes s) where
 
 -- an entry that was read, as its place says
 pub entry-bytes : (tagged : Bool) (s : List ℕ) (at : ℕ) (r : EntryPlace) (told : PlaceTold tagged s at r) (tags : Bool)
-    → AreBytes s
+    → Bytes s
     → entryBytes tags (entry (told .key) (told .list))
     ≡ part s at 16
     ++ (tagBytes tags (part s (r .first - 8 - r .«tag_len») (r .«tag_len»)) ++ part s (r .first - 8) (r .next - (r .first - 8)))

@@ -5,7 +5,7 @@ use Prim.Native.Nat.{_-_}
 use borrow.Author.Needs.{needs}
 use Rattle.misc.specs.Parse.{part}
 use Rattle.gtid_event_read.specs.Read.{gtidRead}
-use Rattle.gtid_event_read.proofs.Bounds.{part-bytes}
+use Rattle.misc.proofs.Bounds.{part-bytes}
 use Rattle.gtid_event_read.proofs.TaggedLaws.{payload-small, payload-cut, payload-refused, payload-read}
 use Rattle.gtid_event_read.proofs.FieldRanges.{fields-in-range}
 use Rattle.gtid_event_read.proofs.tagged.read_payload.Statement.{statement}

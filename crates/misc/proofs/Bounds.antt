@@ -1,40 +1,53 @@
 -- How great the numbers can be that are read from bytes.
-use mathlib.Core.Path.{_≡_, sym, _∙_}
+use mathlib.Core.Path.{_≡_, refl, sym, _∙_}
 use mathlib.Core.Bool.{true, false, false≢true}
-use mathlib.Core.List.{List, [], _∷_}
-use Prim.Native.Nat.{ℕ, suc, _+_, _-_, _*_, _/_, _%_, _^_, _≤_, _<_}
+use mathlib.Core.List.{List, [], _∷_, _++_}
+use Prim.Native.Nat.{ℕ, zero, suc, _+_, _*_, _/_, _%_, _^_, _≤_, _<_}
 use native.Mathlib.Nat.{pow-suc, pow-le-pow-right, div-le-self}
 use native.Mathlib.Numerals.{add-one}
 use native.Mathlib.Omega.{arith}
 use lib.Dec.{ltb, eqb}
 use lib.IntN.{ℤ, pos, negsuc}
-use lib.ListN.{length, drop, getD, length-take, length-drop, List·getD-eq-default}
+use lib.ListN.{length, drop, getD, replicate, length-take, length-drop, List·getD-eq-default}
 use lib.Seq.{getD-take, getD-drop}
 use borrow.Author.Tests.{ltb-true, lt-ltb, le-ltb}
-use Rattle.misc.specs.Parse.{parsed, part, mapped, byteAt, bytesAt}
+use Rattle.misc.specs.Parse.{Bytes, parsed, part, mapped, byteAt, bytesAt}
 use Rattle.misc.specs.Le.{leOf, leAt}
 use Rattle.misc.specs.Lenenc.{ledAt, lenencAt}
 use Rattle.misc.specs.Mark.{hasBit, clearBit}
 use Rattle.misc.specs.Varlen.{trailingOnes, itemValue, varlenAt}
 use Rattle.misc.specs.Signed.{meantBy, signedAt, notNegative, naturalAt}
 use Rattle.misc.proofs.ParseLaws.{split, never, then-parsed, mapped-parsed, bytes-parsed, byte-parsed, pick-either, part-length}
 use Rattle.misc.proofs.MarkLaws.{top-bit-clear, top-bit-set}
 use Rattle.misc.proofs.VarlenLaws.{trailingOnes-le}
 
--- bytes, and no other numbers
-abbrev pub AreBytes : List ℕ → Type 0
-AreBytes s = (i : ℕ) → getD s i 0 < 256
+-- ---- bytes
 
-pub drop-bytes : (n : ℕ) (s : List ℕ) → AreBytes s → AreBytes (drop n s)
+pub append-bytes : (a b : List ℕ) → Bytes a → Bytes b → Bytes (a ++ b)
+append-bytes [] b p q i = q i
+append-bytes (x ∷ a) b p q zero = p 0
+append-bytes (x ∷ a) b p q (suc i) = append-bytes a b (λ j. p (suc j)) q i
+
+pub zero-at : (n i : ℕ) → getD {A = ℕ} (replicate n 0) i 0 ≡ 0
+zero-at zero i = refl
+zero-at (suc n) zero = refl
+zero-at (suc n) (suc i) = zero-at n i
+
+pub zeros-bytes : (n : ℕ) → Bytes (replicate n 0)
+zeros-bytes n i = rw (zero-at n i) (omega arith)
+
+drop-bytes : (n : ℕ) (s : List ℕ) → Bytes s → Bytes (drop n s)
 drop-bytes n s h i = rw (getD-drop n s i 0) (h (n + i))
 
-pub part-bytes : (s : List ℕ) (at n : ℕ) → AreBytes s → AreBytes (part s at n)
+pub part-bytes : (s : List ℕ) (at n : ℕ) → Bytes s → Bytes (part s at n)
 part-bytes s at n h i =
     split n i
     (λ past. rw (List·getD-eq-default (part s at n) 0 {n = i} (rw length-take (omega arith))) (omega arith))
     (λ below. rw (getD-take n (drop at s) i 0 below) (drop-bytes at s h i))
 
-leOf-below : (bs : List ℕ) → AreBytes bs → leOf bs < 256 ^ length bs
+-- ---- numbers
+
+leOf-below : (bs : List ℕ) → Bytes bs → leOf bs < 256 ^ length bs
 unfolding leOf
 leOf-below [] h = omega arith
 leOf-below (b ∷ bs) h = rw pow-suc (omega (arith, h 0, leOf-below bs (λ i. h (suc i))))
@@ -44,7 +57,7 @@ unfolding meantBy
 half sent (pos n) m u q = pick-either (eqb (sent % 2) 0) (sym u) (λ _ a. cc) (λ _ a. absurd (let clash : _≡_ {A = ℕ} 0 1 = cc in omega arith))
 half sent (negsuc n) m u q = never q
 
-module _ (s : List ℕ) (bytes : AreBytes s) where
+module _ (s : List ℕ) (bytes : Bytes s) where
   pub le-below : (n at : ℕ) {v next : ℕ} → leAt n s at ≡ parsed v next → v < 256 ^ n
   unfolding leAt
   le-below n at {v} {next} e =
@@ -97,7 +110,7 @@ module _ (s : List ℕ) (bytes : AreBytes s) where
       (λ _ u. pick-either (eqb lead 0xFD) u (λ _ t. omega (arith, le-below 3 m t))
       (λ _ w. pick-either (eqb lead 0xFE) w (λ _ t. omega (arith, le-below 8 m t)) (λ _. never))))
 
--- a number with no bit above k, and its bit k
+-- a number with no bit above k is below that bit once it is cleared, or if it is not set
 module _ (k v : ℕ) (below : v < 2 ^ (k + 1)) where
   pub cleared-below : hasBit k v ≡ true → clearBit k v < 2 ^ k
   cleared-below bit =
