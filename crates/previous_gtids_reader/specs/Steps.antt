@@ -1,0 +1,67 @@
+-- How the entries of a body are handed out, one step after another.
+use Prim.Native.Nat.{ℕ, zero, suc, _-_}
+use mathlib.Core.Bool.{Bool, true, false}
+use mathlib.Core.List.{List}
+use lib.Dec.{eqb}
+use Rattle.misc.specs.Pick.{pick}
+use Rattle.misc.specs.Refusal.{number}
+use Rattle.misc.specs.Parse.{Parse, refuse, parsed}
+use Rattle.misc.specs.Body.{ofBody}
+use Rattle.misc.specs.Le.{leAt}
+use Rattle.previous_gtids_event.specs.Entry.{Entry}
+use Rattle.previous_gtids_event.specs.Previous.{saysTagged, saysCount, entryAt}
+use Rattle.previous_gtids_event.specs.Answers.{entryRead, refusedEntry}
+use Rattle.previous_gtids_reader.specs.declared.Cursor.{Cursor}
+use Rattle.previous_gtids_reader.specs.declared.Step.{Step}
+
+-- a cursor with so many entries left at a place
+abbrev pub cursorAt : Bool → ℕ → ℕ → Cursor
+cursorAt tagged left at = record { refusal = 0; at = at; left = left; tagged = tagged }
+
+abbrev pub refusedCursor : ℕ → Cursor
+refusedCursor refusal = record { refusal = refusal; at = 0; left = 0; tagged = false }
+
+-- ---- the start: the first entry lies behind the header's eight bytes
+
+abbrev pub cursorOf : Parse ℕ → Cursor
+cursorOf (refuse r) = refusedCursor (number r)
+cursorOf (parsed header next) = cursorAt (saysTagged header) (saysCount header) 8
+
+unfoldable pub startOf : List ℕ → Cursor
+startOf s = cursorOf (ofBody s (leAt 8 s 0))
+
+-- ---- one step
+
+-- a refusal: the cursor stays
+abbrev pub refusedStep : Cursor → ℕ → Step
+refusedStep c refusal = record { more = true; entry = refusedEntry refusal; cursor = c }
+
+-- nothing is left
+abbrev pub endStep : Cursor → Step
+endStep c = record { more = false; entry = refusedEntry 0; cursor = c }
+
+-- an entry that ends at a place, with so many left behind it
+abbrev pub entryStep : Bool → ℕ → Entry → ℕ → Step
+entryStep tagged left e next = record { more = true; entry = entryRead (parsed e next); cursor = cursorAt tagged left next }
+
+-- what reading the next entry gives
+abbrev pub stepped : Cursor → Parse Entry → Step
+stepped c (refuse r) = refusedStep c (number r)
+stepped c (parsed e next) = entryStep (c .tagged) (c .left - 1) e next
+
+unfoldable pub stepOf : List ℕ → Cursor → Step
+stepOf s c =
+    pick (eqb (c .refusal) 0)
+    (pick (eqb (c .left) 0) (endStep c) (stepped c (ofBody s (entryAt (c .tagged) s (c .at)))))
+    (refusedStep c (c .refusal))
+
+-- ---- steps one after another
+
+-- the cursor after n steps
+unfoldable pub cursorAfter : List ℕ → ℕ → Cursor → Cursor
+cursorAfter s zero c = c
+cursorAfter s (suc n) c = cursorAfter s n (stepOf s c .cursor)
+
+-- the step that has n before it, from the start on
+unfoldable pub stepAfter : List ℕ → ℕ → Step
+stepAfter s n = stepOf s (cursorAfter s n (startOf s))
