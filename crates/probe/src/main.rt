@@ -17,8 +17,8 @@ const OUT_ROOM: usize = 140_000;
 
 const LINE_ROOM: usize = 450_000;
 
-// Puts the line that answers a request, without its end, at the front of `line`; returns its length. No call takes B or
-// C yet.
+// Puts the line that answers a request, without its end, at the front of `line`; returns its length. No call takes C
+// yet.
 fn answer(head: Head, a: &[u8], b: &[u8], c: &[u8], out: &mut [u8], line: &mut [u8]) -> usize {
     let call = head.call;
     if call < 9 {
@@ -29,6 +29,9 @@ fn answer(head: Head, a: &[u8], b: &[u8], c: &[u8], out: &mut [u8], line: &mut [
     }
     if call < 48 {
         return probe_previous::answer(call, a, out, line);
+    }
+    if call < 64 {
+        return probe_sets::answer(call, head.event_type, a, b, out, line);
     }
     probe_lines::answers::none(line)
 }

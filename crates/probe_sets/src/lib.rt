@@ -1,0 +1,55 @@
+// Calls 48 to 50 of the test program: the resume set.
+use misc::Wrote;
+use probe_lines::answers;
+use probe_lines::checks;
+use probe_lines::line::push_decimal;
+use probe_lines::line::push_text;
+use resume_set::Offered;
+
+// `ok WORD LEN HEX`: the word ends in a space.
+fn accepted(line: &mut [u8], word: &[u8], out: &[u8], len: usize) -> usize {
+    let word_at = answers::ok(line);
+    let len_at = push_text(line, word_at, word);
+    let end = answers::push_output(line, len_at, out, len);
+    answers::push_dirty(line, end, out, len)
+}
+
+fn offer(set: &[u8], event_type: u8, body: &[u8], out: &mut [u8], line: &mut [u8]) -> usize {
+    checks::fill(out);
+    let offered = resume_set::offer(set, event_type, body, out);
+    match offered {
+        Offered::NoId(len) => accepted(line, b"noid ", out, len),
+        Offered::AlreadyThere(len) => accepted(line, b"present ", out, len),
+        Offered::Taken(len) => accepted(line, b"taken ", out, len),
+        Offered::Refused(refusal, len) => answers::wrote(line, out, Wrote { refusal, len }),
+    }
+}
+
+fn isset(set: &[u8], line: &mut [u8]) -> usize {
+    let read = resume_set::check_set(set);
+    let refusal = read.refusal;
+    let entries = read.entries;
+    let intervals = read.intervals;
+    if refusal != 0 {
+        return answers::refused(line, refusal, entries != 0 || intervals != 0);
+    }
+    let entries_at = answers::ok(line);
+    let entries_end = push_decimal(line, entries_at, entries);
+    let intervals_at = push_text(line, entries_end, b" ");
+    push_decimal(line, intervals_at, intervals)
+}
+
+pub fn answer(
+    call: u8,
+    event_type: u8,
+    a: &[u8],
+    b: &[u8],
+    out: &mut [u8],
+    line: &mut [u8],
+) -> usize {
+    match call {
+        49 => offer(a, event_type, b, out, line),
+        50 => isset(a, line),
+        _ => answers::none(line),
+    }
+}

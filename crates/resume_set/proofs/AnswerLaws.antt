@@ -1,0 +1,217 @@
+-- Laws of answers and outputs.
+use Prim.Native.Nat.{ℕ, _+_, _<_, _≤_}
+use mathlib.Core.Path.{_≡_, refl, sym, ap, _∙_}
+use mathlib.Core.Logic.{_⊎_, inl, inr}
+use mathlib.Core.Bool.{Bool, true, false, _&&_}
+use mathlib.Core.List.{List, _++_}
+use native.Mathlib.Omega.{arith}
+use borrow.Author.Tests.{eq-eqb, ne-eqb}
+use lib.Dec.{leb}
+use lib.ListN.{length, take, length-append, length-replicate}
+use Rattle.misc.specs.Refusal.{Refusal, refusal, number, full}
+use Rattle.misc.specs.Parse.{Parse, refuse, parsed}
+use Rattle.misc.specs.Output.{bytes, outputOf, answerOf, Placed, WhereFits}
+use Rattle.misc.specs.declared.Wrote.{Wrote}
+use Rattle.misc.proofs.ParseLaws.{no-zero}
+use Rattle.misc.proofs.OutputLaws.{output-fits, output-short, output-refused}
+use Rattle.packets.specs.Gno.{isGno}
+use Rattle.packets.specs.Kept.{padded}
+use Rattle.packets.specs.Key.{Key}
+use Rattle.packets.proofs.Tests.{split}
+use Rattle.packets.proofs.TagLaws.{tag-at-most-32}
+use Rattle.previous_gtids_event.specs.Entry.{Entry}
+use Rattle.previous_gtids_event.specs.Previous.{noneOrTag}
+use Rattle.previous_gtids_event.specs.Rewrite.{anyTag, bodyBytes}
+use Rattle.gtid_event.specs.declared.GtidEvent.{GtidEvent}
+use Rattle.gtid_event_read.specs.Read.{gtid, gtidRead}
+use Rattle.gtid_event_read.specs.declared.GtidRead.{GtidRead}
+use Rattle.gtid_event_read.proofs.Ranges.{UntaggedRange, TaggedRange, gtid-range}
+use Rattle.gtid_sets.specs.Set.{has, add}
+use Rattle.gtid_sets.specs.Limits.{Judged, fine, breaks, limits, intervals}
+use Rattle.gtid_sets.specs.Run.{Event, names}
+use Rattle.gtid_sets.specs.Lent.{Lent, form, unfit, lentSet}
+use Rattle.gtid_sets.proofs.LimitLaws.{maxEntries-is, maxIntervals-is, limits-from, too-many-entries, too-many-intervals}
+use Rattle.gtid_sets.proofs.LentLaws.{lent-is}
+use Rattle.set_check.specs.Check.{checkedOf}
+use Rattle.set_check.specs.declared.Checked.{Checked}
+use Rattle.set_check.proofs.PlaceLaws.{Bytes}
+use Rattle.resume_set.specs.Answers.{setRead, contained, eventOf, fitting, offeredOf, outputFor, offered, output, saved, caseOf, acceptedAs}
+use Rattle.resume_set.specs.Find.{setOf, entriesOf, Fits}
+use Rattle.resume_set.specs.declared.SetRead.{SetRead}
+use Rattle.resume_set.specs.declared.Contained.{Contained}
+use Rattle.resume_set.specs.declared.Offered.{Offered}
+use Rattle.resume_set.specs.declared.Offered.the-variants.{Refused}
+use Rattle.resume_set.specs.declared.Kind.{Kind}
+use Rattle.resume_set.specs.declared.Kind.the-variants as kind
+
+-- ---- what the check told
+
+pub set-read : (c : Checked) (x : Lent) → c ≡ checkedOf x
+    → _≡_ {A = SetRead} (record { refusal = c .refusal; entries = c .entries; intervals = c .intervals }) (setRead x)
+set-read c unfit e = ap (λ (y : Checked). record { refusal = y .refusal; entries = y .entries; intervals = y .intervals }) e
+set-read c (form s) e = ap (λ (y : Checked). record { refusal = y .refusal; entries = y .entries; intervals = y .intervals }) e
+
+pub check-told : (bs : List ℕ) (c : Checked) → c ≡ checkedOf (lentSet bs) → c .refusal ≡ 0 → Fits bs c
+unfolding setOf
+check-told bs c e z = go (lentSet bs) refl
+  where
+    go : (x : Lent) → lentSet bs ≡ x → Fits bs c
+    go unfit p = absurd (omega (arith, sym (ap (λ (y : Checked). y .refusal) (e ∙ ap checkedOf p)) ∙ z))
+    go (form s) p =
+        let t = e ∙ ap checkedOf p in
+        record {
+          set = record {
+            lent = p ∙ ap (λ (y : Lent). form (entriesOf y)) (sym p);
+            tags = ap (λ (y : Lent). anyTag (entriesOf y)) p ∙ sym (ap (λ (y : Checked). y .tagged) t);
+            count = ap (λ (y : Lent). length (entriesOf y)) p ∙ sym (ap (λ (y : Checked). y .entries) t);
+          };
+          total = ap (λ (y : Lent). intervals (entriesOf y)) p ∙ sym (ap (λ (y : Checked). y .intervals) t);
+          bytes = ap (λ (y : Lent). bodyBytes (entriesOf y)) p ∙ sym (lent-is bs s p .written);
+        }
+
+pub check-unfit : (bs : List ℕ) (c : Checked) → c ≡ checkedOf (lentSet bs) → (c .refusal ≡ 0 → ⊥) → (lentSet bs ≡ unfit) × (c .refusal ≡ 14)
+check-unfit bs c e h = go (lentSet bs) refl
+  where
+    go : (x : Lent) → lentSet bs ≡ x → (lentSet bs ≡ unfit) × (c .refusal ≡ 14)
+    go unfit p = (p, ap (λ (y : Checked). y .refusal) (e ∙ ap checkedOf p))
+    go (form s) p = absurd (h (ap (λ (y : Checked). y .refusal) (e ∙ ap checkedOf p)))
+
+-- ---- `contains`
+
+pub contained-unfit : (bs u t : List ℕ) (n : ℕ) (r : ℕ) → lentSet bs ≡ unfit → r ≡ 14
+    → _≡_ {A = Contained} (record { refusal = r; present = false }) (contained (lentSet bs) u t n)
+contained-unfit bs u t n r p e = rw (p, e)
+
+module _ (bs u t : List ℕ) (n : ℕ) (lent : lentSet bs ≡ form (setOf bs)) where
+  pub no-uuid : (length u ≡ 16 → ⊥) → _≡_ {A = Contained} (record { refusal = 0; present = false }) (contained (lentSet bs) u t n)
+  no-uuid h = rw (lent, ne-eqb (length u) 16 h)
+
+  module _ (long : length u ≡ 16) (x y : Bool) (p : x ≡ noneOrTag t) (q : y ≡ isGno n) where
+    pub no-id : x && y ≡ false → _≡_ {A = Contained} (record { refusal = 0; present = false }) (contained (lentSet bs) u t n)
+    no-id h = rw (lent, eq-eqb (length u) 16 long, ← p, ← q, h)
+
+    pub is-asked : (b : Bool) → x && y ≡ true → b ≡ has (setOf bs) (u ++ t) n
+        → _≡_ {A = Contained} (record { refusal = 0; present = b }) (contained (lentSet bs) u t n)
+    is-asked b h e = rw (lent, eq-eqb (length u) 16 long, ← p, ← q, h, e)
+
+-- ---- answers of a kind
+
+pub accepted-refused : (k : Kind) (w : Wrote) → (w .refusal ≡ 0 → ⊥) → Refused (w .refusal) (w .len) ≡ acceptedAs k w
+accepted-refused k w h = rw (ne-eqb (w .refusal) 0 h)
+
+pub accepted-case : (k j : Kind) (w : Wrote) → w .refusal ≡ 0 → k ≡ j → caseOf j (w .len) ≡ acceptedAs k w
+accepted-case k j w z e = rw (e, eq-eqb (w .refusal) 0 z)
+
+told-bytes : (k : Kind) (l bs : List ℕ) → acceptedAs k (answerOf l (bytes bs)) ≡ fitting (caseOf k) (length bs) (length l)
+unfolding answerOf
+told-bytes k l bs = split (leb (length bs) (length l)) (λ h. rw h) (λ h. rw h)
+
+-- ---- a set that was joined
+
+module _ (s : List Entry) (e i : ℕ) (p : e ≡ length s) (q : i ≡ intervals s) (out : List ℕ) where
+  pub full-entries : 256 < e → (record { refusal = 16; len = 0 } ≡ answerOf out (saved s)) × (out ≡ outputOf out (saved s))
+  full-entries h = rw (too-many-entries s (omega (arith, maxEntries-is))) (output-refused out full)
+
+  pub full-intervals : 2048 < i → (record { refusal = 16; len = 0 } ≡ answerOf out (saved s)) × (out ≡ outputOf out (saved s))
+  full-intervals h = rw (too-many-intervals s (omega (arith, maxIntervals-is))) (output-refused out full)
+
+  module _ (few : e ≤ 256) (less : i ≤ 2048) (len : ℕ) (size : len ≡ length (bodyBytes s)) where
+    within : limits s ≡ fine
+    within = limits-from s (omega (arith, maxEntries-is)) (omega (arith, maxIntervals-is))
+
+    pub joined-short : length out < len → (record { refusal = 13; len = len } ≡ answerOf out (saved s)) × (out ≡ outputOf out (saved s))
+    joined-short h = rw within (output-short out (bodyBytes s) len size h)
+
+    pub joined-fits : (runs d : List ℕ) (r : ℕ) → len ≤ length out → bodyBytes s ≡ runs → WhereFits out 0 runs d r
+        → (record { refusal = 0; len = len } ≡ answerOf out (saved s)) × (d ≡ outputOf out (saved s))
+    joined-fits runs d r h b w =
+        let w′ : WhereFits out 0 (bodyBytes s) d r = rw (← b) at w in
+        let p : Placed out 0 (bodyBytes s) d r = w′ .placed (omega arith) in
+        rw within (output-fits (omega arith) (record { holds = p .holds; ends = omega (arith, size) }))
+
+-- ---- an id
+
+module _ (s : List Entry) (k : Key) (n : ℕ) (out : List ℕ) where
+  pub id-unlawful : isGno n ≡ false → (Refused 15 0 ≡ offeredOf s (names k n) (length out)) × (out ≡ outputOf out (outputFor s (names k n)))
+  unfolding outputOf
+  id-unlawful h = rw h (refl, refl)
+
+  module _ (lawful : isGno n ≡ true) where
+    pub id-already : (bs d : List ℕ) (w : Wrote) (r : Offered) → has s k n ≡ true → bodyBytes s ≡ bs → w ≡ answerOf out (bytes bs) → d ≡ outputOf out (bytes bs)
+        → r ≡ acceptedAs kind.AlreadyThere w → (r ≡ offeredOf s (names k n) (length out)) × (d ≡ outputOf out (outputFor s (names k n)))
+    id-already bs d w r h b p q e = rw (lawful, h, b) (e ∙ ap (acceptedAs kind.AlreadyThere) p ∙ told-bytes kind.AlreadyThere out bs, q)
+
+    pub id-new : (d : List ℕ) (w : Wrote) (r : Offered) → has s k n ≡ false → w ≡ answerOf out (saved (add k n s)) → d ≡ outputOf out (saved (add k n s))
+        → r ≡ acceptedAs kind.Taken w → (r ≡ offeredOf s (names k n) (length out)) × (d ≡ outputOf out (outputFor s (names k n)))
+    id-new d w r h p q e = go (limits (add k n s)) refl
+      where
+        go : (j : Judged) → limits (add k n s) ≡ j → (r ≡ offeredOf s (names k n) (length out)) × (d ≡ outputOf out (outputFor s (names k n)))
+        go fine f =
+            let p′ : w ≡ answerOf out (bytes (bodyBytes (add k n s))) = rw f at p in
+            let q′ : d ≡ outputOf out (bytes (bodyBytes (add k n s))) = rw f at q in
+            rw (lawful, h, f) (e ∙ ap (acceptedAs kind.Taken) p′ ∙ told-bytes kind.Taken out (bodyBytes (add k n s)), q′)
+        go (breaks x) f =
+            let (a, b) = output-refused out x in
+            let p′ = rw f at p in
+            let q′ = rw f at q in
+            rw (lawful, h, f) (e ∙ ap (acceptedAs kind.Taken) (p′ ∙ sym a) ∙ rw (ne-eqb (number x) 0 (no-zero x)), q′)
+
+-- ---- an event
+
+broken-offer : (bs out : List ℕ) (type : ℕ) (body : List ℕ) (r : ℕ) (x : Refusal) → lentSet bs ≡ form (setOf bs) → gtid type body ≡ refuse x → r ≡ number x
+    → (Refused r 0 ≡ offered (lentSet bs) (eventOf type body) (length out)) × (out ≡ outputOf out (output (lentSet bs) (eventOf type body)))
+unfolding eventOf outputOf
+broken-offer bs out type body r x l e n = rw (l, e, n) (refl, refl)
+
+module _ (type : ℕ) (body : List ℕ) (said : GtidRead) (is : said ≡ gtidRead (gtid type body)) where
+  pub read-refused : (said .refusal ≡ 0 → ⊥) → (x : Refusal) × (gtid type body ≡ refuse x) × (said .refusal ≡ number x)
+  read-refused h = go (gtid type body) refl
+    where
+      go : (p : Parse GtidEvent) → gtid type body ≡ p → (x : Refusal) × (gtid type body ≡ refuse x) × (said .refusal ≡ number x)
+      go (refuse x) e = (x, e, ap (λ (y : GtidRead). y .refusal) (is ∙ ap gtidRead e))
+      go (parsed a next) e = absurd (h (ap (λ (y : GtidRead). y .refusal) (is ∙ ap gtidRead e)))
+
+  pub read-told : said .refusal ≡ 0 → gtid type body ≡ parsed (said .event) (said .used)
+  read-told h = go (gtid type body) refl
+    where
+      go : (p : Parse GtidEvent) → gtid type body ≡ p → gtid type body ≡ parsed (said .event) (said .used)
+      go (refuse x) e = absurd (no-zero x (sym (ap (λ (y : GtidRead). y .refusal) (is ∙ ap gtidRead e)) ∙ h))
+      go (parsed a next) e = e ∙ ap (λ (y : GtidRead). parsed (y .event) (y .used)) (sym (is ∙ ap gtidRead e))
+
+  -- the parts of its key
+  pub key-parts : said .refusal ≡ 0 → Bytes body → (length (said .event .sid) ≡ 16) × (said .event .«tag_len» ≤ 32) × (length (said .event .tag) ≡ 32)
+  unfolding padded
+  key-parts h ok = go (gtid-range type body ok (read-told h))
+    where
+      go : UntaggedRange (said .event) ⊎ TaggedRange (said .event)
+          → (length (said .event .sid) ≡ 16) × (said .event .«tag_len» ≤ 32) × (length (said .event .tag) ≡ 32)
+      go (inl u) = (u .uuid, omega (arith, u .none), rw (u .no-tag))
+      go (inr t) = (
+        t .uuid,
+        omega (arith, t .counted, tag-at-most-32 (t .tag) (t .valid)),
+        rw (t .kept) (simp (length-append, length-replicate) (omega (arith, tag-at-most-32 (t .tag) (t .valid)))),
+      )
+
+  module _ (bs out : List ℕ) (lent : lentSet bs ≡ form (setOf bs)) where
+    pub offer-broken : (said .refusal ≡ 0 → ⊥)
+        → (Refused (said .refusal) 0 ≡ offered (lentSet bs) (eventOf type body) (length out)) × (out ≡ outputOf out (output (lentSet bs) (eventOf type body)))
+    offer-broken h = let (x, e, n) = read-refused h in broken-offer bs out type body (said .refusal) x lent e n
+
+    module _ (told : said .refusal ≡ 0) where
+      pub offer-none : (d : List ℕ) (w : Wrote) (r : Offered) → type ≡ 34 → bodyBytes (setOf bs) ≡ bs → w ≡ answerOf out (bytes bs) → d ≡ outputOf out (bytes bs)
+          → r ≡ acceptedAs kind.NoId w → (r ≡ offered (lentSet bs) (eventOf type body) (length out)) × (d ≡ outputOf out (output (lentSet bs) (eventOf type body)))
+      unfolding eventOf
+      offer-none d w r t b p q e =
+          rw (lent, read-told told, eq-eqb type 34 t, b) (e ∙ ap (acceptedAs kind.NoId) p ∙ told-bytes kind.NoId out bs, q)
+
+      pub offer-some : (d : List ℕ) (r : Offered) → (type ≡ 34 → ⊥)
+          → (let v : Event = names (said .event .sid ++ take (said .event .«tag_len») (said .event .tag)) (said .event .gno) in
+          (r ≡ offeredOf (setOf bs) v (length out)) × (d ≡ outputOf out (outputFor (setOf bs) v)))
+          → (r ≡ offered (lentSet bs) (eventOf type body) (length out)) × (d ≡ outputOf out (output (lentSet bs) (eventOf type body)))
+      unfolding eventOf
+      offer-some d r t p = rw (lent, read-told told, ne-eqb type 34 t) p
+
+pub offer-unfit : (bs out : List ℕ) (e : Event) (r : ℕ) → lentSet bs ≡ unfit → r ≡ 14
+    → (Refused r 0 ≡ offered (lentSet bs) e (length out)) × (out ≡ outputOf out (output (lentSet bs) e))
+unfolding outputOf
+offer-unfit bs out e r p q = rw (p, q) (refl, refl)

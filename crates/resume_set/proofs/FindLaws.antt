@@ -1,0 +1,364 @@
+-- Laws of `find`: entries before a key are passed, one after another.
+use Prim.Native.Nat.{ℕ, _+_, _-_, _*_, _/_, _^_, _<_, _≤_}
+use mathlib.Core.Path.{_≡_, refl, sym, ap, _∙_}
+use mathlib.Core.Bool.{Bool, true, false, _||_, or-assoc, or-false}
+use mathlib.Core.List.{List, [], _∷_, _++_, append-assoc}
+use native.Mathlib.Omega.{arith}
+use lib.Dec.{ltb}
+use lib.ListN.{length, drop, getD, length-append, length-drop}
+use lib.Seq.{drop-at, append-snoc}
+use Rattle.misc.specs.Parse.{part}
+use Rattle.misc.specs.Le.{leBytes}
+use Rattle.misc.proofs.ParseLaws.{part-length}
+use Rattle.misc.proofs.LeLaws.{length-leBytes}
+use Rattle.packets.specs.Gno.{Interval}
+use Rattle.packets.specs.Key.{Key, order, orElse, orderRead, _≺_}
+use Rattle.packets.specs.declared.KeyOrder.{KeyOrder}
+use Rattle.packets.specs.declared.KeyOrder.the-variants.{Before, Same, After}
+use Rattle.packets.proofs.Tests.{clash}
+use Rattle.packets.proofs.Keys.{flip, order-eq, order-flip, order-append, after-not-same}
+use Rattle.previous_gtids_event.specs.Entry.{Entry, entry, uuidOf, tagOf}
+use Rattle.previous_gtids_event.specs.Rewrite.{intervalsBytes, tagBytes, entriesBytes, anyTag, headerBytes, bodyBytes}
+use Rattle.gtid_sets.specs.Interval.{insert}
+use Rattle.gtid_sets.specs.Set.{has, join, SetForm}
+use Rattle.gtid_sets.specs.Limits.{maxIntervals, intervals}
+use Rattle.gtid_sets.specs.Lent.{GoodKey, GoodKeys}
+use Rattle.gtid_sets.proofs.Bools.{or-false-parts}
+use Rattle.gtid_sets.proofs.LimitLaws.{maxIntervals-is, limits-says}
+use Rattle.gtid_sets.proofs.SetLaws.{join-before, join-into, join-after, above-misses, entry-has}
+use Rattle.previous_gtids_event.proofs.Reading.{none-or-tag-short}
+use Rattle.previous_gtids_event.proofs.Writing.{length-header, length-intervals-bytes}
+use Rattle.gtid_sets.proofs.ByteLaws.{entriesBytes-append}
+use Rattle.gtid_sets.proofs.LentLaws.{Lends, lent-is, gapped-wide}
+use Rattle.set_check.specs.Places.{numberAt, intervalsAt}
+use Rattle.set_check.specs.Head.{headBytes, KeyOk}
+use Rattle.set_check.proofs.PlaceLaws.{part-there, after-there, left-there, byte-there, number-there, intervals-there, one-byte}
+use Rattle.set_check.proofs.OrderLaws.{says-before, says-same, says-after}
+use Rattle.set_check.proofs.HeadLaws.{uuid-length, key-made}
+use Rattle.set_check.proofs.RestLaws.{entries-head}
+use Rattle.resume_set.specs.Find.{setOf, IsSet, placeFrom, placeAt, FoundIs}
+use Rattle.resume_set.specs.declared.EntryPlace.{EntryPlace}
+use Rattle.resume_set.specs.declared.Found.{Found}
+
+-- ---- the entry at a place
+
+-- an entry with this key and these intervals stands there, before other bytes
+pub record EntryHere (bs : List ℕ) (at : ℕ) (k : Key) (is : List Interval) (rest : List ℕ) (p : EntryPlace) : Type 0 where
+  pub uuid-there : part bs at 16 ≡ uuidOf k
+  pub tag-there : part bs (p .«tag_at») (p .«tag_len») ≡ tagOf k
+  pub count : p .count ≡ length is
+  pub after : drop (p .first) bs ≡ intervalsBytes is ++ rest
+  pub place : at + 16 ≤ p .«tag_at»
+  pub first-is : p .first ≡ p .«tag_at» + p .«tag_len» + 8
+  pub next-is : p .next ≡ p .first + 16 * p .count
+  pub inside : p .next ≤ length bs
+
+module _ (bs : List ℕ) (at : ℕ) (k : Key) (is : List Interval) (rest : List ℕ) (small : length is < 2 ^ 64) where
+  abbrev counted : List ℕ
+  counted = leBytes 8 (length is) ++ (intervalsBytes is ++ rest)
+
+  from-tag : (from len : ℕ) → part bs at 16 ≡ uuidOf k → at + 16 ≤ from → length (tagOf k) ≡ len → drop from bs ≡ tagOf k ++ counted
+      → EntryHere bs at k is rest (placeFrom bs from len)
+  from-tag from len u h l e =
+      let c : drop (from + len) bs ≡ counted = after-there bs from len (tagOf k) counted e l in
+      let n : numberAt bs (from + len) ≡ length is = number-there bs (from + len) (length is) (intervalsBytes is ++ rest) c small in
+      let size = left-there bs (from + len) (leBytes 8 (length is)) (intervalsBytes is ++ rest) c in
+      record {
+        uuid-there = u;
+        tag-there = part-there bs from len (tagOf k) counted e l;
+        count = n;
+        after = after-there bs (from + len) 8 (leBytes 8 (length is)) (intervalsBytes is ++ rest) c (length-leBytes 8 (length is));
+        place = h;
+        first-is = refl;
+        next-is = refl;
+        inside = omega (arith, n, size, length-leBytes 8 (length is), length-append (intervalsBytes is) rest, length-intervals-bytes is);
+      }
+
+  pub entry-here : (w : Bool) → KeyOk w k → drop at bs ≡ headBytes w k (length is) (intervalsBytes is ++ rest)
+      → EntryHere bs at k is rest (placeAt w bs at)
+  entry-here w ok e = go w ok (part-there bs at 16 (uuidOf k) _ e long) (after-there bs at 16 (uuidOf k) _ e long)
+    where
+      long : length (uuidOf k) ≡ 16
+      long = uuid-length k (ok .good .whole)
+
+      none : (t : List ℕ) → length t ≡ 0 → counted ≡ t ++ counted
+      none [] h = refl
+      none (x ∷ t) h = absurd (omega arith)
+
+      go : (w : Bool) → KeyOk w k → part bs at 16 ≡ uuidOf k → drop (at + 16) bs ≡ tagBytes w (tagOf k) ++ counted
+          → EntryHere bs at k is rest (placeAt w bs at)
+      go false ok u d = from-tag (at + 16) 0 u (omega arith) (ok .plain refl) (d ∙ none (tagOf k) (ok .plain refl))
+      go true ok u d =
+          let short = none-or-tag-short (tagOf k) (ok .good .rule) in
+          let d′ : drop (at + 16) bs ≡ (2 * length (tagOf k) ∷ []) ++ (tagOf k ++ counted) = d ∙ rw (one-byte (length (tagOf k)) (omega arith)) in
+          let b : getD bs (at + 16) 0 ≡ 2 * length (tagOf k) = byte-there bs (at + 16) (2 * length (tagOf k)) (tagOf k ++ counted) d′ in
+          let m : at + 16 + 1 ≡ at + 17 = omega arith in
+          from-tag (at + 17) (getD bs (at + 16) 0 / 2) u (omega arith) (omega arith)
+          (rw m at (after-there bs (at + 16) 1 (2 * length (tagOf k) ∷ []) (tagOf k ++ counted) d′ refl))
+
+-- ---- what the code makes of an entry
+
+pub place-made : (bs : List ℕ) (at len n : ℕ) → n ≡ numberAt bs (at + len)
+    → _≡_ {A = EntryPlace} (record { «tag_at» = at; «tag_len» = len; count = n; first = at + len + 8; next = at + len + 8 + 16 * n }) (placeFrom bs at len)
+place-made bs at len n e = rw e
+
+module _ (bs : List ℕ) (w : Bool) (at : ℕ) where
+  pub tagged-inside : (b : ℕ) → w ≡ true → b ≡ getD bs (at + 16) 0 → placeAt w bs at .next ≤ length bs → placeFrom bs (at + 17) (b / 2) .next ≤ length bs
+  tagged-inside b e d h = rw d (rw e at h)
+
+  pub plain-inside : w ≡ false → placeAt w bs at .next ≤ length bs → placeFrom bs (at + 16) 0 .next ≤ length bs
+  plain-inside e h = rw e at h
+
+  pub place-tagged : (p : EntryPlace) (b : ℕ) → w ≡ true → b ≡ getD bs (at + 16) 0 → p ≡ placeFrom bs (at + 17) (b / 2) → p ≡ placeAt w bs at
+  place-tagged p b e d h = h ∙ rw (e, d)
+
+  pub place-plain : (p : EntryPlace) → w ≡ false → p ≡ placeFrom bs (at + 16) 0 → p ≡ placeAt w bs at
+  place-plain p e h = h ∙ rw e
+
+  -- some bytes at least are there
+  pub place-far : placeAt w bs at .next ≤ length bs → at + 24 ≤ length bs
+  place-far h = go w h
+    where
+      go : (v : Bool) → placeAt v bs at .next ≤ length bs → at + 24 ≤ length bs
+      go true k = omega arith
+      go false k = omega arith
+
+-- ---- entries one after another
+
+pub intervals-append : (s t : List Entry) → intervals (s ++ t) ≡ intervals s + intervals t
+intervals-append [] t = omega arith
+intervals-append (entry k is ∷ s) t = rw (intervals-append s t) (omega arith)
+
+any-append : (s t : List Entry) → anyTag (s ++ t) ≡ (anyTag s || anyTag t)
+unfolding anyTag
+any-append [] t = refl
+any-append (entry k is ∷ s) t = rw (any-append s t) (sym (or-assoc (ltb 0 (length (tagOf k))) (anyTag s) (anyTag t)))
+
+good-snoc : (k : Key) (is : List Interval) (s : List Entry) → GoodKeys s → GoodKey k → GoodKeys (s ++ (entry k is ∷ []))
+good-snoc k is [] h g = (g, tt)
+good-snoc k is (entry j js ∷ s) h g = (h .0, good-snoc k is s (h .1) g)
+
+-- an entry without a tag before others without
+untagged-parts : (k : Key) (is : List Interval) (s : List Entry) → anyTag (entry k is ∷ s) ≡ false → (anyTag (entry k is ∷ []) ≡ false) × (anyTag s ≡ false)
+unfolding anyTag
+untagged-parts k is s h =
+    let (a, b) = or-false-parts (ltb 0 (length (tagOf k))) (anyTag s) h in
+    (or-false (ltb 0 (length (tagOf k))) ∙ a, b)
+
+-- the entries of front are before the key and end at a place; those of back stand from there on
+pub record Stand (bs : List ℕ) (w : Bool) (k : Key) (s : List Entry) (done at : ℕ) (front back : List Entry) : Type 0 where
+  pub entries : length s ≡ length front + length back
+  pub total : intervals s ≡ intervals front + intervals back
+  pub count : length front ≡ done
+  pub bytes : drop 8 bs ≡ entriesBytes w front ++ drop at bs
+  pub rest : drop at bs ≡ entriesBytes w back
+  pub joins : (a b : ℕ) → join k a b s ≡ front ++ join k a b back
+  pub member : (n : ℕ) → has s k n ≡ has back k n
+  pub formed : SetForm back
+  pub keyed : GoodKeys back
+  pub before-keyed : GoodKeys front
+  pub before-tags : w ≡ false → anyTag front ≡ false
+  pub tags : w ≡ false → anyTag back ≡ false
+  pub few : intervals back ≤ maxIntervals
+  pub place : 8 + length (entriesBytes w front) ≡ at
+  pub inside : at ≤ length bs
+
+pub record Passed (bs : List ℕ) (w : Bool) (k : Key) (s : List Entry) (done at : ℕ) : Type 0 where
+  pub front : List Entry
+  pub back : List Entry
+  pub stand : Stand bs w k s done at front back
+
+pub passed-none : (bs : List ℕ) (w : Bool) (n : ℕ) (k : Key) → IsSet bs w n → Passed bs w k (setOf bs) 0 8
+unfolding bodyBytes entriesBytes anyTag
+passed-none bs w n k h =
+    let s : List Entry = setOf bs in
+    let l : Lends bs s = lent-is bs s (h .lent) in
+    let (a, b) = limits-says s (l .limited) in
+    let e : bs ≡ headerBytes w (length s) ++ entriesBytes w s = l .written ∙ ap (λ (v : Bool). headerBytes v (length s) ++ entriesBytes v s) (h .tags) in
+    let size : length bs ≡ length (headerBytes w (length s)) + length (entriesBytes w s) = ap length e ∙ length-append (headerBytes w (length s)) (entriesBytes w s) in
+    record {
+      front = [];
+      back = s;
+      stand = record {
+        entries = omega arith;
+        total = omega arith;
+        count = refl;
+        bytes = refl;
+        rest = ap (drop 8) e ∙ drop-at (headerBytes w (length s)) (entriesBytes w s) 8 (length-header w (length s));
+        joins = λ a b. refl;
+        member = λ n. refl;
+        formed = l .formed;
+        keyed = l .keyed;
+        before-keyed = tt;
+        before-tags = λ _. refl;
+        tags = λ f. h .tags ∙ f;
+        few = b;
+        place = refl;
+        inside = omega (arith, length-header w (length s));
+      };
+    }
+
+-- one entry at least is left
+pub record Ahead (bs : List ℕ) (w : Bool) (k : Key) (s : List Entry) (done at : ℕ) : Type 0 where
+  pub front : List Entry
+  pub key : Key
+  pub is : List Interval
+  pub back : List Entry
+  pub stand : Stand bs w k s done at front (entry key is ∷ back)
+
+module _ (bs : List ℕ) (w : Bool) (k : Key) (s : List Entry) (done at : ℕ) where
+  pub ahead : Passed bs w k s done at → done < length s → Ahead bs w k s done at
+  ahead p h = go (p .back) (p .stand)
+    where
+      go : (back : List Entry) → Stand bs w k s done at (p .front) back → Ahead bs w k s done at
+      go [] x = absurd (omega (arith, x .entries, x .count))
+      go (entry j is ∷ t) x = record { front = p .front; key = j; is = is; back = t; stand = x }
+
+  abbrev absentAt : Found
+  absentAt = record { index = done; at = at; here = false; count = 0; first = at; next = at }
+
+  -- the key is not there, and goes between front and back
+  absent : (front back : List Entry) → Stand bs w k s done at front back
+      → ((a b : ℕ) → join k a b back ≡ entry k (insert a b []) ∷ back) → ((n : ℕ) → has back k n ≡ false) → FoundIs bs w k s absentAt
+  absent front back x joins misses = record {
+    front = front;
+    back = back;
+    joins = λ a b. x .joins a b ∙ rw (joins a b);
+    member = λ n. x .member n ∙ misses n;
+    gapped = tt;
+    index = sym (x .count);
+    entries = omega (arith, x .entries);
+    total = omega (arith, x .total);
+    front-bytes = x .bytes;
+    back-bytes = x .rest;
+    place = omega (arith, x .place);
+    order = omega arith;
+    end = omega arith;
+    inside = x .inside;
+    tags = (x .before-tags, x .tags);
+    keyed = (x .before-keyed, x .keyed);
+    few = omega arith;
+    plain = λ e. clash e refl;
+    length-front = x .place;
+  }
+
+  pub passed-all : Passed bs w k s done at → length s ≤ done → FoundIs bs w k s absentAt
+  passed-all p h = go (p .back) (p .stand)
+    where
+      go : (back : List Entry) → Stand bs w k s done at (p .front) back → FoundIs bs w k s absentAt
+      go [] x = absent (p .front) [] x (λ a b. refl) (λ n. refl)
+      go (entry j is ∷ t) x = absurd (omega (arith, x .entries, x .count))
+
+  module _ (x : Ahead bs w k s done at) where
+    abbrev v : Stand bs w k s done at (x .front) (entry (x .key) (x .is) ∷ x .back)
+    v = x .stand
+
+    ok : KeyOk w (x .key)
+    unfolding anyTag
+    ok = record {
+      good = v .keyed .0;
+      plain = λ f.
+          let a = or-false-parts (ltb 0 (length (tagOf (x .key)))) (anyTag (x .back)) (v .tags f) .0 in
+          let b = borrow.Author.Tests.ltb-false 0 (length (tagOf (x .key))) a in
+          omega arith;
+    }
+
+    pub here : EntryHere bs at (x .key) (x .is) (entriesBytes w (x .back)) (placeAt w bs at)
+    here = entry-here bs at (x .key) (x .is) (entriesBytes w (x .back)) (omega (arith, v .few, maxIntervals-is)) w ok
+        (v .rest ∙ entries-head w (x .key) (x .is) (x .back))
+
+    module _ (p : EntryPlace) (e : p ≡ placeAt w bs at) where
+      pub stands : EntryHere bs at (x .key) (x .is) (entriesBytes w (x .back)) p
+      stands = rw e here
+
+      same-intervals : intervalsAt (p .count) bs (p .first) ≡ x .is
+      same-intervals =
+          rw (stands .count) (intervals-there bs (p .first) (x .is) (entriesBytes w (x .back)) (stands .after) (gapped-wide 0 (x .is) (v .formed .1)))
+
+      next-bytes : drop (p .next) bs ≡ entriesBytes w (x .back)
+      next-bytes =
+          rw (stands .next-is)
+          (after-there bs (p .first) (16 * p .count) (intervalsBytes (x .is)) (entriesBytes w (x .back)) (stands .after)
+          (length-intervals-bytes (x .is) ∙ ap (λ (m : ℕ). 16 * m) (sym (stands .count))))
+
+      module _ (u t : List ℕ) (made : k ≡ u ++ t) (long : length u ≡ 16) (told : KeyOrder)
+          (is : told ≡ orderRead (orElse (order (part bs at 16) u) (order (part bs (p .«tag_at») (p .«tag_len»)) t))) where
+        found : orderRead (order (x .key) k) ≡ told
+        found = sym (
+            is
+            ∙ ap orderRead (sym (order-append (part bs at 16) u (part bs (p .«tag_at») (p .«tag_len»)) t
+            (part-length 16 bs at (omega (arith, stands .place, stands .first-is, stands .next-is, stands .inside)) ∙ sym long)))
+            ∙ rw (made, stands .uuid-there, stands .tag-there, ← key-made (x .key))
+            )
+
+        -- the entry is before the key
+        pub passed-next : told ≡ Before → Passed bs w k s (done + 1) (p .next)
+        unfolding entriesBytes
+        passed-next before =
+            let lower : x .key ≺ k = says-before (order (x .key) k) (found ∙ before) in
+            let e : Entry = entry (x .key) (x .is) in
+            let all : entriesBytes w (x .front ++ (e ∷ [])) ++ drop (p .next) bs ≡ entriesBytes w (x .front) ++ drop at bs =
+            rw (entriesBytes-append w (x .front) (e ∷ []), append-assoc (entriesBytes w (x .front)) (entriesBytes w (e ∷ [])) (drop (p .next) bs), v .rest, next-bytes)
+            (ap (λ (y : List ℕ). entriesBytes w (x .front) ++ y) (sym (entriesBytes-append w (e ∷ []) (x .back)))) in
+            let size : length (entriesBytes w (e ∷ [])) + length (entriesBytes w (x .back)) ≡ length bs - at =
+            sym (length-append (entriesBytes w (e ∷ [])) (entriesBytes w (x .back))) ∙ ap length (sym (entriesBytes-append w (e ∷ []) (x .back))) ∙ ap length (sym (v .rest)) ∙ length-drop at bs in
+            let left : length (entriesBytes w (x .back)) ≡ length bs - p .next = ap length (sym next-bytes) ∙ length-drop (p .next) bs in
+            let h = stands in
+            record {
+              front = x .front ++ (e ∷ []);
+              back = x .back;
+              stand = record {
+                entries = rw (length-append (x .front) (e ∷ [])) (omega (arith, v .entries));
+                total = rw (intervals-append (x .front) (e ∷ [])) (omega (arith, v .total));
+                count = rw (length-append (x .front) (e ∷ [])) (omega (arith, v .count));
+                bytes = v .bytes ∙ sym all;
+                rest = next-bytes;
+                joins = λ a b. v .joins a b ∙ rw (join-after k (x .key) a b (x .is) (x .back) lower) (sym (append-snoc (x .front) e (join k a b (x .back))));
+                member = λ n. v .member n ∙ rw (after-not-same (x .key) k lower);
+                formed = v .formed .3;
+                keyed = v .keyed .1;
+                before-keyed = good-snoc (x .key) (x .is) (x .front) (v .before-keyed) (v .keyed .0);
+                before-tags = λ f. any-append (x .front) (e ∷ []) ∙ rw (v .before-tags f, untagged-parts (x .key) (x .is) (x .back) (v .tags f) .0);
+                tags = λ f. untagged-parts (x .key) (x .is) (x .back) (v .tags f) .1;
+                few = omega (arith, v .few);
+                place = rw (entriesBytes-append w (x .front) (e ∷ []), length-append (entriesBytes w (x .front)) (entriesBytes w (e ∷ []))) (omega (arith, v .place, size, left, h .inside, v .inside));
+                inside = h .inside;
+              };
+            }
+
+        -- the entry is the key's
+        pub found-here : told ≡ Same
+            → FoundIs bs w k s (record { index = done; at = at; here = true; count = p .count; first = p .first; next = p .next })
+        found-here same =
+            let mine : x .key ≡ k = order-eq (x .key) k (says-same (order (x .key) k) (found ∙ same)) in
+            let f : SetForm (entry k (x .is) ∷ x .back) = rw mine at (v .formed) in
+            let h = stands in
+            record {
+              front = x .front;
+              back = x .back;
+              joins = λ a b. v .joins a b ∙ rw (mine, join-into k a b (x .is) (x .back), same-intervals);
+              member = λ n. v .member n ∙ rw (mine, entry-has k (x .is) (x .back) n f, same-intervals);
+              gapped = rw same-intervals (v .formed .1);
+              index = sym (v .count);
+              entries = omega (arith, v .entries);
+              total = omega (arith, v .total, h .count);
+              front-bytes = v .bytes;
+              back-bytes = next-bytes;
+              place = omega (arith, v .place);
+              order = omega (arith, h .place, h .first-is);
+              end = h .next-is;
+              inside = h .inside;
+              keyed = (v .before-keyed, v .keyed .1);
+              tags = (v .before-tags, λ f. untagged-parts (x .key) (x .is) (x .back) (v .tags f) .1);
+              few = omega (arith, v .few, h .count);
+              plain = λ _ f. rw mine at (ok .plain f);
+              length-front = v .place;
+            }
+
+        -- the entry is after the key
+        pub found-absent : told ≡ After → FoundIs bs w k s (record { index = done; at = at; here = false; count = 0; first = at; next = at })
+        found-absent after =
+            let higher : k ≺ x .key = order-flip (x .key) k ∙ ap flip (says-after (order (x .key) k) (found ∙ after)) in
+            absent (x .front) (entry (x .key) (x .is) ∷ x .back) v
+            (λ a b. join-before k (x .key) a b (x .is) (x .back) higher)
+            (λ n. above-misses k (entry (x .key) (x .is) ∷ x .back) n higher (v .formed))

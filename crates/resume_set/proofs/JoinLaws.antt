@@ -1,0 +1,336 @@
+-- Laws of a plan: the runs of the set after an interval is joined.
+use Prim.Native.Nat.{ℕ, zero, suc, _+_, _-_, _*_, _<_, _≤_}
+use mathlib.Core.Path.{_≡_, refl, sym, ap, _∙_}
+use mathlib.Core.Bool.{Bool, true, false, not, _&&_, _||_, or-comm}
+use mathlib.Core.List.{List, [], _∷_, _++_, append-assoc, append-nil}
+use native.Mathlib.Nat.{suc-sub-suc}
+use native.Mathlib.Omega.{arith}
+use borrow.Author.Tests.{le-ltb, ltb-false}
+use lib.Dec.{ltb}
+use lib.ListN.{length, take, drop, length-append, length-drop}
+use lib.Seq.{take-at, drop-at, drop-length}
+use Rattle.misc.specs.Parse.{part}
+use Rattle.misc.specs.Le.{leBytes}
+use Rattle.misc.specs.Varlen.{varlenBytes}
+use Rattle.misc.proofs.LeLaws.{length-leBytes}
+use Rattle.packets.specs.Gno.{Interval, interval}
+use Rattle.packets.specs.Key.{Key}
+use Rattle.packets.proofs.Tests.{split, clash}
+use Rattle.packets.proofs.Keys.{key-cases}
+use Rattle.previous_gtids_event.specs.Entry.{Entry, entry, uuidOf, tagOf}
+use Rattle.previous_gtids_event.specs.Rewrite.{intervalsBytes, tagBytes, entriesBytes, anyTag, headerBytes, bodyBytes}
+use Rattle.gtid_sets.specs.Interval.{Gapped, insert}
+use Rattle.gtid_sets.specs.Set.{join}
+use Rattle.gtid_sets.specs.Limits.{maxIntervals, intervals}
+use Rattle.gtid_sets.specs.Lent.{GoodKeys}
+use Rattle.gtid_sets.specs.Splice.{earlier, takenUp, reach, from}
+use Rattle.gtid_sets.proofs.Bools.{or-swap, or-false-parts}
+use Rattle.gtid_sets.proofs.SetLaws.{join-before, join-into, join-after}
+use Rattle.gtid_sets.proofs.SpliceLaws.{insert-splice}
+use Rattle.gtid_sets.proofs.LimitLaws.{maxEntries-is, maxIntervals-is, longestSet-is, limits-says}
+use Rattle.previous_gtids_event.proofs.Writing.{length-header, length-intervals-bytes}
+use Rattle.gtid_sets.proofs.ByteLaws.{intervalsBytes-append, entriesBytes-append}
+use Rattle.gtid_sets.proofs.LentLaws.{Lends, lent-is, lent-short}
+use Rattle.set_check.specs.Places.{numberAt, intervalsAt}
+use Rattle.set_check.specs.Head.{headBytes}
+use Rattle.set_check.proofs.PlaceLaws.{Bytes, part-there, after-there, number-there, intervals-count, intervals-stand, one-byte}
+use Rattle.set_check.proofs.HeadLaws.{uuid-length}
+use Rattle.set_check.proofs.RestLaws.{entries-head}
+use Rattle.resume_set.specs.Find.{setOf, IsSet, added, old, FoundIs}
+use Rattle.resume_set.specs.Put.{widerRun, widened, Untagged, entriesRun, EntriesThere}
+use Rattle.resume_set.specs.Join.{extra, SpliceIs, planRuns, PlanIs}
+use Rattle.resume_set.specs.declared.Found.{Found}
+use Rattle.resume_set.specs.declared.Splice.{Splice}
+use Rattle.resume_set.specs.declared.Plan.{Plan}
+use Rattle.resume_set.proofs.FindLaws.{intervals-append}
+
+-- ---- a splice at a place
+
+take-intervals : (e n : ℕ) (bs : List ℕ) (at : ℕ) → e ≤ n → take e (intervalsAt n bs at) ≡ intervalsAt e bs at
+take-intervals zero n bs at h = refl
+take-intervals (suc e) zero bs at h = absurd (omega arith)
+take-intervals (suc e) (suc n) bs at h =
+    ap (λ (is : List Interval). interval (numberAt bs at) (numberAt bs (at + 8)) ∷ is) (take-intervals e n bs (at + 16) (omega arith))
+
+drop-intervals : (e n at : ℕ) (bs : List ℕ) → e ≤ n → drop e (intervalsAt n bs at) ≡ intervalsAt (n - e) bs (at + 16 * e)
+drop-intervals zero n at bs h =
+    let z : n - 0 ≡ n = omega arith in
+    let y : at + 16 * 0 ≡ at = omega arith in
+    rw (z, y)
+drop-intervals (suc e) zero at bs h = absurd (omega arith)
+drop-intervals (suc e) (suc n) at bs h =
+    let y : at + 16 * suc e ≡ at + 16 + 16 * e = omega arith in
+    rw (suc-sub-suc n e, y) (drop-intervals e n (at + 16) bs (omega arith))
+
+intervals-part : (bs : List ℕ) → Bytes bs → (n at : ℕ) → at + 16 * n ≤ length bs → intervalsBytes (intervalsAt n bs at) ≡ part bs at (16 * n)
+intervals-part bs ok n at h =
+    sym (part-there bs at (16 * n) (intervalsBytes (intervalsAt n bs at)) (drop (at + 16 * n) bs) (intervals-stand bs ok n at h)
+    (length-intervals-bytes (intervalsAt n bs at) ∙ ap (λ (m : ℕ). 16 * m) (intervals-count n bs at)))
+
+module _ (bs : List ℕ) (ok : Bytes bs) (first count a b : ℕ) (there : first + 16 * count ≤ length bs) (g : Gapped 0 (intervalsAt count bs first)) (o : a < b)
+    (before taken start end : ℕ) (p : before ≡ earlier a (intervalsAt count bs first)) (few : before ≤ count)
+    (q : taken ≡ takenUp b (intervalsAt (count - before) bs (first + 16 * before))) (less : taken ≤ count - before)
+    (x : start ≡ from a b (intervalsAt (count - before) bs (first + 16 * before)))
+    (y : end ≡ reach b (intervalsAt (count - before) bs (first + 16 * before))) where
+  abbrev rest : List Interval
+  rest = intervalsAt (count - before - taken) bs (first + 16 * (before + taken))
+
+  inserted : insert a b (intervalsAt count bs first) ≡ intervalsAt before bs first ++ (interval start end ∷ rest)
+  inserted =
+      let m : first + 16 * before + 16 * taken ≡ first + 16 * (before + taken) = omega arith in
+      insert-splice 0 a b (intervalsAt count bs first) o g
+      ∙ rw (
+        ← p,
+        drop-intervals before count first bs few,
+        ← q,
+        ← x,
+        ← y,
+        take-intervals before count bs first few,
+        drop-intervals taken (count - before) (first + 16 * before) bs less,
+        m,
+      )
+
+  pub splice-is : SpliceIs bs first count a b (record { before = before; taken = taken; start = start; end = end })
+  unfolding intervalsBytes
+  splice-is = record {
+    inside = omega arith;
+    bytes = rw (
+      inserted,
+      intervalsBytes-append (intervalsAt before bs first) (interval start end ∷ rest),
+      intervals-part bs ok before first (omega arith),
+      intervals-part bs ok (count - before - taken) (first + 16 * (before + taken)) (omega arith),
+    )
+        (simp append-assoc);
+    count-is = rw (
+      inserted,
+      length-append (intervalsAt before bs first) (interval start end ∷ rest),
+      intervals-count before bs first,
+      intervals-count (count - before - taken) bs (first + 16 * (before + taken)),
+    ) (omega arith);
+  }
+
+-- ---- entries as they are, and widened
+
+widened-more : (n : ℕ) (bs : List ℕ) (at c : ℕ) → numberAt bs (at + 16) ≡ c
+    → widened (suc n) bs at ≡ widerRun bs at c ++ widened n bs (at + (24 + 16 * c))
+unfolding widened
+widened-more n bs at c e = rw e
+
+no-bytes : (t : List ℕ) → length t ≡ 0 → t ≡ []
+no-bytes [] h = refl
+no-bytes (x ∷ t) h = absurd (omega arith)
+
+record Wider (bs : List ℕ) (from : ℕ) (es : List Entry) : Type 0 where
+  run : widened (length es) bs from ≡ entriesBytes true es
+  there : Untagged (length es) bs from
+  size : length (entriesBytes true es) ≡ length (entriesBytes false es) + length es
+
+widened-is : (bs : List ℕ) (from : ℕ) (es : List Entry) (r : List ℕ) → drop from bs ≡ entriesBytes false es ++ r → anyTag es ≡ false → GoodKeys es
+    → intervals es ≤ maxIntervals → Wider bs from es
+unfolding widened entriesBytes anyTag
+widened-is bs from [] r e t k l = record { run = refl; there = tt; size = refl }
+widened-is bs from (entry k is ∷ es) r e t h l =
+    let c : ℕ = length is in
+    let (p, q) = or-false-parts (ltb 0 (length (tagOf k))) (anyTag es) t in
+    let none : tagOf k ≡ [] = no-bytes (tagOf k) (omega (arith, ltb-false 0 (length (tagOf k)) p)) in
+    let ul : length (uuidOf k) ≡ 16 = uuid-length k (h .0 .whole) in
+    let rest : List ℕ = entriesBytes false es ++ r in
+    let run : List ℕ = leBytes 8 c ++ intervalsBytes is in
+    let rl : length run ≡ 8 + 16 * c = length-append (leBytes 8 c) (intervalsBytes is) ∙ omega (arith, length-leBytes 8 c, length-intervals-bytes is) in
+    let e₁ : drop from bs ≡ uuidOf k ++ (run ++ rest) = e ∙ ap (λ (y : List ℕ). y ++ r) (entries-head false k is es) ∙ simp append-assoc in
+    let e₂ : drop (from + 16) bs ≡ run ++ rest = after-there bs from 16 (uuidOf k) (run ++ rest) e₁ ul in
+    let e₃ : drop (from + 16) bs ≡ leBytes 8 c ++ (intervalsBytes is ++ rest) = e₂ ∙ append-assoc (leBytes 8 c) (intervalsBytes is) rest in
+    let num : numberAt bs (from + 16) ≡ c = number-there bs (from + 16) c (intervalsBytes is ++ rest) e₃ (omega (arith, maxIntervals-is)) in
+    let m : from + 16 + (8 + 16 * c) ≡ from + (24 + 16 * c) = omega arith in
+    let e₄ : drop (from + (24 + 16 * c)) bs ≡ rest = ap (λ (i : ℕ). drop i bs) (sym m) ∙ after-there bs (from + 16) (8 + 16 * c) run rest e₂ rl in
+    let w : Wider bs (from + (24 + 16 * c)) es = widened-is bs (from + (24 + 16 * c)) es r e₄ q (h .1) (omega arith) in
+    let left : length bs - from ≡ 16 + (8 + 16 * c + length rest) =
+    sym (length-drop from bs) ∙ ap length e₁ ∙ length-append (uuidOf k) (run ++ rest) ∙ rw (ul, length-append run rest, rl) in
+    let wide : entriesBytes true (entry k is ∷ es) ≡ uuidOf k ++ (varlenBytes 0 ++ (run ++ entriesBytes true es)) =
+    entries-head true k is es ∙ rw none (simp append-assoc) in
+    let plain : entriesBytes false (entry k is ∷ es) ≡ uuidOf k ++ (run ++ entriesBytes false es) = entries-head false k is es ∙ simp append-assoc in
+    let byte : length (varlenBytes 0) ≡ 1 = ap length (one-byte 0 (omega arith)) in
+    record {
+      run =
+          widened-more (length es) bs from c num
+          ∙ rw (part-there bs from 16 (uuidOf k) (run ++ rest) e₁ ul, part-there bs (from + 16) (8 + 16 * c) run rest e₂ rl, w .run)
+          (simp append-assoc (sym (wide ∙ simp append-assoc)));
+      there = rw num (omega arith, w .there);
+      size = rw (wide, plain) (simp length-append (omega (arith, byte, w .size)));
+    }
+
+record RunIs (bs : List ℕ) (w v : Bool) (es : List Entry) (from to : ℕ) : Type 0 where
+  run : entriesBytes v es ≡ entriesRun (v && not w) bs from to (length es)
+  there : EntriesThere (v && not w) bs from to (length es)
+  size : length (entriesBytes v es) ≡ to - from + extra (v && not w) (length es)
+
+run-is : (bs : List ℕ) (w v : Bool) (es : List Entry) (from to : ℕ) → drop from bs ≡ entriesBytes w es ++ drop to bs
+    → from + length (entriesBytes w es) ≡ to → to ≤ length bs
+    → (w ≡ false → anyTag es ≡ false) → GoodKeys es → intervals es ≤ maxIntervals → (w ≡ true → v ≡ true) → RunIs bs w v es from to
+run-is bs true false es from to e l h t k i o = clash (o refl) refl
+run-is bs true true es from to e l h t k i o = record {
+  run = sym (part-there bs from (to - from) (entriesBytes true es) (drop to bs) e (omega arith));
+  there = (omega arith, h);
+  size = omega arith;
+}
+run-is bs false false es from to e l h t k i o = record {
+  run = sym (part-there bs from (to - from) (entriesBytes false es) (drop to bs) e (omega arith));
+  there = (omega arith, h);
+  size = omega arith;
+}
+run-is bs false true es from to e l h t k i o =
+    let w : Wider bs from es = widened-is bs from es (drop to bs) e (t refl) k i in
+    record { run = sym (w .run); there = w .there; size = omega (arith, w .size) }
+
+-- ---- the set after it
+
+any-join : (k : Key) (a b : ℕ) (s : List Entry) → anyTag (join k a b s) ≡ (ltb 0 (length (tagOf k)) || anyTag s)
+unfolding anyTag
+any-join k a b [] = refl
+any-join k a b (entry j is ∷ s) = key-cases k j
+    (λ p. rw (join-before k j a b is s p))
+    (λ p. rw (← p, join-into k a b is s) (again (ltb 0 (length (tagOf k))) (anyTag s)))
+    (λ p. rw (join-after k j a b is s p, any-join k a b s) (or-swap (ltb 0 (length (tagOf j))) (ltb 0 (length (tagOf k))) (anyTag s)))
+  where
+    again : (x y : Bool) → (x || y) ≡ (x || (x || y))
+    again true y = refl
+    again false y = refl
+
+pub record Small (bs : List ℕ) (n : ℕ) : Type 0 where
+  pub few : n ≤ 256
+  pub total : intervals (setOf bs) ≤ maxIntervals
+  pub long : length bs ≤ 47368
+
+pub set-small : (bs : List ℕ) (w : Bool) (n : ℕ) → IsSet bs w n → Small bs n
+set-small bs w n h =
+    let l : Lends bs (setOf bs) = lent-is bs (setOf bs) (h .lent) in
+    let (x, y) = limits-says (setOf bs) (l .limited) in
+    record { few = omega (arith, h .count, maxEntries-is); total = y; long = omega (arith, lent-short bs (setOf bs) (h .lent), longestSet-is) }
+
+tag-length : (v : Bool) (t : List ℕ) → length t ≤ 32 → length (tagBytes v t) ≡ extra v (1 + length t)
+tag-length true t h = rw (one-byte (length t) (omega arith)) (omega arith)
+tag-length false t h = refl
+
+implied : (w x : Bool) → w ≡ true → (w || x) ≡ true
+implied true x e = refl
+implied false x e = clash e refl
+
+added-is : (h : Bool) → added h ≡ extra (not h) 1
+added-is true = refl
+added-is false = refl
+
+added-few : (h : Bool) → added h ≤ 1
+added-few true = omega arith
+added-few false = omega arith
+
+-- only a key that is not there can widen a set
+wide-sum : (w here : Bool) (n x y m : ℕ) → (here ≡ true → w ≡ false → m ≡ 0) → n + added here ≡ x + (1 + y)
+    → extra ((w || ltb 0 m) && not w) x + extra ((w || ltb 0 m) && not w) y ≡ extra ((w || ltb 0 m) && not w) n
+wide-sum true here n x y m h e = go (ltb 0 m)
+  where
+    go : (z : Bool) → extra ((true || z) && false) x + extra ((true || z) && false) y ≡ extra ((true || z) && false) n
+    go true = refl
+    go false = refl
+wide-sum false true n x y m h e = let l = h refl refl in rw (le-ltb 0 m (omega arith))
+wide-sum false false n x y m h e = split (ltb 0 m) (λ p. rw p (omega arith)) (λ p. rw p)
+
+module _ (bs : List ℕ) (w : Bool) (n : ℕ) (lent : IsSet bs w n) (u t : List ℕ) (long : length u ≡ 16) (short : length t ≤ 32) (a b : ℕ)
+    (f : Found) (is : FoundIs bs w (u ++ t) (setOf bs) f) (p : Splice) (si : SpliceIs bs (f .first) (f .count) a b p) where
+  abbrev v : Bool
+  v = w || ltb 0 (length t)
+
+  abbrev held : ℕ
+  held = f .count - p .taken + 1
+
+  abbrev new : List Interval
+  new = insert a b (old bs f)
+
+  small : Small bs n
+  small = set-small bs w n lent
+
+  parts : (uuidOf (u ++ t) ≡ u) × (tagOf (u ++ t) ≡ t)
+  unfolding uuidOf tagOf
+  parts = (take-at u t 16 long, drop-at u t 16 long)
+
+  after : List Entry
+  after = join (u ++ t) a b (setOf bs)
+
+  after-tags : anyTag after ≡ v
+  unfolding after
+  after-tags = any-join (u ++ t) a b (setOf bs) ∙ rw (parts .1, lent .tags) (or-comm (ltb 0 (length t)) w)
+
+  front-run : RunIs bs w v (is .front) 8 (f .at)
+  front-run = run-is bs w v (is .front) 8 (f .at) (is .front-bytes) (is .length-front) (omega (arith, is .order, is .end, is .inside)) (is .tags .0) (is .keyed .0)
+      (omega (arith, is .total, small .total)) (implied w (ltb 0 (length t)))
+
+  back-length : length (entriesBytes w (is .back)) ≡ length bs - f .next
+  back-length = ap length (sym (is .back-bytes)) ∙ length-drop (f .next) bs
+
+  back-run : RunIs bs w v (is .back) (f .next) (length bs)
+  back-run = run-is bs w v (is .back) (f .next) (length bs) (is .back-bytes ∙ rw (drop-length bs) (sym (append-nil (entriesBytes w (is .back)))))
+      (omega (arith, back-length, is .inside)) (omega arith) (is .tags .1) (is .keyed .1)
+      (omega (arith, is .total, small .total)) (implied w (ltb 0 (length t)))
+
+  after-length : length after ≡ n + extra (not (f .here)) 1
+  unfolding after
+  after-length = rw (is .joins a b, length-append (is .front) (entry (u ++ t) new ∷ is .back)) (omega (arith, is .entries, added-is (f .here), lent .count))
+
+  -- the bytes of the set after it: its entries are those before, one, and those after
+  after-bytes : bodyBytes after ≡ headerBytes v (length after) ++ (entriesBytes v (is .front) ++ headBytes v (u ++ t) (length new) (intervalsBytes new ++ entriesBytes v (is .back)))
+  unfolding bodyBytes after
+  after-bytes = rw (after-tags) (ap (λ (x : List ℕ). headerBytes v (length (join (u ++ t) a b (setOf bs))) ++ x)
+      (ap (entriesBytes v) (is .joins a b) ∙ entriesBytes-append v (is .front) (entry (u ++ t) new ∷ is .back)
+      ∙ ap (λ (x : List ℕ). entriesBytes v (is .front) ++ x) (entries-head v (u ++ t) new (is .back))))
+
+  module _ (len entries total : ℕ) (e₁ : len ≡ f .at + (24 + extra v (1 + length t) + 16 * held) + (length bs - f .next) + extra (v && not w) n)
+      (e₂ : entries ≡ n + extra (not (f .here)) 1) (e₃ : intervals (setOf bs) ≡ total) where
+    abbrev plan : Plan
+    plan = record { tags = v; widen = v && not w; entries = entries; intervals = total - p .taken + 1; len = len; found = f; splice = p }
+
+    back-count : entries - (1 + f .index) ≡ length (is .back)
+    back-count = omega (arith, e₂, is .entries, added-is (f .here), is .index, lent .count)
+
+    plan-bytes : bodyBytes after ≡ planRuns bs u t plan
+    plan-bytes =
+        after-bytes
+        ∙ rw (after-length, ← e₂, parts .0, parts .1, si .count-is, si .bytes, front-run .run, back-run .run, ← is .index, back-count)
+        (simp append-assoc)
+
+    plan-size : length (bodyBytes after) ≡ len
+    plan-size =
+        let wide = wide-sum w (f .here) n (length (is .front)) (length (is .back)) (length t)
+        (λ x y. rw (parts .1) at (is .plain x y)) (rw (lent .count) at (is .entries)) in
+        ap length after-bytes
+        ∙ rw (parts .0, parts .1)
+        (simp length-append (omega (
+          arith,
+          e₁,
+          length-header v (length after),
+          front-run .size,
+          back-run .size,
+          long,
+          tag-length v t short,
+          length-leBytes 8 (length new),
+          length-intervals-bytes new,
+          si .count-is,
+          wide,
+          is .place,
+        )))
+
+    pub plan-is : PlanIs bs u t a b (record { tags = v; widen = v && not w; entries = entries; intervals = total - p .taken + 1; len = len; found = f; splice = p })
+    unfolding after
+    plan-is = record {
+      runs = record {
+        before-there = rw (is .index) (front-run .there);
+        after-there = rw back-count (back-run .there);
+        splice-there = omega (arith, is .end, is .inside);
+        splice-inside = si .inside;
+        index-below = omega (arith, e₂, is .entries, added-is (f .here), is .index, lent .count);
+        few = omega (arith, e₂, added-is (f .here), added-few (f .here), small .few);
+      };
+      bytes = plan-bytes;
+      len-is = sym plan-size;
+      entries-is = e₂ ∙ sym after-length;
+      intervals-is = sym (rw (is .joins a b, intervals-append (is .front) (entry (u ++ t) new ∷ is .back), si .count-is) (omega (arith, is .total, e₃, si .inside)));
+      member = is .member;
+    }

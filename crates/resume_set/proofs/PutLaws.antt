@@ -1,0 +1,87 @@
+-- Laws of runs that are written one after another.
+use Prim.Native.Nat.{ℕ, suc, _+_, _-_, _*_, _^_, _<_, _≤_}
+use mathlib.Core.Path.{_≡_, sym}
+use mathlib.Core.Bool.{Bool, true, false}
+use mathlib.Core.List.{List, [], _++_}
+use lib.ListN.{length}
+use Rattle.misc.specs.Parse.{part}
+use Rattle.misc.specs.Le.{leBytes}
+use Rattle.misc.specs.Varlen.{varlenBytes}
+use Rattle.misc.specs.Output.{WhereFits}
+use Rattle.misc.proofs.OutputLaws.{_also_, nothing-placed}
+use Rattle.previous_gtids_event.specs.Rewrite.{tagBytes, headerBytes}
+use Rattle.set_check.specs.Places.{numberAt}
+use Rattle.set_check.proofs.HeaderLaws.{header-number}
+use Rattle.resume_set.specs.Put.{widerRun, widened, Untagged, entriesRun, EntriesThere}
+
+-- a part of some bytes, its length told in another way
+pub put-part : {l l′ : List ℕ} {at r : ℕ} (s : List ℕ) (from n m : ℕ) → m ≡ n → WhereFits l at (part s from m) l′ r → WhereFits l at (part s from n) l′ r
+put-part s from n m e p = rw e at p
+
+-- no bytes
+pub put-none : (l : List ℕ) (at : ℕ) → WhereFits l at [] l at
+put-none l at = record { placed = λ _. nothing-placed l at }
+
+-- ---- tags
+
+pub tag-put : {l l₁ l₂ : List ℕ} {at at₁ at₂ : ℕ} (tags : Bool) (t : List ℕ) → tags ≡ true
+    → WhereFits l at (varlenBytes (length t)) l₁ at₁ → WhereFits l₁ at₁ t l₂ at₂ → WhereFits l at (tagBytes tags t) l₂ at₂
+tag-put tags t e p q = rw e (p also q)
+
+pub no-tag-put : (tags : Bool) (t l : List ℕ) (at : ℕ) → tags ≡ false → WhereFits l at (tagBytes tags t) l at
+no-tag-put tags t l at e = rw e (put-none l at)
+
+-- ---- the header
+
+pub header-tagged : (tags : Bool) (n : ℕ) → tags ≡ true → n < 2 ^ 48 → leBytes 8 (2 ^ 56 + 1 + 256 * n) ≡ headerBytes tags n
+header-tagged tags n e h = rw e (sym (header-number true n h))
+
+pub header-plain : (tags : Bool) (n : ℕ) → tags ≡ false → n < 2 ^ 48 → leBytes 8 n ≡ headerBytes tags n
+header-plain tags n e h = rw e (sym (header-number false n h))
+
+pub header-put : {l l′ : List ℕ} {at r : ℕ} (w : Bool) (n v : ℕ) → leBytes 8 v ≡ headerBytes w n → WhereFits l at (leBytes 8 v) l′ r
+    → WhereFits l at (headerBytes w n) l′ r
+header-put w n v e p = rw e at p
+
+-- ---- widened entries
+
+widened-more : (n : ℕ) (bs : List ℕ) (at c : ℕ) → c ≡ numberAt bs (at + 16)
+    → widened (suc n) bs at ≡ widerRun bs at c ++ widened n bs (at + (24 + 16 * c))
+unfolding widened
+widened-more n bs at c e = rw e
+
+-- what is left, written on, gives what is wanted
+pub record Widening (bs wanted l₀ : List ℕ) (at left next : ℕ) (out : List ℕ) (put : ℕ) : Type 0 where
+  pub there : Untagged left bs next
+  pub goes-on : (l : List ℕ) (r : ℕ) → WhereFits out put (widened left bs next) l r → WhereFits l₀ at wanted l r
+
+module _ (bs wanted l₀ : List ℕ) (at next : ℕ) (out : List ℕ) (put : ℕ) where
+  pub widening-all : Widening bs wanted l₀ at 0 next out put → WhereFits l₀ at wanted out put
+  unfolding widened
+  widening-all g = g .goes-on out put (put-none out put)
+
+  module _ (n : ℕ) (g : Widening bs wanted l₀ at (suc n) next out put) (c : ℕ) (counted : c ≡ numberAt bs (next + 16)) where
+    pub inside : next + (24 + 16 * c) ≤ length bs
+    inside = rw counted (g .there .0)
+
+    pub widening-turn : (out′ : List ℕ) (r : ℕ) → WhereFits out put (widerRun bs next c) out′ r
+        → Widening bs wanted l₀ at n (next + (24 + 16 * c)) out′ r
+    widening-turn out′ r p = record {
+      there = rw counted (g .there .1);
+      goes-on = λ l q w. g .goes-on l q (rw (widened-more n bs next c counted) (p also w));
+    }
+
+-- ---- entries from a place to another
+
+module _ (w : Bool) (bs : List ℕ) (from to n : ℕ) where
+  pub run-wide : {l l′ : List ℕ} {at r : ℕ} → w ≡ true → WhereFits l at (widened n bs from) l′ r → WhereFits l at (entriesRun w bs from to n) l′ r
+  run-wide e p = rw e p
+
+  pub run-plain : {l l′ : List ℕ} {at r : ℕ} → w ≡ false → WhereFits l at (part bs from (to - from)) l′ r → WhereFits l at (entriesRun w bs from to n) l′ r
+  run-plain e p = rw e p
+
+  pub wide-there : w ≡ true → EntriesThere w bs from to n → Untagged n bs from
+  wide-there e p = rw e at p
+
+  pub plain-there : w ≡ false → EntriesThere w bs from to n → (from ≤ to) × (to ≤ length bs)
+  plain-there e p = rw e at p

@@ -1,0 +1,64 @@
+-- `resume_set::contains` meets its contract.
+use mathlib.Core.Path.{sym, _∙_}
+use native.Mathlib.Omega.{arith}
+use denote.Ref.{now}
+use borrow.Author.Tests.{not-true, not-false}
+use borrow.Author.Needs.{needs}
+use Rattle.resume_set.specs.Find.{Fits}
+use Rattle.resume_set.proofs.AnswerLaws.{check-told, check-unfit, contained-unfit, no-uuid, no-id, is-asked}
+use Rattle.resume_set.proofs.contains.Statement.{statement}
+use Rattle.resume_set.proofs.contains.Tie as tie
+
+-- the set, once it is one
+fits : (c : tie.Else1) → Fits (now (c .before .before .before .before .before .args .set)) (c .before .check .result)
+fits c = check-told (now (c .before .before .before .before .before .args .set)) (c .before .check .result) (c .before .check .ensures) (c .if1 .left)
+
+check-requires : tie.Need-check-requires
+check-requires c κs = search needs
+
+returns : tie.Need-returns
+returns c =
+    let a = c .before .before .before .before .before .args in
+    let (p, q) = check-unfit (now (a .set)) (c .before .check .result) (c .before .check .ensures) (c .if1 .taken) in
+    contained-unfit (now (a .set)) (now (a .uuid)) (now (a .tag)) (a .gno) _ p q
+
+returns-2 : tie.Need-returns-2
+returns-2 c =
+    let a = c .before .before .before .before .before .before .args in
+    no-uuid (now (a .set)) (now (a .uuid)) (now (a .tag)) (a .gno) (fits (c .before) .set .lent) (c .if2 .taken)
+
+none-or-tag-requires : tie.Need-none-or-tag-requires
+none-or-tag-requires c κs = search needs
+
+is-gno-requires : tie.Need-is-gno-requires
+is-gno-requires c κs = search needs
+
+returns-3 : tie.Need-returns-3
+returns-3 c =
+    let a = c .before .before .before .before .before .before .before .before .before .args in
+    no-id (now (a .set)) (now (a .uuid)) (now (a .tag)) (a .gno) (fits (c .before .before .before .before) .set .lent) (c .before .before .before .if2 .left) _ _ (c .before .before .none-or-tag .ensures) (c .before .is-gno .ensures) (not-true _ (c .if3 .taken))
+
+find-requires : tie.Need-find-requires
+find-requires c κs = (fits (c .before .before .before .before) .set, c .before .before .before .if2 .left)
+
+covers-at-requires : tie.Need-covers-at-requires
+covers-at-requires c κs = let f = c .find .ensures in omega (arith, f .end, f .inside)
+
+returns-4 : tie.Need-returns-4
+returns-4 c =
+    let a = c .before .before .before .before .before .before .before .before .before .before .before .args in
+    is-asked (now (a .set)) (now (a .uuid)) (now (a .tag)) (a .gno) (fits (c .before .before .before .before .before .before) .set .lent) (c .before .before .before .before .before .if2 .left) _ _ (c .before .before .before .before .none-or-tag .ensures) (c .before .before .before .is-gno .ensures) (c .covers-at .result) (not-false _ (c .before .before .if3 .left)) (c .covers-at .ensures ∙ sym (c .before .find .ensures .member (a .gno)))
+
+pub contains-spec : {M : Type 1} → statement M
+contains-spec =
+    tie.close
+    (tie.spec
+    check-requires
+    returns
+    returns-2
+    none-or-tag-requires
+    is-gno-requires
+    returns-3
+    find-requires
+    covers-at-requires
+    returns-4)

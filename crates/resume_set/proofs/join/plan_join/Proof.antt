@@ -1,0 +1,103 @@
+-- `resume_set::join::plan_join` meets its contract.
+use native.Mathlib.Omega.{arith}
+use denote.Ref.{now}
+use borrow.Author.Needs.{needs}
+use Rattle.gtid_sets.proofs.LimitLaws.{maxIntervals-is}
+use Rattle.resume_set.proofs.JoinLaws.{Small, set-small, plan-is}
+use Rattle.resume_set.proofs.join.plan_join.Statement.{statement}
+use Rattle.resume_set.proofs.join.plan_join.Tie as tie
+
+small : (c : tie.After-find) → Small (now (c .before .before .before .before .args .set)) (c .before .before .before .before .args .count)
+small c = set-small (now (c .before .before .before .before .args .set)) (c .before .before .before .before .args .tagged) (c .before .before .before .before .args .count) (c .before .before .before .before .pre .0)
+
+find-requires : tie.Need-find-requires
+find-requires c κs = search needs
+
+splice-at-requires : tie.Need-splice-at-requires
+splice-at-requires c κs = let f = c .find .ensures in (omega (arith, f .end, f .inside), (f .gapped, c .before .before .before .before .pre .1 .1 .1))
+
+sub-held : tie.Need-sub-held
+sub-held c = omega (arith, c .before .before .splice-at .ensures .inside)
+
+add-held : tie.Need-add-held
+add-held c = record { fits = omega (arith, c .before .before .before .find .ensures .few, maxIntervals-is) }
+
+add-gained : tie.Need-add-gained
+add-gained c = search needs
+
+gained-requires : tie.Need-gained-requires
+gained-requires c κs = search needs
+
+add-len : tie.Need-add-len
+add-len c = record { fits = omega (arith, c .before .before .before .before .before .before .before .before .pre .1 .1 .0 .1, c .gained .ensures .1) }
+
+mul-len : tie.Need-mul-len
+mul-len c = record { fits = omega (arith, c .before .before .before .before .find .ensures .few, maxIntervals-is) }
+
+add-len-2 : tie.Need-add-len-2
+add-len-2 c = record { fits = omega (arith, c .before .before .before .before .before .before .before .before .pre .1 .1 .0 .1, c .gained .ensures .1, c .before .before .before .before .find .ensures .few, maxIntervals-is) }
+
+add-len-3 : tie.Need-add-len-3
+add-len-3 c =
+    let f = c .before .before .before .before .before .find .ensures in
+    record { fits = omega (arith, c .before .before .before .before .before .before .before .before .before .pre .1 .1 .0 .1, c .before .gained .ensures .1, f .few, f .order, f .end, f .inside, small (c .before .before .before .before .before), maxIntervals-is) }
+
+sub-len : tie.Need-sub-len
+sub-len c = c .before .before .before .before .before .before .find .ensures .inside
+
+add-len-4 : tie.Need-add-len-4
+add-len-4 c =
+    let f = c .before .before .before .before .before .before .find .ensures in
+    record { fits = omega (arith, c .before .before .before .before .before .before .before .before .before .before .pre .1 .1 .0 .1, c .before .before .gained .ensures .1, f .few, f .order, f .end, f .inside, small (c .before .before .before .before .before .before), maxIntervals-is) }
+
+gained-requires-2 : tie.Need-gained-requires-2
+gained-requires-2 c κs = search needs
+
+add-len-5 : tie.Need-add-len-5
+add-len-5 c =
+    let f = c .before .before .before .before .before .before .before .find .ensures in
+    record { fits = omega (arith, c .before .before .before .before .before .before .before .before .before .before .before .pre .1 .1 .0 .1, c .before .before .before .gained .ensures .1, c .gained2 .ensures .1, f .few, f .order, f .end, f .inside, small (c .before .before .before .before .before .before .before), maxIntervals-is) }
+
+gained-requires-3 : tie.Need-gained-requires-3
+gained-requires-3 c κs = search needs
+
+add-t28 : tie.Need-add-t28
+add-t28 c = record { fits = omega (arith, c .gained3 .ensures .1, small (c .before .before .before .before .before .before .before .before)) }
+
+sub-t17 : tie.Need-sub-t17
+sub-t17 c =
+    let f = c .before .before .before .before .before .before .before .before .before .find .ensures in
+    omega (arith, f .total, c .before .before .before .before .before .before .before .before .before .before .before .before .before .pre .1 .0, c .before .before .before .before .before .before .before .before .splice-at .ensures .inside)
+
+add-t27 : tie.Need-add-t27
+add-t27 c = record { fits = omega (arith, small (c .before .before .before .before .before .before .before .before .before), c .before .before .before .before .before .before .before .before .before .before .before .before .before .pre .1 .0, maxIntervals-is) }
+
+returns : tie.Need-returns
+returns c =
+    let a = c .before .before .before .before .before .before .before .before .before .before .before .before .before .args in
+    plan-is (now (a .set)) (a .tagged) (a .count) (c .before .before .before .before .before .before .before .before .before .before .before .before .before .pre .0) (now (a .uuid)) (now (a .tag)) (c .before .before .before .before .before .before .before .before .before .before .before .before .before .pre .1 .1 .0 .0) (c .before .before .before .before .before .before .before .before .before .before .before .before .before .pre .1 .1 .0 .1) (a .a) (a .b) (c .before .before .before .before .before .before .before .before .before .find .result) (c .before .before .before .before .before .before .before .before .before .find .ensures) (c .before .before .before .before .before .before .before .before .splice-at .result) (c .before .before .before .before .before .before .before .before .splice-at .ensures)
+    _ _ (a .total) (rw (c .before .before .before .before .before .gained .ensures .0, c .before .before .gained2 .ensures .0)) (rw (c .before .gained3 .ensures .0)) (c .before .before .before .before .before .before .before .before .before .before .before .before .before .pre .1 .0)
+
+pub plan-join-spec : {M : Type 1} → statement M
+plan-join-spec =
+    tie.close
+    (tie.spec
+    find-requires
+    splice-at-requires
+    sub-held
+    add-held
+    add-gained
+    gained-requires
+    add-len
+    mul-len
+    add-len-2
+    add-len-3
+    sub-len
+    add-len-4
+    gained-requires-2
+    add-len-5
+    gained-requires-3
+    add-t28
+    sub-t17
+    add-t27
+    returns)

@@ -1,0 +1,78 @@
+-- `resume_set::put::put_wider` meets its contract.
+use Prim.Native.Nat.{_+_, _-_, _*_}
+use native.Mathlib.Omega.{arith}
+use denote.Ref.{now}
+use borrow.Author.Needs.{needs}
+use Rattle.misc.proofs.OutputLaws.{_also_}
+use Rattle.resume_set.proofs.PutLaws.{put-part}
+use Rattle.resume_set.proofs.put.put_wider.Statement.{statement}
+use Rattle.resume_set.proofs.put.put_wider.Tie as tie
+
+add-counted : tie.Need-add-counted
+add-counted c = search needs
+
+mul-next : tie.Need-mul-next
+mul-next c = search needs
+
+add-next : tie.Need-add-next
+add-next c = search needs
+
+add-next-2 : tie.Need-add-next-2
+add-next-2 c = search needs
+
+sub-put-bytes : tie.Need-sub-put-bytes
+sub-put-bytes c = search needs
+
+part-put-bytes-start : tie.Need-part-put-bytes-start
+part-put-bytes-start c = search needs
+
+part-put-bytes-end : tie.Need-part-put-bytes-end
+part-put-bytes-end c = search needs
+
+put-bytes-requires : tie.Need-put-bytes-requires
+put-bytes-requires c κs = search needs
+
+put-varlen-requires : tie.Need-put-varlen-requires
+put-varlen-requires c κs = search needs
+
+sub-put-bytes-2 : tie.Need-sub-put-bytes-2
+sub-put-bytes-2 c = search needs
+
+part-put-bytes-start-2 : tie.Need-part-put-bytes-start-2
+part-put-bytes-start-2 c = search needs
+
+part-put-bytes-end-2 : tie.Need-part-put-bytes-end-2
+part-put-bytes-end-2 c = search needs
+
+put-bytes-requires-2 : tie.Need-put-bytes-requires-2
+put-bytes-requires-2 c κs = search needs
+
+same-length : tie.Need-same-length
+same-length c = search needs
+
+returns : tie.Need-returns
+returns c =
+    let a = c .before .before .before .before .before .before .before .before .before .before .before .before .before .before .before .before .args in
+    let s = now (a .set) in
+    put-part s (a .from) 16 (a .from + 16 - a .from) (omega arith) (c .before .before .before .before .before .before .before .before .before .before .before .put-bytes .ensures) also c .before .before .before .before .before .before .before .put-varlen .ensures
+    also put-part s (a .from + 16) (8 + 16 * a .count) (a .from + (24 + 16 * a .count) - (a .from + 16)) (omega arith) (c .before .before .put-bytes2 .ensures)
+
+pub put-wider-spec : {M : Type 1} → statement M
+put-wider-spec =
+    tie.close
+    (tie.spec
+    add-counted
+    mul-next
+    add-next
+    add-next-2
+    sub-put-bytes
+    part-put-bytes-start
+    part-put-bytes-end
+    put-bytes-requires
+    put-varlen-requires
+    sub-put-bytes-2
+    part-put-bytes-start-2
+    part-put-bytes-end-2
+    put-bytes-requires-2
+    same-length
+    returns)

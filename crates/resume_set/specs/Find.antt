@@ -1,0 +1,89 @@
+-- Where a key stands in a lent set, or would stand.
+use Prim.Native.Nat.{ℕ, _+_, _*_, _/_, _≤_}
+use mathlib.Core.Path.{_≡_}
+use mathlib.Core.Bool.{Bool, true, false}
+use mathlib.Core.List.{List, [], _∷_, _++_}
+use lib.ListN.{length, drop, getD}
+use Rattle.packets.specs.Gno.{Interval}
+use Rattle.packets.specs.Key.{Key}
+use Rattle.previous_gtids_event.specs.Entry.{Entry, entry, tagOf}
+use Rattle.previous_gtids_event.specs.Rewrite.{entriesBytes, anyTag, bodyBytes}
+use Rattle.gtid_sets.specs.Interval.{covers, Gapped, insert}
+use Rattle.gtid_sets.specs.Set.{has, join}
+use Rattle.gtid_sets.specs.Limits.{maxIntervals, intervals}
+use Rattle.gtid_sets.specs.Lent.{Lent, form, unfit, lentSet, GoodKeys}
+use Rattle.set_check.specs.Places.{numberAt, intervalsAt}
+use Rattle.set_check.specs.declared.Checked.{Checked}
+use Rattle.resume_set.specs.declared.EntryPlace.{EntryPlace}
+use Rattle.resume_set.specs.declared.Found.{Found}
+
+-- ---- the set that some bytes are
+
+abbrev pub entriesOf : Lent → List Entry
+entriesOf (form s) = s
+entriesOf unfit = []
+
+-- empty if they are none
+unfoldable pub setOf : List ℕ → List Entry
+setOf bs = entriesOf (lentSet bs)
+
+-- the bytes are a set, with tags or not and with so many entries
+pub record IsSet (bs : List ℕ) (w : Bool) (n : ℕ) : Type 0 where
+  pub lent : lentSet bs ≡ form (setOf bs)
+  pub tags : anyTag (setOf bs) ≡ w
+  pub count : length (setOf bs) ≡ n
+
+-- what a check that found no fault says
+pub record Fits (bs : List ℕ) (c : Checked) : Type 0 where
+  pub set : IsSet bs (c .tagged) (c .entries)
+  pub total : intervals (setOf bs) ≡ c .intervals
+  pub bytes : bodyBytes (setOf bs) ≡ bs
+
+-- ---- an entry
+
+abbrev pub placeFrom : List ℕ → ℕ → ℕ → EntryPlace
+placeFrom bs at len =
+    record {
+      «tag_at» = at;
+      «tag_len» = len;
+      count = numberAt bs (at + len);
+      first = at + len + 8;
+      next = at + len + 8 + 16 * numberAt bs (at + len);
+    }
+
+-- the entry at a place; a tag's length is one byte, twice the length
+abbrev pub placeAt : Bool → List ℕ → ℕ → EntryPlace
+placeAt true bs at = placeFrom bs (at + 17) (getD bs (at + 16) 0 / 2)
+placeAt false bs at = placeFrom bs (at + 16) 0
+
+-- ---- what `find` tells
+
+-- how many entries a key adds that is there or not
+abbrev pub added : Bool → ℕ
+added true = 0
+added false = 1
+
+-- the intervals that the key has there, none if it is not there
+abbrev pub old : List ℕ → Found → List Interval
+old bs r = intervalsAt (r .count) bs (r .first)
+
+pub record FoundIs (bs : List ℕ) (w : Bool) (k : Key) (s : List Entry) (r : Found) : Type 0 where
+  pub front : List Entry
+  pub back : List Entry
+  pub joins : (a b : ℕ) → join k a b s ≡ front ++ (entry k (insert a b (old bs r)) ∷ back)
+  pub member : (n : ℕ) → has s k n ≡ covers (old bs r) n
+  pub gapped : Gapped 0 (old bs r)
+  pub index : r .index ≡ length front
+  pub entries : length s + added (r .here) ≡ length front + (1 + length back)
+  pub total : intervals s ≡ intervals front + (r .count + intervals back)
+  pub front-bytes : drop 8 bs ≡ entriesBytes w front ++ drop (r .at) bs
+  pub back-bytes : drop (r .next) bs ≡ entriesBytes w back
+  pub place : 8 ≤ r .at
+  pub order : r .at ≤ r .first
+  pub end : r .next ≡ r .first + 16 * r .count
+  pub inside : r .next ≤ length bs
+  pub tags : (w ≡ false → anyTag front ≡ false) × (w ≡ false → anyTag back ≡ false)
+  pub keyed : GoodKeys front × GoodKeys back
+  pub few : r .count ≤ maxIntervals
+  pub plain : r .here ≡ true → w ≡ false → length (tagOf k) ≡ 0
+  pub length-front : 8 + length (entriesBytes w front) ≡ r .at

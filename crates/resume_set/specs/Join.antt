@@ -1,0 +1,50 @@
+-- How a lent set grows by an interval, run by run.
+use Prim.Native.Nat.{ℕ, _+_, _-_, _*_, _^_, _≤_, _<_}
+use mathlib.Core.Path.{_≡_}
+use mathlib.Core.Bool.{Bool, true, false}
+use mathlib.Core.List.{List, _++_}
+use lib.ListN.{length}
+use Rattle.previous_gtids_event.specs.Rewrite.{intervalsBytes, headerBytes, bodyBytes}
+use Rattle.gtid_sets.specs.Interval.{covers, insert}
+use Rattle.gtid_sets.specs.Set.{has, join}
+use Rattle.gtid_sets.specs.Limits.{intervals}
+use Rattle.set_check.specs.Places.{intervalsAt}
+use Rattle.resume_set.specs.Find.{setOf, old}
+use Rattle.resume_set.specs.Put.{headRun, splicedRun, entriesRun, EntriesThere}
+use Rattle.resume_set.specs.declared.Splice.{Splice}
+use Rattle.resume_set.specs.declared.Plan.{Plan}
+
+-- so many, if they are wanted
+abbrev pub extra : Bool → ℕ → ℕ
+extra true n = n
+extra false n = 0
+
+pub record SpliceIs (bs : List ℕ) (first count a b : ℕ) (r : Splice) : Type 0 where
+  pub inside : r .before + r .taken ≤ count
+  pub bytes : intervalsBytes (insert a b (intervalsAt count bs first)) ≡ splicedRun bs first count (r .before) (r .taken) (r .start) (r .end)
+  pub count-is : length (insert a b (intervalsAt count bs first)) ≡ count - r .taken + 1
+
+-- the runs of the set after it
+abbrev pub planRuns : List ℕ → List ℕ → List ℕ → Plan → List ℕ
+planRuns bs u t r =
+    headerBytes (r .tags) (r .entries) ++ entriesRun (r .widen) bs 8 (r .found .at) (r .found .index)
+    ++ headRun u (r .tags) t (r .found .count - r .splice .taken + 1)
+    ++ splicedRun bs (r .found .first) (r .found .count) (r .splice .before) (r .splice .taken) (r .splice .start) (r .splice .end)
+    ++ entriesRun (r .widen) bs (r .found .next) (length bs) (r .entries - (1 + r .found .index))
+
+-- the runs lie inside, and the counts are small
+pub record Runs (bs : List ℕ) (r : Plan) : Type 0 where
+  pub before-there : EntriesThere (r .widen) bs 8 (r .found .at) (r .found .index)
+  pub after-there : EntriesThere (r .widen) bs (r .found .next) (length bs) (r .entries - (1 + r .found .index))
+  pub splice-there : r .found .first + 16 * r .found .count ≤ length bs
+  pub splice-inside : r .splice .before + r .splice .taken ≤ r .found .count
+  pub index-below : 1 + r .found .index ≤ r .entries
+  pub few : r .entries < 2 ^ 48
+
+pub record PlanIs (bs : List ℕ) (u t : List ℕ) (a b : ℕ) (r : Plan) : Type 0 where
+  pub runs : Runs bs r
+  pub bytes : bodyBytes (join (u ++ t) a b (setOf bs)) ≡ planRuns bs u t r
+  pub len-is : r .len ≡ length (bodyBytes (join (u ++ t) a b (setOf bs)))
+  pub entries-is : r .entries ≡ length (join (u ++ t) a b (setOf bs))
+  pub intervals-is : r .intervals ≡ intervals (join (u ++ t) a b (setOf bs))
+  pub member : (m : ℕ) → has (setOf bs) (u ++ t) m ≡ covers (old bs (r .found)) m

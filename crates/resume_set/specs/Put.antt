@@ -1,0 +1,44 @@
+-- The runs of bytes that a set after a joining is made of.
+use Prim.Native.Nat.{ℕ, zero, suc, _+_, _-_, _*_, _≤_}
+use mathlib.Core.Bool.{Bool, true, false}
+use mathlib.Core.List.{List, [], _++_}
+use lib.ListN.{length}
+use Rattle.misc.specs.Parse.{part}
+use Rattle.misc.specs.Le.{leBytes}
+use Rattle.misc.specs.Varlen.{varlenBytes}
+use Rattle.previous_gtids_event.specs.Rewrite.{tagBytes}
+use Rattle.set_check.specs.Places.{numberAt}
+
+-- uuid, tag and the number of intervals
+abbrev pub headRun : List ℕ → Bool → List ℕ → ℕ → List ℕ
+headRun uuid tags tag n = uuid ++ tagBytes tags tag ++ leBytes 8 n
+
+-- intervals with one in the place of some
+abbrev pub splicedRun : List ℕ → ℕ → ℕ → ℕ → ℕ → ℕ → ℕ → List ℕ
+splicedRun bs first count before taken start end =
+    part bs first (16 * before) ++ leBytes 8 start ++ leBytes 8 end ++ part bs (first + 16 * (before + taken)) (16 * (count - before - taken))
+
+-- an untagged entry with so many intervals, with the length of a tag that has no bytes
+abbrev pub widerRun : List ℕ → ℕ → ℕ → List ℕ
+widerRun bs at n = part bs at 16 ++ varlenBytes 0 ++ part bs (at + 16) (8 + 16 * n)
+
+-- n such entries from a place on
+unfoldable pub widened : ℕ → List ℕ → ℕ → List ℕ
+widened zero bs at = []
+widened (suc n) bs at =
+    widerRun bs at (numberAt bs (at + 16)) ++ widened n bs (at + (24 + 16 * numberAt bs (at + 16)))
+
+-- they lie inside
+abbrev pub Untagged : ℕ → List ℕ → ℕ → Type 0
+Untagged zero bs at = Unit {0}
+Untagged (suc n) bs at =
+    (at + (24 + 16 * numberAt bs (at + 16)) ≤ length bs) × Untagged n bs (at + (24 + 16 * numberAt bs (at + 16)))
+
+-- entries from a place to another, as they are or widened
+abbrev pub entriesRun : Bool → List ℕ → ℕ → ℕ → ℕ → List ℕ
+entriesRun true bs from to n = widened n bs from
+entriesRun false bs from to n = part bs from (to - from)
+
+abbrev pub EntriesThere : Bool → List ℕ → ℕ → ℕ → ℕ → Type 0
+EntriesThere true bs from to n = Untagged n bs from
+EntriesThere false bs from to n = (from ≤ to) × (to ≤ length bs)

@@ -1,0 +1,148 @@
+// Joining an interval of a key to a set: first the plan, which writes nothing, and then the set as planned.
+use crate::Plan;
+use crate::find::find;
+use crate::intervals::splice_at;
+use crate::put::put_entries;
+use crate::put::put_head;
+use crate::put::put_number;
+use crate::put::put_spliced;
+use misc::Wrote;
+use misc::refusal::FULL;
+use misc::refusal::NO_ROOM;
+use set_check::MAX_ENTRIES;
+use set_check::MAX_INTERVALS;
+ghost use mathlib.Core.Path.{_≡_};
+ghost use mathlib.Core.List.{_++_};
+ghost use Prim.Native.Nat.{_+_, _^_, _≤_, _<_};
+ghost use lib.ListN.{length};
+ghost use Rattle.misc.specs.Le.{leBytes};
+ghost use Rattle.misc.specs.Output.{outputOf, answerOf, WhereFits};
+ghost use Rattle.previous_gtids_event.specs.Rewrite.{headerBytes};
+ghost use Rattle.gtid_sets.specs.Set.{join};
+ghost use Rattle.gtid_sets.specs.Limits.{intervals};
+ghost use Rattle.resume_set.specs.Answers.{saved};
+ghost use Rattle.resume_set.specs.Find.{setOf, IsSet};
+ghost use Rattle.resume_set.specs.Join.{extra, PlanIs, Runs, planRuns};
+
+// How many bytes, if they are wanted.
+fn gained(wanted: bool, count: usize) -> usize
+    ensures { λ r. ⌜ (r ≡ extra wanted count) × (r ≤ count) ⌝ }
+{
+    if wanted {
+        return count;
+    }
+    0
+}
+
+// How the set grows by the interval from a up to b of a key.
+pub(crate) fn plan_join(
+    set: &[u8],
+    tagged: bool,
+    count: usize,
+    total: usize,
+    uuid: &[u8],
+    tag: &[u8],
+    a: u64,
+    b: u64,
+) -> Plan
+    requires { ⌜ IsSet (now set) tagged count ⌝ }
+    requires { ⌜ intervals (setOf (now set)) ≡ total ⌝ }
+    requires { ⌜ (length (now uuid) ≡ 16) × (length (now tag) ≤ 32) ⌝ }
+    requires { ⌜ a < b ⌝ }
+    ensures { λ r. ⌜ PlanIs (now (set .entry)) (now (uuid .entry)) (now (tag .entry)) a b r ⌝ }
+{
+    let found = find(set, tagged, count, uuid, tag);
+    let splice = splice_at(set, found.first, found.count, a, b);
+    let tags = tagged | (0 < tag.len());
+    let widen = tags & !tagged;
+    let held = found.count - splice.taken + 1;
+    let here = found.here;
+    let len = found.at
+        + (24 + gained(tags, 1 + tag.len()) + 16 * held)
+        + (set.len() - found.next)
+        + gained(widen, count);
+    let added = gained(!here, 1);
+    Plan {
+        tags,
+        widen,
+        entries: count + added,
+        intervals: total - splice.taken + 1,
+        len,
+        found,
+        splice,
+    }
+}
+
+// The header as a number: where tags follow, its top and its bottom byte are 1, and the count stands between.
+fn header_number(count: usize, tags: bool) -> u64
+    requires { ⌜ count < 2 ^ 48 ⌝ }
+    ensures { λ r. ⌜ leBytes 8 r ≡ headerBytes tags count ⌝ }
+{
+    if tags {
+        return 0x100_0000_0000_0001 + 256 * (count as u64);
+    }
+    count as u64
+}
+
+// Writes the set as planned, where there is room.
+fn put_joined(set: &[u8], uuid: &[u8], tag: &[u8], plan: Plan, out: &mut [u8]) -> usize
+    requires { ⌜ Runs (now set) plan ⌝ }
+    ensures { λ r. ⌜ WhereFits (now (out .entry)) 0 (planRuns (now (set .entry)) (now (uuid .entry)) (now (tag .entry)) plan) (now (out .exit)) r ⌝ }
+{
+    let found = plan.found;
+    let splice = plan.splice;
+    let held = found.count - splice.taken + 1;
+    let at0 = put_number(header_number(plan.entries, plan.tags), out, 0);
+    let at1 = put_entries(set, 8, found.at, found.index, plan.widen, out, at0);
+    let at2 = put_head(uuid, tag, plan.tags, held, out, at1);
+    let at3 = put_spliced(
+        set,
+        found.first,
+        found.count,
+        splice.before,
+        splice.taken,
+        splice.start,
+        splice.end,
+        out,
+        at2,
+    );
+    let left = plan.entries - (1 + found.index);
+    put_entries(set, found.next, set.len(), left, plan.widen, out, at3)
+}
+
+// Writes the set as planned, if it is within the limits and there is room.
+pub(crate) fn write_joined(
+    set: &[u8],
+    uuid: &[u8],
+    tag: &[u8],
+    a: u64,
+    b: u64,
+    plan: Plan,
+    out: &mut [u8],
+) -> Wrote
+    requires { ⌜ PlanIs (now set) (now uuid) (now tag) a b plan ⌝ }
+    ensures { λ r. ⌜ r ≡ answerOf (now (out .entry)) (saved (join (now (uuid .entry) ++ now (tag .entry)) a b (setOf (now (set .entry))))) ⌝ }
+    ensures { λ _. ⌜ now (out .exit) ≡ outputOf (now (out .entry)) (saved (join (now (uuid .entry) ++ now (tag .entry)) a b (setOf (now (set .entry))))) ⌝ }
+{
+    if MAX_ENTRIES < plan.entries {
+        return Wrote {
+            refusal: FULL,
+            len: 0,
+        };
+    }
+    if MAX_INTERVALS < plan.intervals {
+        return Wrote {
+            refusal: FULL,
+            len: 0,
+        };
+    }
+    let len = plan.len;
+    if out.len() < len {
+        return Wrote {
+            refusal: NO_ROOM,
+            len,
+        };
+    }
+    put_joined(set, uuid, tag, plan, out);
+    Wrote { refusal: 0, len }
+}

@@ -1,0 +1,159 @@
+-- Laws of the check: its loop, and what a whole set is.
+use Prim.Native.Nat.{ℕ, suc, _+_, _-_, _*_, _≤_}
+use mathlib.Core.Path.{_≡_, refl, sym, ap, _∙_}
+use mathlib.Core.Bool.{Bool, true, false, not, _||_, _&&_}
+use mathlib.Core.List.{List, [], _∷_, _++_}
+use native.Mathlib.Omega.{arith}
+use lib.Dec.{ltb}
+use lib.ListN.{length, drop, length-drop}
+use lib.Seq.{drop-length, drop-at}
+use Rattle.packets.specs.Key.{Key}
+use Rattle.packets.proofs.Tests.{clash}
+use Rattle.previous_gtids_event.specs.Entry.{Entry, entry}
+use Rattle.previous_gtids_event.specs.Rewrite.{entriesBytes, anyTag, headerBytes, bodyBytes}
+use Rattle.gtid_sets.specs.Set.{Above}
+use Rattle.gtid_sets.specs.Limits.{maxEntries, maxIntervals, intervals}
+use Rattle.gtid_sets.specs.Lent.{form, lentSet, GoodKeys}
+use Rattle.gtid_sets.proofs.LimitLaws.{limits-says, limits-from}
+use Rattle.previous_gtids_event.proofs.Writing.{length-header}
+use Rattle.gtid_sets.proofs.LentLaws.{Lends, is-lent, lent-none}
+use Rattle.set_check.specs.Check.{checkedOf, HeaderIs, NoHeader, EntryIs, NoEntry, Rest, Whole}
+use Rattle.set_check.specs.declared.Head.{Head}
+use Rattle.set_check.specs.declared.Header.{Header}
+use Rattle.set_check.specs.declared.Entries.{Entries}
+use Rattle.set_check.specs.declared.Checked.{Checked}
+use Rattle.set_check.proofs.PlaceLaws.{Bytes}
+use Rattle.set_check.proofs.HeaderLaws.{header-there, headers-same}
+use Rattle.set_check.proofs.RestLaws.{rest-before, same-total, rest-not, rest-after}
+
+-- ---- the loop
+
+-- the whole is as it should be just if the rest is
+pub record Walked (bs : List ℕ) (w : Bool) (count left at : ℕ) (low : Key) (used : ℕ) (any : Bool) : Type 0 where
+  pub on : Rest bs w count 8 [] 0 false → Rest bs w left at low used any
+  pub back : (q : Rest bs w left at low used any) → Rest bs w count 8 [] 0 false
+  pub total : (q : Rest bs w left at low used any) → intervals (back q .set) ≡ used + intervals (q .set)
+
+pub walked-none : (bs : List ℕ) (w : Bool) (count : ℕ) → Walked bs w count count 8 [] 0 false
+walked-none bs w count = record { on = λ p. p; back = λ p. p; total = λ q. omega arith }
+
+module _ (bs : List ℕ) (w : Bool) (count n at : ℕ) (low : Key) (used : ℕ) (any : Bool) (v : Walked bs w count (suc n) at low used any) where
+  pub walked-not : NoEntry bs w at low (maxIntervals - used) → Rest bs w count 8 [] 0 false → ⊥
+  walked-not none p = rest-not bs w n at low used any none (v .on p)
+
+  pub walked-next : Bytes bs → (r : Head) (h : EntryIs bs w at low (maxIntervals - used) r) → used ≤ maxIntervals
+      → Walked bs w count n (r .first + 16 * r .count) (h .head .key) (used + r .count) (any || ltb 0 (r .«tag_len»))
+  walked-next ok r h u = record {
+    on = λ p. rest-after bs w n at low used any r h (v .on p);
+    back = λ q. v .back (rest-before bs w n at low used any r h u ok q);
+    total = λ q. v .total (rest-before bs w n at low used any r h u ok q) ∙ omega (arith, same-total bs w n at low used any r h u ok q);
+  }
+
+agree : (a b : Bool) → (a && b) || not (a || b) ≡ true → b || false ≡ a
+agree true true e = refl
+agree true false e = clash e refl
+agree false true e = clash e refl
+agree false false e = refl
+
+agreed : (a b : Bool) → b || false ≡ a → (a && b) || not (a || b) ≡ true
+agreed true true e = refl
+agreed true false e = clash e refl
+agreed false true e = clash refl e
+agreed false false e = refl
+
+-- nothing is left: all was there just if the place is the end and the tags are as the header says
+nothing-left : (bs : List ℕ) (w : Bool) (at : ℕ) (low : Key) (used : ℕ) (any : Bool) → Rest bs w 0 at low used any
+    → (drop at bs ≡ []) × (any || false ≡ w)
+unfolding entriesBytes anyTag
+nothing-left bs w at low used any p = go (p .set) (p .is) (p .count) (p .tags)
+  where
+    go : (s : List Entry) → drop at bs ≡ entriesBytes w s → length s ≡ 0 → (any || anyTag s) ≡ w → (drop at bs ≡ []) × (any || false ≡ w)
+    go [] e c t = (e, t)
+    go (x ∷ s) e c t = absurd (omega arith)
+
+module _ (bs : List ℕ) (w : Bool) (count at : ℕ) (low : Key) (used : ℕ) (any : Bool) (v : Walked bs w count 0 at low used any) where
+  pub walked-short : at ≤ length bs → (at ≡ length bs → ⊥) → Rest bs w count 8 [] 0 false → ⊥
+  walked-short h k p =
+      let e = nothing-left bs w at low used any (v .on p) .0 in
+      k (omega (arith, sym (length-drop at bs) ∙ ap length e))
+
+  pub walked-untagged : (w && any) || not (w || any) ≡ false → Rest bs w count 8 [] 0 false → ⊥
+  walked-untagged f p = clash (agreed w any (nothing-left bs w at low used any (v .on p) .1)) f
+
+  pub walked-whole : at ≡ length bs → used ≤ maxIntervals → (w && any) || not (w || any) ≡ true
+      → Whole bs w count (record { ok = true; intervals = used })
+  unfolding entriesBytes anyTag
+  walked-whole e u t =
+      let end : Rest bs w 0 at low used any = record {
+        set = [];
+        is = rw e (drop-length bs);
+        count = refl;
+        formed = tt;
+        above = tt;
+        keyed = tt;
+        limit = omega arith;
+        tags = agree w any t;
+      } in
+      record { rest = v .back end; total = v .total end ∙ omega arith }
+
+-- ---- a lent set
+
+all-above : (s : List Entry) → GoodKeys s → Above [] s
+all-above [] k = tt
+all-above (entry [] is ∷ s) k = absurd (omega (arith, k .0 .whole))
+all-above (entry (b ∷ j) is ∷ s) k = refl
+
+-- what a lent set is, for the check
+lent-rest : (bs : List ℕ) (s : List Entry) → Lends bs s
+    → (bs ≡ headerBytes (anyTag s) (length s) ++ entriesBytes (anyTag s) s) × (length s ≤ maxEntries) × Rest bs (anyTag s) (length s) 8 [] 0 false
+unfolding bodyBytes
+lent-rest bs s l =
+    let (few, limit) = limits-says s (l .limited) in (
+      l .written,
+      few,
+      record {
+        set = s;
+        is =
+            rw (l .written)
+            (drop-at (headerBytes (anyTag s) (length s)) (entriesBytes (anyTag s) s) 8 (length-header (anyTag s) (length s)));
+        count = refl;
+        formed = l .formed;
+        above = all-above s (l .keyed);
+        keyed = l .keyed;
+        limit = omega arith;
+        tags = refl;
+      },
+    )
+
+abbrev unfitAnswer : Checked
+unfitAnswer = record { refusal = 14; tagged = false; entries = 0; intervals = 0 }
+
+pub check-headless : (bs : List ℕ) → NoHeader bs → unfitAnswer ≡ checkedOf (lentSet bs)
+check-headless bs none =
+    let u = lent-none bs (λ s l. let (a, b, c) = lent-rest bs s l in none (anyTag s) (length s) (entriesBytes (anyTag s) s) b a) in
+    rw u
+
+module _ (bs : List ℕ) (r : Header) (h : HeaderIs bs r) where
+  pub check-broken : (Rest bs (r .tagged) (r .count) 8 [] 0 false → ⊥) → unfitAnswer ≡ checkedOf (lentSet bs)
+  check-broken none =
+      let u = lent-none bs (λ s l.
+      let (a, b, c) = lent-rest bs s l in
+      let (p, q) = headers-same (r .tagged) (anyTag s) (r .count) (length s) (h .few) b
+      (sym (header-there bs (r .tagged) (r .count) _ (h .few) (h .is)) ∙ header-there bs (anyTag s) (length s) _ b a) in
+      none (rw (p, q) c)) in
+      rw u
+
+  check-lent : (q : Rest bs (r .tagged) (r .count) 8 [] 0 false) → lentSet bs ≡ form (q .set)
+  unfolding bodyBytes
+  check-lent q =
+      let t : anyTag (q .set) ≡ r .tagged = q .tags in
+      is-lent bs (q .set) (record {
+        written = h .is ∙ rw (t, q .count, q .is);
+        formed = q .formed;
+        keyed = q .keyed;
+        limited = limits-from (q .set) (omega (arith, q .count, h .few)) (omega (arith, q .limit));
+      })
+
+  pub check-whole : (x : Entries) (q : Whole bs (r .tagged) (r .count) x)
+      → _≡_ {A = Checked} (record { refusal = 0; tagged = r .tagged; entries = r .count; intervals = x .intervals }) (checkedOf (lentSet bs))
+  check-whole x q = let t : anyTag (q .rest .set) ≡ r .tagged = q .rest .tags in rw (check-lent (q .rest), t, q .rest .count, q .total)

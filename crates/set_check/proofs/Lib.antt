@@ -1,0 +1,8 @@
+-- Laws of what stands in the bytes of a set, which any walk over them cites, and those of the check.
+pub mod PlaceLaws
+pub mod OrderLaws
+pub mod HeadLaws
+pub mod GappedWalk
+pub mod HeaderLaws
+pub mod RestLaws
+pub mod CheckLaws

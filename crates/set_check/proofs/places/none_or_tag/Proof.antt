@@ -1,0 +1,18 @@
+-- `set_check::places::none_or_tag` meets its contract.
+use mathlib.Core.Path.{ap}
+use mathlib.Core.Bool.{Bool, _||_}
+use lib.Dec.{eqb}
+use lib.ListN.{length}
+use denote.Ref.{now}
+use borrow.Author.Needs.{needs}
+use Rattle.set_check.proofs.places.none_or_tag.Statement.{statement}
+use Rattle.set_check.proofs.places.none_or_tag.Tie as tie
+
+is-tag-requires : tie.Need-is-tag-requires
+is-tag-requires c κs = search needs
+
+returns : tie.Need-returns
+returns c = ap (λ (b : Bool). eqb (length (now (c .before .before .args .tag))) 0 || b) (c .is-tag .ensures)
+
+pub none-or-tag-spec : {M : Type 1} → statement M
+none-or-tag-spec = tie.close (tie.spec is-tag-requires returns)

@@ -1,0 +1,79 @@
+-- What checking a lent set finds.
+use Prim.Native.Nat.{ℕ, _+_, _*_, _^_, _<_, _≤_}
+use mathlib.Core.Path.{_≡_}
+use mathlib.Core.Logic.{_⊎_}
+use mathlib.Core.Bool.{Bool, true, false, _||_}
+use mathlib.Core.List.{List, [], _∷_, _++_}
+use lib.ListN.{length, drop}
+use Rattle.misc.specs.Refusal.{number, notASet}
+use Rattle.misc.specs.Parse.{part}
+use Rattle.packets.specs.Gno.{Interval}
+use Rattle.packets.specs.Key.{Key, _≺_}
+use Rattle.previous_gtids_event.specs.Entry.{Entry}
+use Rattle.previous_gtids_event.specs.Rewrite.{intervalsBytes, entriesBytes, anyTag, headerBytes}
+use Rattle.gtid_sets.specs.Interval.{Gapped, Some}
+use Rattle.gtid_sets.specs.Set.{Above, SetForm}
+use Rattle.gtid_sets.specs.Limits.{maxEntries, maxIntervals, intervals}
+use Rattle.gtid_sets.specs.Lent.{Lent, form, unfit, GoodKeys}
+use Rattle.set_check.specs.Places.{intervalsAt}
+use Rattle.set_check.specs.Head.{headBytes, KeyOk, HeadIs}
+use Rattle.set_check.specs.declared.Head.{Head}
+use Rattle.set_check.specs.declared.Header.{Header}
+use Rattle.set_check.specs.declared.Entries.{Entries}
+use Rattle.set_check.specs.declared.Checked.{Checked}
+
+-- the answer of `check`: refusal 14, or whether the set has tags, and its counts
+abbrev pub checkedOf : Lent → Checked
+checkedOf unfit = record { refusal = number notASet; tagged = false; entries = 0; intervals = 0 }
+checkedOf (form s) = record { refusal = 0; tagged = anyTag s; entries = length s; intervals = intervals s }
+
+-- ---- inside: the header
+
+pub record HeaderIs (bs : List ℕ) (r : Header) : Type 0 where
+  pub is : bs ≡ headerBytes (r .tagged) (r .count) ++ drop 8 bs
+  pub few : r .count ≤ maxEntries
+  pub there : 8 ≤ length bs
+
+abbrev pub NoHeader : List ℕ → Type 0
+NoHeader bs = (w : Bool) (n : ℕ) (rest : List ℕ) → n ≤ maxEntries → bs ≡ headerBytes w n ++ rest → ⊥
+
+-- ---- inside: an entry after a lower key
+
+-- the key in two parts of the bytes
+abbrev pub keyIn : List ℕ → ℕ → ℕ → ℕ → ℕ → Key
+keyIn bs at n «tag_at» «tag_len» = part bs at n ++ part bs «tag_at» «tag_len»
+
+-- the parts lie inside; they are a key's, or empty
+pub record LowKey (bs : List ℕ) (at n «tag_at» «tag_len» : ℕ) : Type 0 where
+  pub there : at + n ≤ length bs
+  pub tag-there : «tag_at» + «tag_len» ≤ length bs
+  pub shape : (n ≡ 16) ⊎ ((n ≡ 0) × («tag_len» ≡ 0))
+
+pub record EntryIs (bs : List ℕ) (w : Bool) (at : ℕ) (low : Key) (room : ℕ) (r : Head) : Type 0 where
+  pub head : HeadIs bs w at r
+  pub few : r .count ≤ room
+  pub gapped : Gapped 0 (intervalsAt (r .count) bs (r .first))
+  pub rises : low ≺ head .key
+
+abbrev pub NoEntry : List ℕ → Bool → ℕ → Key → ℕ → Type 0
+NoEntry bs w at low room =
+    (k : Key) (is : List Interval) (rest : List ℕ) → KeyOk w k → Some is → Gapped 0 is → length is ≤ room → low ≺ k
+    → drop at bs ≡ headBytes w k (length is) (intervalsBytes is ++ rest) → room < 2 ^ 64 → ⊥
+
+-- ---- inside: the entries from a place on
+
+-- n entries stand from a place on to the end, in set form above a key; with those before them they keep the limit of intervals and
+-- say whether there are tags
+pub record Rest (bs : List ℕ) (w : Bool) (n at : ℕ) (low : Key) (used : ℕ) (any : Bool) : Type 0 where
+  pub set : List Entry
+  pub is : drop at bs ≡ entriesBytes w set
+  pub count : length set ≡ n
+  pub formed : SetForm set
+  pub above : Above low set
+  pub keyed : GoodKeys set
+  pub limit : used + intervals set ≤ maxIntervals
+  pub tags : (any || anyTag set) ≡ w
+
+pub record Whole (bs : List ℕ) (w : Bool) (n : ℕ) (r : Entries) : Type 0 where
+  pub rest : Rest bs w n 8 [] 0 false
+  pub total : intervals (rest .set) ≡ r .intervals

@@ -1,0 +1,51 @@
+// The check of a lent set: whether its bytes are a Previous-GTIDs body in set form and within the set limits, and if so, how many
+// entries and intervals it has. It promises `checkedOf (lentSet ..)`. Beside it stands what any walk over a set's bytes needs: the
+// number at a place, the rule of a tag that may be none, and the order of two keys in parts.
+pub mod check;
+mod heads;
+pub mod places;
+
+// A set has so many entries at most,
+pub const MAX_ENTRIES: usize = 256;
+
+// and so many intervals, all entries together.
+pub const MAX_INTERVALS: usize = 2048;
+
+// What a lent set is: refused with 14, or in set form and within the limits.
+pub struct Checked {
+    pub refusal: u8,
+    pub tagged: bool,
+    pub entries: usize,
+    pub intervals: usize,
+}
+
+// ---- inside
+
+// Where a tag stands, and its length.
+pub(crate) struct TagPlace {
+    pub(crate) ok: bool,
+    pub(crate) at: usize,
+    pub(crate) len: usize,
+}
+
+// The head of an entry: where its tag stands, how many intervals it has, and where they begin.
+pub(crate) struct Head {
+    pub(crate) ok: bool,
+    pub(crate) tag_at: usize,
+    pub(crate) tag_len: usize,
+    pub(crate) count: usize,
+    pub(crate) first: usize,
+}
+
+// The header of a set: whether its entries have tags, and how many there are.
+pub(crate) struct Header {
+    pub(crate) ok: bool,
+    pub(crate) tagged: bool,
+    pub(crate) count: usize,
+}
+
+// The entries of a set: whether they are in set form, and how many intervals they have together.
+pub(crate) struct Entries {
+    pub(crate) ok: bool,
+    pub(crate) intervals: usize,
+}
