@@ -1,4 +1,4 @@
--- The bytes of entries: how many there are at most, and those of two parts.
+-- The bytes of entries: how many there are at most and at least, and those of two parts.
 use Prim.Native.Nat.{ℕ, _+_, _*_, _<_, _≤_}
 use mathlib.Core.Path.{_≡_, refl, sym, ap, _∙_}
 use mathlib.Core.Bool.{Bool, true, false}
@@ -43,6 +43,16 @@ entries-long w (entry k is ∷ es) g = simp (length-append, entry-length w k is 
 pub body-long : (es : List Entry) → GoodKeys es → length (bodyBytes es) ≤ 8 + 57 * length es + 16 * intervals es
 unfolding bodyBytes
 body-long es g = simp (length-append, length-header) (omega (arith, entries-long (anyTag es) es g))
+
+-- 24 at least for each entry, and 16 for each interval
+pub entries-least : (w : Bool) (es : List Entry) → GoodKeys es → 24 * length es + 16 * intervals es ≤ length (entriesBytes w es)
+unfolding entriesBytes
+entries-least w [] g = omega arith
+entries-least w (entry k is ∷ es) g = simp (length-append, entry-length w k is (uuid-length k (g .0))) (omega (arith, entries-least w es (g .1)))
+
+pub body-least : (es : List Entry) → GoodKeys es → 8 + 24 * length es + 16 * intervals es ≤ length (bodyBytes es)
+unfolding bodyBytes
+body-least es g = simp (length-append, length-header) (omega (arith, entries-least (anyTag es) es g))
 
 -- ---- the bytes of two parts are the parts' bytes
 

@@ -43,7 +43,7 @@ pub gapped-wide : (low : ℕ) (is : List Interval) → Gapped low is → GoodInt
 gapped-wide low [] g = tt
 gapped-wide low (interval a b ∷ is) g = (omega (arith, gnoTop-is), omega (arith, gnoTop-is), gapped-wide b is (g .3))
 
-well-formed : (s : List Entry) → SetForm s → GoodKeys s → intervals s < 2 ^ 64 → WellFormed s
+pub well-formed : (s : List Entry) → SetForm s → GoodKeys s → intervals s < 2 ^ 64 → WellFormed s
 well-formed [] f g l = tt
 well-formed (entry k is ∷ s) f g l = (
   record { uuid = uuid-length k (g .0); rule = g .0 .rule },

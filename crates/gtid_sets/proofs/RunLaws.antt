@@ -98,31 +98,36 @@ run-append s (e ∷ xs) ys = run-append (after s e) xs ys
 
 -- ---- replay
 
-stays-wrong : (t : List Entry) (k : Key) (n : ℕ) → isGno n ≡ false → after t (names k n) ≡ t
-stays-wrong t k n g = rw g
+-- an event leaves a set as it is, and is not refused for full
+abbrev Quiet : List Entry → Event → Type 0
+Quiet t e = (after t e ≡ t) × (forFull (answer t e) ≡ false)
 
-stays-member : (t : List Entry) (k : Key) (n : ℕ) → has t k n ≡ true → after t (names k n) ≡ t
-stays-member t k n h = split (isGno n) (λ g. rw (g, h)) (λ g. rw g)
+quiet-wrong : (t : List Entry) (k : Key) (n : ℕ) → isGno n ≡ false → Quiet t (names k n)
+unfolding isFull
+quiet-wrong t k n g = rw g (refl, refl)
 
--- an event that was not refused for full changes nothing when it is offered again, however many came between
-again : (s : List Entry) (e : Event) (es : List Event) → forFull (answer s e) ≡ false → after (run (after s e) es) e ≡ run (after s e) es
-again s anonymous es h = refl
-again s (broken r) es h = refl
+quiet-member : (t : List Entry) (k : Key) (n : ℕ) → has t k n ≡ true → Quiet t (names k n)
+quiet-member t k n h = split (isGno n) (λ g. rw (g, h) (refl, refl)) (quiet-wrong t k n)
+
+-- an event that was not refused for full is quiet when it is offered again, however many came between
+again : (s : List Entry) (e : Event) (es : List Event) → forFull (answer s e) ≡ false → Quiet (run (after s e) es) e
+again s anonymous es h = (refl, refl)
+again s (broken r) es h = (refl, h)
 again s (names k n) es c = answer-cases s k n
-    (λ g e. stays-wrong (run (after s (names k n)) es) k n g)
-    (λ g h e. stays-member (run (after s (names k n)) es) k n (run-keeps (after s (names k n)) es k n (rw e h)))
-    (λ g h l e. stays-member (run (after s (names k n)) es) k n
+    (λ g e. quiet-wrong (run (after s (names k n)) es) k n g)
+    (λ g h e. quiet-member (run (after s (names k n)) es) k n (run-keeps (after s (names k n)) es k n (rw e h)))
+    (λ g h l e. quiet-member (run (after s (names k n)) es) k n
     (run-keeps (after s (names k n)) es k n (rw (e, has-add k n s k n, same-self k, eq-eqb n n refl))))
     (λ r f g h l e. clash f (rw e at c))
 
--- each event of the list, offered to the set alone, leaves it as it is
+-- each event of the list, offered to the set alone, is quiet
 abbrev Settled : List Entry → List Event → Type 0
 Settled t [] = Unit {0}
-Settled t (e ∷ es) = (after t e ≡ t) × Settled t es
+Settled t (e ∷ es) = Quiet t e × Settled t es
 
 run-settled : (t : List Entry) (es : List Event) → Settled t es → run t es ≡ t
 run-settled t [] h = refl
-run-settled t (e ∷ es) h = rw (h .0) (run-settled t es (h .1))
+run-settled t (e ∷ es) h = rw (h .0 .0) (run-settled t es (h .1))
 
 settles : (s : List Entry) (es : List Event) → NeverFull s es → Settled (run s es) es
 settles s [] h = tt
@@ -135,3 +140,16 @@ never-full-front s (e ∷ xs) ys h = (h .0, never-full-front (after s e) xs ys (
 -- demand 3, replay: a run that was never refused for full, stopped after any xs and fed the whole list again, ends in the same set
 pub replay : (s : List Entry) (xs ys : List Event) → NeverFull s xs → run (run s xs) (xs ++ ys) ≡ run s (xs ++ ys)
 replay s xs ys h = rw (run-append (run s xs) xs ys, run-append s xs ys, run-settled (run s xs) xs (settles s xs h))
+
+never-full-rest : (s : List Entry) (xs ys : List Event) → NeverFull s (xs ++ ys) → NeverFull (run s xs) ys
+never-full-rest s [] ys h = h
+never-full-rest s (e ∷ xs) ys h = never-full-rest (after s e) xs ys (h .1)
+
+never-full-settled : (t : List Entry) (xs ys : List Event) → Settled t xs → NeverFull t ys → NeverFull t (xs ++ ys)
+never-full-settled t [] ys q h = h
+never-full-settled t (e ∷ xs) ys q h = (q .0 .1, rw (q .0 .0) (never-full-settled t xs ys (q .1) h))
+
+-- and that second run is not refused for full either
+pub never-full-again : (s : List Entry) (xs ys : List Event) → NeverFull s (xs ++ ys) → NeverFull (run s xs) (xs ++ ys)
+never-full-again s xs ys h =
+    never-full-settled (run s xs) xs ys (settles s xs (never-full-front s xs ys h)) (never-full-rest s xs ys h)

@@ -5,13 +5,13 @@ use Prim.Native.Nat.{ℕ, suc, _+_, _-_, _≤_, _<_}
 use native.Mathlib.Nat.{zero-add, add-zero, add-suc, suc-add, add-assoc}
 use native.Mathlib.Numerals.{add-one}
 use native.Mathlib.Omega.{arith}
-use lib.ListN.{length, getD, take, drop, set, length-append, length-drop, drop-of-length-le}
+use lib.ListN.{length, getD, take, drop, set, length-append, length-drop, drop-of-length-le, take-append-drop}
 use lib.Seq.{drop-cons, take-all, length-sets, sets-eq, drop-drop}
 use borrow.Rule.Slice.PartMut.{midOf, putMid}
 use Rattle.misc.proofs.ParseLaws.{split}
 use borrow.Author.Tests.{le-leb, lt-leb}
 use Rattle.misc.specs.Refusal.{Refusal, number, noRoom}
-use Rattle.misc.specs.Output.{bytes, refused, outputOf, answerOf, written, Placed, WhereFits}
+use Rattle.misc.specs.Output.{bytes, refused, outputOf, answerOf, written, putAt, putEnd, Placed, WhereFits}
 use Rattle.misc.specs.declared.Wrote.{Wrote}
 
 -- ---- bytes written over a list
@@ -75,6 +75,22 @@ _also_ {l} {l₁} {l₂} {a} {b} {at} {at₁} {at₂} p q = record { placed = go
         let same : length l₁ ≡ length l = ap length (first .holds) ∙ length-written l at a in
         first then q .placed (omega arith)
 
+-- bytes put at a place are placed where there is room
+pub put-placed : {l l′ bs : List ℕ} {at r : ℕ} → r ≡ putEnd l at bs → l′ ≡ putAt l at bs → WhereFits l at bs l′ r
+unfolding putAt putEnd
+put-placed {l} {l′} {bs} {at} {r} e h =
+    record { placed = λ room. record { holds = h ∙ rw (le-leb (at + length bs) (length l) room); ends = e ∙ rw (le-leb (at + length bs) (length l) room) } }
+
+-- there is no room
+pub put-short : {l′ : List ℕ} (l bs : List ℕ) (at : ℕ) → length l < at + length bs → l′ ≡ l → (at ≡ putEnd l at bs) × (l′ ≡ putAt l at bs)
+unfolding putAt putEnd
+put-short l bs at h e = simp (lt-leb (at + length bs) (length l) h) (refl, e)
+
+-- there is
+pub put-there : {l l′ bs : List ℕ} {at r : ℕ} → at + length bs ≤ length l → WhereFits l at bs l′ r → (r ≡ putEnd l at bs) × (l′ ≡ putAt l at bs)
+unfolding putAt putEnd
+put-there {l} {l′} {bs} {at} {r} room w = let p = w .placed room in simp (le-leb (at + length bs) (length l) room) (p .ends, p .holds)
+
 -- ---- what a writer leaves and answers
 
 -- what is placed at the front is the answer
@@ -130,6 +146,23 @@ module _ (l bs : List ℕ) (at : ℕ) (inside : at ≤ length l) (r : Wrote) (to
             absurd (full (ap (λ (y : Wrote). y .refusal) told ∙ rw (le-leb (length bs) (length (fromOn l at)) fits)));
       }
 
+  -- so there is no room
+  pub lent-short : (r .refusal ≡ 0 → ⊥) → length l < at + length bs
+  unfolding answerOf
+  lent-short full =
+      split (length bs) (length (fromOn l at))
+      (λ h. absurd (full (ap (λ (y : Wrote). y .refusal) told ∙ rw (le-leb (length bs) (length (fromOn l at)) h))))
+      (λ h. omega (arith, part-length))
+
+  -- and the whole is as it was
+  pub lent-still : {part : List ℕ} → (r .refusal ≡ 0 → ⊥) → part ≡ outputOf (fromOn l at) (bytes bs) → putBack l at part ≡ l
+  unfolding outputOf
+  lent-still {part} full is =
+      let over : length (fromOn l at) < length bs = omega (arith, lent-short full, part-length) in
+      let same : part ≡ drop at l = is ∙ rw (lt-leb (length bs) (length (fromOn l at)) over) part-is in
+      let rest : drop (length l - at) (drop at l) ≡ [] = drop-of-length-le (drop at l) {i = length l - at} (rw length-drop (omega arith)) in
+      ap (λ (p : List ℕ). take at l ++ (p ++ drop (length l - at) (drop at l))) same ∙ rw rest (simp append-nil (take-append-drop at l))
+
   module _ (done : r .refusal ≡ 0) where
     fits : length bs ≤ length (fromOn l at)
     unfolding answerOf
@@ -142,6 +175,9 @@ module _ (l bs : List ℕ) (at : ℕ) (inside : at ≤ length l) (r : Wrote) (to
     len-is : r .len ≡ length bs
     unfolding answerOf
     len-is = ap (λ (y : Wrote). y .len) told ∙ rw (le-leb (length bs) (length (fromOn l at)) fits)
+
+    pub lent-room : at + length bs ≤ length l
+    lent-room = omega (arith, fits, part-length)
 
     -- it wrote them: they stand in the whole, and the place after them is within it
     pub lent-ends : at + r .len ≤ length l

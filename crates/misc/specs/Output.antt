@@ -25,11 +25,21 @@ answerOf l (refused r) = record { refusal = number r; len = 0 }
 answerOf l (bytes bs) =
     pick (leb (length bs) (length l)) (record { refusal = 0; len = length bs }) (record { refusal = number noRoom; len = length bs })
 
--- ---- inside: runs of writes
+-- ---- at a place
 
 -- l with bs over what stood from a place on
 unfoldable pub written : List ℕ → ℕ → List ℕ → List ℕ
 written l at bs = sets l at bs
+
+-- bytes that are put at a place of an output: what it then holds, and the place behind them; where there is no room for all of them
+-- nothing is written, and the place stays
+unfoldable pub putAt : List ℕ → ℕ → List ℕ → List ℕ
+putAt l at bs = pick (leb (at + length bs) (length l)) (written l at bs) l
+
+unfoldable pub putEnd : List ℕ → ℕ → List ℕ → ℕ
+putEnd l at bs = pick (leb (at + length bs) (length l)) (at + length bs) at
+
+-- ---- inside: runs of writes
 
 -- bs have been placed: l is now l′, and next is the place after them
 pub record Placed (l : List ℕ) (at : ℕ) (bs l′ : List ℕ) (next : ℕ) : Type 0 where

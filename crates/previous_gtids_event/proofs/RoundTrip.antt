@@ -10,7 +10,7 @@ use lib.ListN.{length, length-append}
 use lib.Seq.{take-append-seam}
 use borrow.Author.Tests.{ltb-false}
 use Rattle.misc.specs.Parse.{Bytes, Parse, refuse, parsed, andThen, many}
-use Rattle.misc.specs.Le.{leBytes, leAt}
+use Rattle.misc.specs.Le.{leBytes}
 use Rattle.misc.specs.Varlen.{itemOf, varlenSize, varlenBytes}
 use Rattle.misc.specs.Output.{bytes}
 use Rattle.misc.proofs.BodyLaws.{body-fits}
@@ -20,7 +20,7 @@ use Rattle.misc.proofs.Accepted.{le-accepted}
 use Rattle.misc.proofs.VarlenLaws.{size-range, size-found, length-varlenBytes}
 use Rattle.packets.proofs.Tests.{clash}
 use Rattle.previous_gtids_event.specs.Entry.{Entry, entry, uuidOf, tagOf}
-use Rattle.previous_gtids_event.specs.Previous.{entryAt, saysTagged, saysCount, entriesAfter, previous}
+use Rattle.previous_gtids_event.specs.Previous.{entryAt, saysTagged, saysCount, entriesAfter, entriesIn, previous}
 use Rattle.previous_gtids_event.specs.Rewrite.{tagBytes, intervalsBytes, entryBytes, entriesBytes, anyTag, headerBytes, bodyBytes, rewritten}
 use Rattle.previous_gtids_event.proofs.Reading.{none-or-tag-short, previous-parts, previous-inside}
 use Rattle.previous_gtids_event.proofs.Writing.{header-plain, header-tagged, length-header, entry-length}
@@ -40,18 +40,20 @@ pub record BodyLaid (s : List ℕ) (es : List Entry) (used : ℕ) : Type 0 where
   pub end : used ≡ length (leBytes 8 header ++ entries)
 
 module _ (s : List ℕ) (es : List Entry) (used : ℕ) where
-  pub laid-read : length s ≤ 65536 → WellFormed es → BodyLaid s es used → previous s ≡ parsed es used
-  unfolding previous
-  laid-read small good body =
+  pub laid-in : WellFormed es → BodyLaid s es used → entriesIn s ≡ parsed es used
+  laid-in good body =
       let h = body .header in
       let first = le-stands s 0 8 h (here-first s 0 (leBytes 8 h) (body .entries) (body .here)) (body .below) in
       let behind : Here s 8 (body .entries) = subst (λ (n : ℕ). Here s (0 + n) (body .entries)) (length-leBytes 8 h) (here-rest s 0 (leBytes 8 h) (body .entries) (body .here)) in
       let found = entries-stand s (saysTagged h) es (body .entries) 8 (body .laid) good behind in
       let end : 8 + length (body .entries) ≡ used = omega (arith, body .end, length-append (leBytes 8 h) (body .entries), length-leBytes 8 h) in
-      body-fits s (andThen (leAt 8 s 0) (entriesAfter s)) small
-      ∙ ap (λ (p : Parse ℕ). andThen p (entriesAfter s)) first
+      ap (λ (p : Parse ℕ). andThen p (entriesAfter s)) first
       ∙ ap (λ (n : ℕ). many (entryAt (saysTagged h) s) n 8) (body .count)
       ∙ found ∙ ap (parsed es) end
+
+  pub laid-read : length s ≤ 65536 → WellFormed es → BodyLaid s es used → previous s ≡ parsed es used
+  unfolding previous
+  laid-read small good body = body-fits s (entriesIn s) small ∙ laid-in good body
 
   pub read-laid : Bytes s → previous s ≡ parsed es used → BodyLaid s es used × WellFormed es
   read-laid are-bytes e =
@@ -123,7 +125,7 @@ entries-take tagged (entry k is ∷ es) good =
     omega (arith, length-append (entryBytes tagged (entry k is)) (entriesBytes tagged es), entry-length tagged k is (good .0 .uuid), entries-take tagged es (good .3))
 
 module _ (es : List Entry) (good : WellFormed es) where
-  rewritten-laid : (rest : List ℕ) → length (bodyBytes es) ≤ 65536 → BodyLaid (bodyBytes es ++ rest) es (length (bodyBytes es))
+  rewritten-laid : (rest : List ℕ) → length (bodyBytes es) < 2 ^ 48 → BodyLaid (bodyBytes es ++ rest) es (length (bodyBytes es))
   unfolding bodyBytes
   rewritten-laid rest small =
       let t = anyTag es in
@@ -149,6 +151,12 @@ module _ (es : List Entry) (good : WellFormed es) where
   pub rewritten-read : (rest : List ℕ) → length (bodyBytes es ++ rest) ≤ 65536 → previous (bodyBytes es ++ rest) ≡ parsed es (length (bodyBytes es))
   rewritten-read rest small =
       laid-read (bodyBytes es ++ rest) es (length (bodyBytes es)) small good (rewritten-laid rest (omega (arith, length-append (bodyBytes es) rest)))
+
+  -- the same without the limit of bodies
+  pub rewritten-in : length (bodyBytes es) < 2 ^ 48 → entriesIn (bodyBytes es) ≡ parsed es (length (bodyBytes es))
+  rewritten-in small =
+      let alone = append-nil (bodyBytes es) in
+      ap entriesIn (sym alone) ∙ laid-in (bodyBytes es ++ []) es (length (bodyBytes es)) good (rewritten-laid [] small)
 
   pub rewritten-read-alone : length (bodyBytes es) ≤ 65536 → previous (bodyBytes es) ≡ parsed es (length (bodyBytes es))
   rewritten-read-alone small =
@@ -186,7 +194,7 @@ entries-least tagged all bs (followed {k} {is} {es} {tag} {rest} t l) good =
     )
 
 -- without tags they take no more, and an untagged body has none
-plain-least : (es : List Entry) → length (entriesBytes false es) ≤ length (entriesBytes true es)
+pub plain-least : (es : List Entry) → length (entriesBytes false es) ≤ length (entriesBytes true es)
 unfolding entriesBytes entryBytes
 plain-least [] = omega arith
 plain-least (entry k is ∷ es) =

@@ -55,6 +55,10 @@ saysCount header = pick (saysTagged header) (header / 256 % 2 ^ 48) (header % 2 
 abbrev pub entriesAfter : List ℕ → ℕ → ℕ → Parse (List Entry)
 entriesAfter s header at = many (entryAt (saysTagged header) s) (saysCount header) at
 
+-- the header and the entries, however many bytes there are
+abbrev pub entriesIn : List ℕ → Parse (List Entry)
+entriesIn s = andThen (leAt 8 s 0) (entriesAfter s)
+
 -- the whole body
 unfoldable pub previous : List ℕ → Parse (List Entry)
-previous s = ofBody s (andThen (leAt 8 s 0) (entriesAfter s))
+previous s = ofBody s (entriesIn s)

@@ -1,6 +1,6 @@
 -- Laws of a step (`specs/Steps.antt`): the ways that it goes, and steps one after another.
 use mathlib.Core.Path.{_≡_, refl, sym, ap, _∙_}
-use mathlib.Core.Bool.{true}
+use mathlib.Core.Bool.{true, false}
 use mathlib.Core.List.{List}
 use Prim.Native.Nat.{ℕ, zero, suc, _+_, _-_, _≤_, _<_}
 use native.Mathlib.Omega.{arith}
@@ -19,10 +19,10 @@ use Rattle.previous_gtids_event.specs.Previous.{entryAt}
 use Rattle.previous_gtids_event.specs.Answers.{headerRead, entryRead}
 use Rattle.previous_gtids_event.specs.declared.HeaderRead.{HeaderRead}
 use Rattle.previous_gtids_event.specs.declared.EntryRead.{EntryRead}
-use Rattle.previous_gtids_event.proofs.Reading.{was-read, was-not-read, entry-there}
+use Rattle.previous_gtids_event.proofs.Reading.{was-read, was-not-read}
 use Rattle.previous_gtids_reader.specs.declared.Cursor.{Cursor}
 use Rattle.previous_gtids_reader.specs.declared.Step.{Step}
-use Rattle.previous_gtids_reader.specs.Steps.{cursorAt, refusedCursor, cursorOf, startOf, refusedStep, endStep, entryStep, stepped, stepOf, cursorAfter, stepAfter}
+use Rattle.previous_gtids_reader.specs.Steps.{cursorAt, refusedCursor, cursorOf, startOf, refusedStep, endStep, entryStep, stepped, stepOf, onwards, cursorAfter, stepAfter}
 
 -- ---- the start
 header-says : (p : Parse ℕ) → headerRead p .refusal ≡ refusalOf p
@@ -62,7 +62,7 @@ entry-says (refuse x) = refl
 entry-says (parsed (entry k is) next) = refl
 
 module _ (s : List ℕ) (c : Cursor) where
-  pub step-unbegun : (c .refusal ≡ 0 → ⊥) → stepOf s c ≡ refusedStep c (c .refusal)
+  pub step-unbegun : (c .refusal ≡ 0 → ⊥) → stepOf s c ≡ refusedStep (c .refusal)
   unfolding stepOf
   step-unbegun h = rw (ne-eqb (c .refusal) 0 h)
 
@@ -77,10 +77,10 @@ module _ (s : List ℕ) (c : Cursor) where
       step-there p e = rw (eq-eqb (c .refusal) 0 begun, ne-eqb (c .left) 0 some, e)
 
       module _ (r : EntryRead) (is : r ≡ entryRead (ofBody s (entryAt (c .tagged) s (c .at)))) where
-        pub step-refused : (r .refusal ≡ 0 → ⊥) → record { more = true; entry = r; cursor = c } ≡ stepOf s c
+        pub step-refused : (r .refusal ≡ 0 → ⊥) → refusedStep (r .refusal) ≡ stepOf s c
         step-refused z =
             let (x, e, told) = was-not-read entryRead (λ y. y .refusal) entry-says (ofBody s (entryAt (c .tagged) s (c .at))) r is z in
-            ap (λ (y : EntryRead). record { more = true; entry = y; cursor = c }) told ∙ sym (step-there (refuse x) e)
+            ap (λ (y : EntryRead). refusedStep (y .refusal)) told ∙ sym (step-there (refuse x) e)
 
         pub step-read : r .refusal ≡ 0 → record { more = true; entry = r; cursor = cursorAt (c .tagged) (c .left - 1) (r .next) } ≡ stepOf s c
         step-read z =
@@ -101,10 +101,10 @@ pub record Hands (s : List ℕ) (c : Cursor) (e : Entry) : Type 0 where
   pub whole : entryAt (c .tagged) s (c .at) ≡ parsed e next
   pub is : stepOf s c ≡ entryStep (c .tagged) (c .left - 1) e next
 
--- what else it does leaves the cursor where it was, and tells nothing but a refusal's number
+-- what a step does: it hands out an entry, or refuses and tells nothing but the number, which is not 0, or is the end
 pub data Kind (s : List ℕ) (c : Cursor) : Type 0 where
   hands : (e : Entry) → Hands s c e → Kind s c
-  refuses : (n : ℕ) → (n ≡ 0 → ⊥) → stepOf s c ≡ refusedStep c n → Kind s c
+  refuses : (n : ℕ) → (n ≡ 0 → ⊥) → stepOf s c ≡ refusedStep n → Kind s c
   ends : stepOf s c ≡ endStep c → Kind s c
 
 pub step-kind : (s : List ℕ) (c : Cursor) → Kind s c
@@ -125,41 +125,26 @@ step-kind s c =
 pub hands-told : (s : List ℕ) (c : Cursor) (e : Entry) → Hands s c e → (stepOf s c .more ≡ true) × (stepOf s c .entry .refusal ≡ 0)
 hands-told s c (entry k is) h = (ap (λ (y : Step). y .more) (h .is), ap (λ (y : Step). y .entry .refusal) (h .is))
 
--- it takes bytes
-hands-onward : (s : List ℕ) (c : Cursor) (e : Entry) → Hands s c e → stepOf s c .entry .next ≡ 0 → ⊥
-hands-onward s c (entry k is) h z =
-    let there = entry-there (c .tagged) s (c .at) k is (h .next) (h .whole) in
-    let end : stepOf s c .entry .next ≡ h .next = ap (λ (y : Step). y .entry .next) (h .is) in
-    omega (arith, end, z, there .end, there .head .tag .after, there .head .eight)
-
--- a step that tells no place behind an entry stays
-pub still : (s : List ℕ) (c : Cursor) → stepOf s c .entry .next ≡ 0 → stepOf s c .cursor ≡ c
-still s c z = go (step-kind s c)
-  where
-    go : Kind s c → stepOf s c .cursor ≡ c
-    go (hands e h) = absurd (hands-onward s c e h z)
-    go (refuses n some e) = ap (λ (y : Step). y .cursor) e
-    go (ends e) = ap (λ (y : Step). y .cursor) e
-
 -- ---- steps one after another
 module _ (s : List ℕ) where
   pub after-none : (c : Cursor) → cursorAfter s 0 c ≡ c
   unfolding cursorAfter
   after-none c = refl
 
-  pub after-next : (n : ℕ) (c : Cursor) → cursorAfter s (suc n) c ≡ cursorAfter s n (stepOf s c .cursor)
+  pub after-next : (n : ℕ) (c : Cursor) → cursorAfter s (suc n) c ≡ cursorAfter s n (onwards c (stepOf s c))
   unfolding cursorAfter
   after-next n c = refl
 
-  pub after-still : (c : Cursor) → stepOf s c .cursor ≡ c → (n : ℕ) → cursorAfter s n c ≡ c
+  -- a step that hands out nothing leaves the reader where it was, however often it is asked again
+  pub after-still : (c : Cursor) → stepOf s c .more ≡ false → (n : ℕ) → cursorAfter s n c ≡ c
   after-still c h zero = after-none c
-  after-still c h (suc n) = after-next n c ∙ ap (cursorAfter s n) h ∙ after-still c h n
+  after-still c h (suc n) = after-next n c ∙ ap (cursorAfter s n) (rw h) ∙ after-still c h n
 
   pub after-more : (n m : ℕ) (c : Cursor) → cursorAfter s (n + m) c ≡ cursorAfter s m (cursorAfter s n c)
   after-more zero m c = let none : zero + m ≡ m = omega arith in rw (none, after-none c)
   after-more (suc n) m c =
       let one : suc n + m ≡ suc (n + m) = omega arith in
-      rw (one, after-next (n + m) c, after-next n c) (after-more n m (stepOf s c .cursor))
+      rw (one, after-next (n + m) c, after-next n c) (after-more n m (onwards c (stepOf s c)))
 
   pub step-after : (n : ℕ) → stepAfter s n ≡ stepOf s (cursorAfter s n (startOf s))
   unfolding stepAfter
@@ -174,14 +159,19 @@ module _ (s : List ℕ) where
   ahead-start index n c h e = record { is = rw (h, e) }
 
   module _ (whole : Step) (n : ℕ) (c : Cursor) (far : Ahead whole n c) where
-    pub ahead-turn : (m : ℕ) → n ≡ suc m → (r : Step) → r ≡ stepOf s c → Ahead whole m (r .cursor)
-    ahead-turn m h r e = record {
-      is = far .is ∙ ap (λ (k : ℕ). stepOf s (cursorAfter s k c)) h ∙ ap (stepOf s) (after-next m c) ∙ ap (λ (y : Step). stepOf s (cursorAfter s m (y .cursor))) (sym e);
-    }
+    pub ahead-turn : (m : ℕ) → n ≡ suc m → (r : Step) → r ≡ stepOf s c → r .more ≡ true → Ahead whole m (r .cursor)
+    ahead-turn m h r e more =
+        let on : onwards c r ≡ r .cursor = rw more in
+        record {
+          is =
+              far .is ∙ ap (λ (k : ℕ). stepOf s (cursorAfter s k c)) h ∙ ap (stepOf s) (after-next m c)
+              ∙ ap (λ (y : Step). stepOf s (cursorAfter s m (onwards c y))) (sym e)
+              ∙ ap (λ (y : Cursor). stepOf s (cursorAfter s m y)) on;
+        }
 
-    pub ahead-still : (r : Step) → r ≡ stepOf s c → r .entry .next ≡ 0 → r ≡ whole
-    ahead-still r e z =
-        let stays = still s c (sym (ap (λ (y : Step). y .entry .next) e) ∙ z) in
+    pub ahead-still : (r : Step) → r ≡ stepOf s c → r .more ≡ false → r ≡ whole
+    ahead-still r e none =
+        let stays = sym (ap (λ (y : Step). y .more) e) ∙ none in
         e ∙ sym (far .is ∙ ap (stepOf s) (after-still c stays n))
 
     pub ahead-none : n ≡ 0 → (r : Step) → r ≡ stepOf s c → r ≡ whole

@@ -1,7 +1,7 @@
 -- The steps give exactly what reading the whole body gives: its entries in order, and then the end (`steps-give`, `steps-end`); where the body
 -- is refused, the entries before the fault and then that refusal, however often one asks again (`steps-refuse`).
 use mathlib.Core.Path.{_≡_, refl, sym, ap, _∙_}
-use mathlib.Core.Bool.{Bool, true}
+use mathlib.Core.Bool.{Bool, true, false}
 use mathlib.Core.List.{List, [], _∷_}
 use Prim.Native.Nat.{ℕ, zero, suc, _+_, _-_, _≤_, _<_}
 use native.Mathlib.Omega.{arith}
@@ -20,7 +20,7 @@ use Rattle.previous_gtids_event.specs.declared.HeaderRead.{HeaderRead}
 use Rattle.previous_gtids_event.proofs.Reading.{headless, headed}
 use Rattle.previous_gtids_reader.specs.declared.Cursor.{Cursor}
 use Rattle.previous_gtids_reader.specs.declared.Step.{Step}
-use Rattle.previous_gtids_reader.specs.Steps.{cursorAt, refusedCursor, startOf, refusedStep, endStep, entryStep, stepOf, cursorAfter, stepAfter}
+use Rattle.previous_gtids_reader.specs.Steps.{cursorAt, refusedCursor, startOf, refusedStep, endStep, entryStep, stepOf, onwards, cursorAfter, stepAfter}
 use Rattle.previous_gtids_reader.proofs.StepLaws.{Hands, hands-told, start-refused, start-read, step-unbegun, step-end, step-there, after-none, after-next, after-still, after-more, step-after}
 
 -- the steps from a cursor on hand out these entries, in order
@@ -30,7 +30,7 @@ Gives s c es = (d : Entry) (k : ℕ) → k < length es → Hands s (cursorAfter 
 gives-none : (s : List ℕ) (c : Cursor) → Gives s c []
 gives-none s c d k h = absurd (omega arith)
 
-gives-one : (s : List ℕ) (c c′ : Cursor) (e : Entry) (es : List Entry) → stepOf s c .cursor ≡ c′ → Hands s c e → Gives s c′ es → Gives s c (e ∷ es)
+gives-one : (s : List ℕ) (c c′ : Cursor) (e : Entry) (es : List Entry) → onwards c (stepOf s c) ≡ c′ → Hands s c e → Gives s c′ es → Gives s c (e ∷ es)
 gives-one s c c′ e es m h g d zero lt = rw (after-none s c) h
 gives-one s c c′ e es m h g d (suc k) lt = rw (after-next s k c, m) (g d k (omega arith))
 
@@ -42,7 +42,7 @@ AllGiven s tagged n at es used = Gives s (cursorAt tagged n at) es × (cursorAft
 pub record Stops (s : List ℕ) (c : Cursor) (x : Refusal) : Type 0 where
   pub before : List Entry
   pub gives : Gives s c before
-  pub is : stepOf s (cursorAfter s (length before) c) ≡ refusedStep (cursorAfter s (length before) c) (number x)
+  pub is : stepOf s (cursorAfter s (length before) c) ≡ refusedStep (number x)
 
 -- ---- from a cursor on
 module _ (s : List ℕ) (small : length s ≤ 65536) (tagged : Bool) where
@@ -52,7 +52,7 @@ module _ (s : List ℕ) (small : length s ≤ 65536) (tagged : Bool) where
       step-there s (cursorAt tagged (suc n) at) refl (λ z. omega arith) (parsed e next) (body-fits s (entryAt tagged s at) small ∙ p)
       ∙ ap (λ (m : ℕ). entryStep tagged m e next) less
 
-  step-fault : (n at : ℕ) (x : Refusal) → entryAt tagged s at ≡ refuse x → stepOf s (cursorAt tagged (suc n) at) ≡ refusedStep (cursorAt tagged (suc n) at) (number x)
+  step-fault : (n at : ℕ) (x : Refusal) → entryAt tagged s at ≡ refuse x → stepOf s (cursorAt tagged (suc n) at) ≡ refusedStep (number x)
   step-fault n at x p = step-there s (cursorAt tagged (suc n) at) refl (λ z. omega arith) (refuse x) (body-fits s (entryAt tagged s at) small ∙ p)
 
   hands-entry : (n at : ℕ) (e : Entry) (next : ℕ) → entryAt tagged s at ≡ parsed e next → Hands s (cursorAt tagged (suc n) at) e
@@ -80,7 +80,7 @@ module _ (s : List ℕ) (small : length s ≤ 65536) (tagged : Bool) where
           let all : e ∷ others ≡ es = cc in
           let (g, l) = on next others (i ∙ ap (parsed others) same) in
           let c = cursorAt tagged (suc n) at in
-          let moved : stepOf s c .cursor ≡ cursorAt tagged n next = ap (λ (y : Step). y .cursor) (step-entry n at e next p) in
+          let moved : onwards c (stepOf s c) ≡ cursorAt tagged n next = ap (onwards c) (step-entry n at e next p) in
           rw (← all) (
             gives-one s c (cursorAt tagged n next) e others moved (hands-entry n at e next p) g,
             after-next s (length others) c ∙ ap (cursorAfter s (length others)) moved ∙ l,
@@ -101,13 +101,13 @@ module _ (s : List ℕ) (small : length s ≤ 65536) (tagged : Bool) where
       rest on e next p (refuse y) i h =
           let o = on next (i ∙ h) in
           let c = cursorAt tagged (suc n) at in
-          let moved : stepOf s c .cursor ≡ cursorAt tagged n next = ap (λ (y : Step). y .cursor) (step-entry n at e next p) in
+          let moved : onwards c (stepOf s c) ≡ cursorAt tagged n next = ap (onwards c) (step-entry n at e next p) in
           let further : cursorAfter s (length (e ∷ o .before)) c ≡ cursorAfter s (length (o .before)) (cursorAt tagged n next) =
           after-next s (length (o .before)) c ∙ ap (cursorAfter s (length (o .before))) moved in
           record {
             before = e ∷ o .before;
             gives = gives-one s c (cursorAt tagged n next) e (o .before) moved (hands-entry n at e next p) (o .gives);
-            is = ap (stepOf s) further ∙ o .is ∙ ap (λ (y : Cursor). refusedStep y (number x)) (sym further);
+            is = ap (stepOf s) further ∙ o .is;
           }
       rest on e next p (parsed others last) i h = never (sym h)
 
@@ -120,7 +120,7 @@ module _ (s : List ℕ) (small : length s ≤ 65536) (tagged : Bool) where
           record {
             before = [];
             gives = gives-none s c;
-            is = ap (stepOf s) (after-none s c) ∙ step-fault n at x (p ∙ ap refuse one) ∙ ap (λ (y : Cursor). refusedStep y (number x)) (sym (after-none s c));
+            is = ap (stepOf s) (after-none s c) ∙ step-fault n at x (p ∙ ap refuse one);
           }
       go on (parsed e next) p = rest on e next p (many (entryAt tagged s) n next) refl (sym (many-next (entryAt tagged s) n at e next p) ∙ m)
 
@@ -130,8 +130,8 @@ module _ (s : List ℕ) where
   abbrev says : HeaderRead
   says = headerRead (ofBody s (leAt 8 s 0))
 
-  -- a step whose cursor stays is repeated
-  repeats : (n : ℕ) (c : Cursor) → cursorAfter s n (startOf s) ≡ c → stepOf s c .cursor ≡ c → (m : ℕ) → stepAfter s (n + m) ≡ stepAfter s n
+  -- a step that hands out nothing is repeated
+  repeats : (n : ℕ) (c : Cursor) → cursorAfter s n (startOf s) ≡ c → stepOf s c .more ≡ false → (m : ℕ) → stepAfter s (n + m) ≡ stepAfter s n
   unfolding stepAfter
   repeats n c e h m = ap (stepOf s) (after-more s n m (startOf s) ∙ ap (cursorAfter s m) e ∙ after-still s c h m ∙ sym e)
 
@@ -174,22 +174,22 @@ module _ (s : List ℕ) where
     pub steps-end-again : (m : ℕ) → stepAfter s (length es + m) ≡ stepAfter s (length es)
     steps-end-again m =
         let (tagged, g, l) = given in
-        repeats (length es) (cursorAt tagged 0 used) l (ap (λ (y : Step). y .cursor) (step-end s (cursorAt tagged 0 used) refl refl)) m
+        repeats (length es) (cursorAt tagged 0 used) l (ap (λ (y : Step). y .more) (step-end s (cursorAt tagged 0 used) refl refl)) m
 
--- a body that is refused: the entries before the fault, then its refusal, at a cursor that stays, and the same again
+-- a body that is refused: the entries before the fault, then its refusal, all zero but for its number, and the same again
 pub record Refuses (s : List ℕ) (x : Refusal) : Type 0 where
   pub before : List Entry
   pub gives : Gives s (startOf s) before
-  pub refused : stepAfter s (length before) ≡ refusedStep (cursorAfter s (length before) (startOf s)) (number x)
+  pub refused : stepAfter s (length before) ≡ refusedStep (number x)
   pub again : (m : ℕ) → stepAfter s (length before + m) ≡ stepAfter s (length before)
 
 -- a cursor that could not be begun
-unbegun : (s : List ℕ) (x : Refusal) (c : Cursor) → stepOf s c ≡ refusedStep c (number x) → Stops s c x
+unbegun : (s : List ℕ) (x : Refusal) (c : Cursor) → stepOf s c ≡ refusedStep (number x) → Stops s c x
 unbegun s x c h =
     record {
       before = [];
       gives = gives-none s c;
-      is = ap (stepOf s) (after-none s c) ∙ h ∙ ap (λ (y : Cursor). refusedStep y (number x)) (sym (after-none s c));
+      is = ap (stepOf s) (after-none s c) ∙ h;
     }
 
 told : (s : List ℕ) (x : Refusal) → Stops s (startOf s) x → Refuses s x
@@ -199,7 +199,7 @@ told s x o =
       before = o .before;
       gives = o .gives;
       refused = o .is;
-      again = repeats s (length (o .before)) (cursorAfter s (length (o .before)) (startOf s)) refl (ap (λ (y : Step). y .cursor) (o .is));
+      again = repeats s (length (o .before)) (cursorAfter s (length (o .before)) (startOf s)) refl (ap (λ (y : Step). y .more) (o .is));
     }
 
 pub steps-refuse : (s : List ℕ) (x : Refusal) → previous s ≡ refuse x → Refuses s x
@@ -216,6 +216,6 @@ steps-refuse s x read =
     let same : _≡_ {A = Parse (List Entry)} (refuse y) (refuse x) = sym m ∙ read in
     let one : y ≡ x = cc in
     let c = refusedCursor (says s .refusal) in
-    let here : stepOf s c ≡ refusedStep c (number x) = step-unbegun s c z ∙ ap (refusedStep c) (n ∙ ap number one) in
+    let here : stepOf s c ≡ refusedStep (number x) = step-unbegun s c z ∙ ap refusedStep (n ∙ ap number one) in
     let o = unbegun s x c here in
     told s x (rw (start-refused s (says s) refl z) at o))

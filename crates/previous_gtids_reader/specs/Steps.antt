@@ -32,13 +32,17 @@ startOf s = cursorOf (ofBody s (leAt 8 s 0))
 
 -- ---- one step
 
--- a refusal: the cursor stays
-abbrev pub refusedStep : Cursor → ℕ → Step
-refusedStep c refusal = record { more = true; entry = refusedEntry refusal; cursor = c }
+-- a step that hands out nothing
+abbrev pub emptyStep : ℕ → Cursor → Step
+emptyStep refusal c = record { more = false; entry = refusedEntry refusal; cursor = c }
 
--- nothing is left
+-- a refusal: all zero but for its number
+abbrev pub refusedStep : ℕ → Step
+refusedStep refusal = emptyStep refusal (cursorAt false 0 0)
+
+-- nothing is left: no refusal, and the cursor is handed back
 abbrev pub endStep : Cursor → Step
-endStep c = record { more = false; entry = refusedEntry 0; cursor = c }
+endStep c = emptyStep 0 c
 
 -- an entry that ends at a place, with so many left behind it
 abbrev pub entryStep : Bool → ℕ → Entry → ℕ → Step
@@ -46,21 +50,25 @@ entryStep tagged left e next = record { more = true; entry = entryRead (parsed e
 
 -- what reading the next entry gives
 abbrev pub stepped : Cursor → Parse Entry → Step
-stepped c (refuse r) = refusedStep c (number r)
+stepped c (refuse r) = refusedStep (number r)
 stepped c (parsed e next) = entryStep (c .tagged) (c .left - 1) e next
 
 unfoldable pub stepOf : List ℕ → Cursor → Step
 stepOf s c =
     pick (eqb (c .refusal) 0)
     (pick (eqb (c .left) 0) (endStep c) (stepped c (ofBody s (entryAt (c .tagged) s (c .at)))))
-    (refusedStep c (c .refusal))
+    (refusedStep (c .refusal))
 
 -- ---- steps one after another
+
+-- where a step leaves a reader: behind the entry that it hands out; a refusal and the end leave it where it was
+abbrev pub onwards : Cursor → Step → Cursor
+onwards c step = pick (step .more) (step .cursor) c
 
 -- the cursor after n steps
 unfoldable pub cursorAfter : List ℕ → ℕ → Cursor → Cursor
 cursorAfter s zero c = c
-cursorAfter s (suc n) c = cursorAfter s n (stepOf s c .cursor)
+cursorAfter s (suc n) c = cursorAfter s n (onwards c (stepOf s c))
 
 -- the step that has n before it, from the start on
 unfoldable pub stepAfter : List ℕ → ℕ → Step

@@ -1,11 +1,10 @@
 // Hands out the entries of a Previous-GTIDs body (type 35) one after another. Every answer has the number of its refusal, 0
-// for none. A refused step leaves the reader where it was, so asking again repeats it.
+// for none. A refused answer is all zero but for its number and leaves the reader where it was, so asking again repeats it.
 use previous_gtids_event::EntryRead;
 use previous_gtids_event::read::entry_at;
 use previous_gtids_event::read::header_of;
 ghost use mathlib.Core.Path.{_≡_};
-ghost use Rattle.previous_gtids_event.specs.Answers.{refusedEntry};
-ghost use Rattle.previous_gtids_reader.specs.Steps.{startOf, stepOf, stepAfter};
+ghost use Rattle.previous_gtids_reader.specs.Steps.{startOf, emptyStep, stepOf, stepAfter};
 ghost use Rattle.previous_gtids_reader.specs.Held.{readerAt};
 
 // Where the next entry lies, how many are left, and whether they have tags. With a refusal the body could not be begun, and
@@ -17,24 +16,31 @@ pub struct Cursor {
     pub tagged: bool,
 }
 
-// One step: whether anything was left to read, what reading it gave (zeros at the end), and where to go on.
+// One step: whether it hands out an entry, the entry, and the cursor behind it. A caller moves on only if it does. Else the
+// entry is all zero but for its refusal, which tells a refusal from the end: at the end it is 0, and the cursor is the one
+// that was asked at; with a refusal the cursor too is all zero.
 pub struct Step {
     pub more: bool,
     pub entry: EntryRead,
     pub cursor: Cursor,
 }
 
-fn refused_entry(refusal: u8) -> EntryRead
-    ensures { λ r. ⌜ r ≡ refusedEntry refusal ⌝ }
+// A step that hands out no entry.
+fn empty_step(refusal: u8, cursor: Cursor) -> Step
+    ensures { λ r. ⌜ r ≡ emptyStep refusal cursor ⌝ }
 {
-    EntryRead {
-        refusal,
-        uuid: [0u8; 16],
-        tag: [0u8; 32],
-        tag_len: 0,
-        intervals: 0,
-        first: 0,
-        next: 0,
+    Step {
+        more: false,
+        entry: EntryRead {
+            refusal,
+            uuid: [0u8; 16],
+            tag: [0u8; 32],
+            tag_len: 0,
+            intervals: 0,
+            first: 0,
+            next: 0,
+        },
+        cursor,
     }
 }
 
@@ -64,31 +70,25 @@ pub fn start(body: &[u8]) -> Cursor
 pub fn step_at(body: &[u8], cursor: Cursor) -> Step
     ensures { λ r. ⌜ r ≡ stepOf (now (body .entry)) cursor ⌝ }
 {
+    let zero = Cursor {
+        refusal: 0,
+        at: 0,
+        left: 0,
+        tagged: false,
+    };
     let refusal = cursor.refusal;
     if refusal != 0 {
-        return Step {
-            more: true,
-            entry: refused_entry(refusal),
-            cursor,
-        };
+        return empty_step(refusal, zero);
     }
     let left = cursor.left;
     if left == 0 {
-        return Step {
-            more: false,
-            entry: refused_entry(0),
-            cursor,
-        };
+        return empty_step(0, cursor);
     }
     let tagged = cursor.tagged;
     let entry = entry_at(body, cursor.at, tagged);
     let refused = entry.refusal;
     if refused != 0 {
-        return Step {
-            more: true,
-            entry,
-            cursor,
-        };
+        return empty_step(refused, zero);
     }
     let next = entry.next;
     Step {
@@ -103,26 +103,8 @@ pub fn step_at(body: &[u8], cursor: Cursor) -> Step
     }
 }
 
-// The step that has so many before it, from the start on, for callers who keep no cursor. A step that hands out no entry
-// tells no place behind it, and all later steps repeat it.
-pub fn entry_number(body: &[u8], index: u64) -> Step
-    ensures { λ r. ⌜ r ≡ stepAfter (now (body .entry)) index ⌝ }
-{
-    let mut cursor = start(body);
-    let mut done: u64 = 0;
-    while done < index {
-        let step = step_at(body, cursor);
-        let next = step.entry.next;
-        if next == 0 {
-            return step;
-        }
-        cursor = step.cursor;
-        done += 1;
-    }
-    step_at(body, cursor)
-}
-
-// Holds a body, and hands out its entries: `next` gives a step, and `moved` takes the reader to that step's cursor.
+// Holds a body, and hands out its entries: `next` gives a step, and `moved` takes the reader to that step's cursor. After a
+// step that hands out no entry the caller keeps its reader as it is.
 pub struct Reader<'a> {
     pub body: &'a [u8],
     pub cursor: Cursor,
@@ -145,7 +127,7 @@ pub fn next<'a>(r: Reader<'a>) -> Step
     step_at(r.body, r.cursor)
 }
 
-// The reader at another cursor of its body: at a step's, to go on.
+// The reader at another cursor of its body: at that of a step that hands out an entry, to go on.
 pub fn moved<'a>(r: Reader<'a>, cursor: Cursor) -> Reader<'a>
     ensures { λ q. ⌜ q ≡ readerAt (r .entry .body) cursor ⌝ }
 {
@@ -153,4 +135,30 @@ pub fn moved<'a>(r: Reader<'a>, cursor: Cursor) -> Reader<'a>
         body: r.body,
         cursor,
     }
+}
+
+// The step at a cursor, of a reader that is made for it.
+fn step_from(body: &[u8], cursor: Cursor) -> Step
+    ensures { λ r. ⌜ r ≡ stepOf (now (body .entry)) cursor ⌝ }
+{
+    next(moved(new(body), cursor))
+}
+
+// The step that has so many before it, from the start on, for callers who keep no reader. A step that hands out no entry leaves
+// the reader where it was, so all later steps repeat it.
+pub fn entry_number(body: &[u8], index: u64) -> Step
+    ensures { λ r. ⌜ r ≡ stepAfter (now (body .entry)) index ⌝ }
+{
+    let mut cursor = start(body);
+    let mut done: u64 = 0;
+    while done < index {
+        let step = step_from(body, cursor);
+        if step.more {
+            cursor = step.cursor;
+            done += 1;
+        } else {
+            return step;
+        }
+    }
+    step_from(body, cursor)
 }

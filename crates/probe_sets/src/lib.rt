@@ -5,6 +5,7 @@ use probe_lines::checks;
 use probe_lines::line::push_decimal;
 use probe_lines::line::push_text;
 use resume_set::Offered;
+use resume_set::take_in::take_in;
 
 // `ok WORD LEN HEX`: the word ends in a space.
 fn accepted(line: &mut [u8], word: &[u8], out: &[u8], len: usize) -> usize {
@@ -12,6 +13,12 @@ fn accepted(line: &mut [u8], word: &[u8], out: &[u8], len: usize) -> usize {
     let len_at = push_text(line, word_at, word);
     let end = answers::push_output(line, len_at, out, len);
     answers::push_dirty(line, end, out, len)
+}
+
+fn takein(body: &[u8], out: &mut [u8], line: &mut [u8]) -> usize {
+    checks::fill(out);
+    let wrote = take_in(body, out);
+    answers::wrote(line, out, wrote)
 }
 
 fn offer(set: &[u8], event_type: u8, body: &[u8], out: &mut [u8], line: &mut [u8]) -> usize {
@@ -48,6 +55,7 @@ pub fn answer(
     line: &mut [u8],
 ) -> usize {
     match call {
+        48 => takein(a, out, line),
         49 => offer(a, event_type, b, out, line),
         50 => isset(a, line),
         _ => answers::none(line),

@@ -21,7 +21,7 @@ use Rattle.packets.proofs.Tests.{split}
 use Rattle.packets.proofs.TagLaws.{tag-at-most-32}
 use Rattle.previous_gtids_event.specs.Entry.{Entry}
 use Rattle.previous_gtids_event.specs.Previous.{noneOrTag}
-use Rattle.previous_gtids_event.specs.Rewrite.{anyTag, bodyBytes}
+use Rattle.previous_gtids_event.specs.Rewrite.{bodyBytes}
 use Rattle.gtid_event.specs.declared.GtidEvent.{GtidEvent}
 use Rattle.gtid_event_read.specs.Read.{gtid, gtidRead}
 use Rattle.gtid_event_read.specs.declared.GtidRead.{GtidRead}
@@ -31,18 +31,18 @@ use Rattle.gtid_sets.specs.Limits.{Judged, fine, breaks, limits, intervals}
 use Rattle.gtid_sets.specs.Run.{Event, names}
 use Rattle.gtid_sets.specs.Lent.{Lent, form, unfit, lentSet}
 use Rattle.gtid_sets.proofs.LimitLaws.{maxEntries-is, maxIntervals-is, limits-from, too-many-entries, too-many-intervals}
-use Rattle.gtid_sets.proofs.LentLaws.{lent-is}
 use Rattle.set_check.specs.Check.{checkedOf}
 use Rattle.set_check.specs.declared.Checked.{Checked}
 use Rattle.set_check.proofs.PlaceLaws.{Bytes}
 use Rattle.resume_set.specs.Answers.{setRead, contained, eventOf, fitting, offeredOf, outputFor, offered, output, saved, caseOf, acceptedAs}
-use Rattle.resume_set.specs.Find.{setOf, entriesOf, Fits}
+use Rattle.resume_set.specs.Find.{setOf, Fits}
 use Rattle.resume_set.specs.declared.SetRead.{SetRead}
 use Rattle.resume_set.specs.declared.Contained.{Contained}
 use Rattle.resume_set.specs.declared.Offered.{Offered}
 use Rattle.resume_set.specs.declared.Offered.the-variants.{Refused}
 use Rattle.resume_set.specs.declared.Kind.{Kind}
 use Rattle.resume_set.specs.declared.Kind.the-variants as kind
+use Rattle.resume_set.proofs.SetOfLaws.{lent-set}
 
 -- ---- what the check told
 
@@ -52,21 +52,17 @@ set-read c unfit e = ap (λ (y : Checked). record { refusal = y .refusal; entrie
 set-read c (form s) e = ap (λ (y : Checked). record { refusal = y .refusal; entries = y .entries; intervals = y .intervals }) e
 
 pub check-told : (bs : List ℕ) (c : Checked) → c ≡ checkedOf (lentSet bs) → c .refusal ≡ 0 → Fits bs c
-unfolding setOf
 check-told bs c e z = go (lentSet bs) refl
   where
     go : (x : Lent) → lentSet bs ≡ x → Fits bs c
     go unfit p = absurd (omega (arith, sym (ap (λ (y : Checked). y .refusal) (e ∙ ap checkedOf p)) ∙ z))
     go (form s) p =
         let t = e ∙ ap checkedOf p in
+        let (is, same) = lent-set bs s p in
         record {
-          set = record {
-            lent = p ∙ ap (λ (y : Lent). form (entriesOf y)) (sym p);
-            tags = ap (λ (y : Lent). anyTag (entriesOf y)) p ∙ sym (ap (λ (y : Checked). y .tagged) t);
-            count = ap (λ (y : Lent). length (entriesOf y)) p ∙ sym (ap (λ (y : Checked). y .entries) t);
-          };
-          total = ap (λ (y : Lent). intervals (entriesOf y)) p ∙ sym (ap (λ (y : Checked). y .intervals) t);
-          bytes = ap (λ (y : Lent). bodyBytes (entriesOf y)) p ∙ sym (lent-is bs s p .written);
+          set = rw (ap (λ (y : Checked). y .tagged) t, ap (λ (y : Checked). y .entries) t) is;
+          total = ap intervals same ∙ sym (ap (λ (y : Checked). y .intervals) t);
+          lent = p ∙ ap form (sym same);
         }
 
 pub check-unfit : (bs : List ℕ) (c : Checked) → c ≡ checkedOf (lentSet bs) → (c .refusal ≡ 0 → ⊥) → (lentSet bs ≡ unfit) × (c .refusal ≡ 14)

@@ -21,15 +21,14 @@ use Rattle.previous_gtids_event.specs.Entry.{Entry, entry, uuidOf, tagOf}
 use Rattle.previous_gtids_event.specs.Rewrite.{intervalsBytes, tagBytes, entriesBytes, anyTag, headerBytes, bodyBytes}
 use Rattle.gtid_sets.specs.Interval.{insert}
 use Rattle.gtid_sets.specs.Set.{has, join, SetForm}
-use Rattle.gtid_sets.specs.Limits.{maxIntervals, intervals}
+use Rattle.gtid_sets.specs.Limits.{intervals}
 use Rattle.gtid_sets.specs.Lent.{GoodKey, GoodKeys}
 use Rattle.gtid_sets.proofs.Bools.{or-false-parts}
-use Rattle.gtid_sets.proofs.LimitLaws.{maxIntervals-is, limits-says}
 use Rattle.gtid_sets.proofs.SetLaws.{join-before, join-into, join-after, above-misses, entry-has}
 use Rattle.previous_gtids_event.proofs.Reading.{none-or-tag-short}
 use Rattle.previous_gtids_event.proofs.Writing.{length-header, length-intervals-bytes}
-use Rattle.gtid_sets.proofs.ByteLaws.{entriesBytes-append}
-use Rattle.gtid_sets.proofs.LentLaws.{Lends, lent-is, gapped-wide}
+use Rattle.gtid_sets.proofs.ByteLaws.{entries-least, entriesBytes-append}
+use Rattle.gtid_sets.proofs.LentLaws.{gapped-wide}
 use Rattle.set_check.specs.Places.{numberAt, intervalsAt}
 use Rattle.set_check.specs.Head.{headBytes, KeyOk}
 use Rattle.set_check.proofs.PlaceLaws.{part-there, after-there, left-there, byte-there, number-there, intervals-there, one-byte}
@@ -159,7 +158,7 @@ pub record Stand (bs : List ℕ) (w : Bool) (k : Key) (s : List Entry) (done at 
   pub before-keyed : GoodKeys front
   pub before-tags : w ≡ false → anyTag front ≡ false
   pub tags : w ≡ false → anyTag back ≡ false
-  pub few : intervals back ≤ maxIntervals
+  pub small : length bs ≤ 2 ^ 40
   pub place : 8 + length (entriesBytes w front) ≡ at
   pub inside : at ≤ length bs
 
@@ -172,9 +171,7 @@ pub passed-none : (bs : List ℕ) (w : Bool) (n : ℕ) (k : Key) → IsSet bs w 
 unfolding bodyBytes entriesBytes anyTag
 passed-none bs w n k h =
     let s : List Entry = setOf bs in
-    let l : Lends bs s = lent-is bs s (h .lent) in
-    let (a, b) = limits-says s (l .limited) in
-    let e : bs ≡ headerBytes w (length s) ++ entriesBytes w s = l .written ∙ ap (λ (v : Bool). headerBytes v (length s) ++ entriesBytes v s) (h .tags) in
+    let e : bs ≡ headerBytes w (length s) ++ entriesBytes w s = h .written ∙ ap (λ (v : Bool). headerBytes v (length s) ++ entriesBytes v s) (h .tags) in
     let size : length bs ≡ length (headerBytes w (length s)) + length (entriesBytes w s) = ap length e ∙ length-append (headerBytes w (length s)) (entriesBytes w s) in
     record {
       front = [];
@@ -187,12 +184,12 @@ passed-none bs w n k h =
         rest = ap (drop 8) e ∙ drop-at (headerBytes w (length s)) (entriesBytes w s) 8 (length-header w (length s));
         joins = λ a b. refl;
         member = λ n. refl;
-        formed = l .formed;
-        keyed = l .keyed;
+        formed = h .formed;
+        keyed = h .keyed;
         before-keyed = tt;
         before-tags = λ _. refl;
         tags = λ f. h .tags ∙ f;
-        few = b;
+        small = h .small;
         place = refl;
         inside = omega (arith, length-header w (length s));
       };
@@ -237,7 +234,6 @@ module _ (bs : List ℕ) (w : Bool) (k : Key) (s : List Entry) (done at : ℕ) w
     inside = x .inside;
     tags = (x .before-tags, x .tags);
     keyed = (x .before-keyed, x .keyed);
-    few = omega arith;
     plain = λ e. clash e refl;
     length-front = x .place;
   }
@@ -263,8 +259,12 @@ module _ (bs : List ℕ) (w : Bool) (k : Key) (s : List Entry) (done at : ℕ) w
           omega arith;
     }
 
+    -- its intervals stand in the bytes, 16 to each
+    few : length (x .is) < 2 ^ 64
+    few = omega (arith, v .small, entries-least w (entry (x .key) (x .is) ∷ x .back) (v .keyed), ap length (v .rest), length-drop at bs)
+
     pub here : EntryHere bs at (x .key) (x .is) (entriesBytes w (x .back)) (placeAt w bs at)
-    here = entry-here bs at (x .key) (x .is) (entriesBytes w (x .back)) (omega (arith, v .few, maxIntervals-is)) w ok
+    here = entry-here bs at (x .key) (x .is) (entriesBytes w (x .back)) few w ok
         (v .rest ∙ entries-head w (x .key) (x .is) (x .back))
 
     module _ (p : EntryPlace) (e : p ≡ placeAt w bs at) where
@@ -320,7 +320,7 @@ module _ (bs : List ℕ) (w : Bool) (k : Key) (s : List Entry) (done at : ℕ) w
                 before-keyed = good-snoc (x .key) (x .is) (x .front) (v .before-keyed) (v .keyed .0);
                 before-tags = λ f. any-append (x .front) (e ∷ []) ∙ rw (v .before-tags f, untagged-parts (x .key) (x .is) (x .back) (v .tags f) .0);
                 tags = λ f. untagged-parts (x .key) (x .is) (x .back) (v .tags f) .1;
-                few = omega (arith, v .few);
+                small = v .small;
                 place = rw (entriesBytes-append w (x .front) (e ∷ []), length-append (entriesBytes w (x .front)) (entriesBytes w (e ∷ []))) (omega (arith, v .place, size, left, h .inside, v .inside));
                 inside = h .inside;
               };
@@ -350,7 +350,6 @@ module _ (bs : List ℕ) (w : Bool) (k : Key) (s : List Entry) (done at : ℕ) w
               inside = h .inside;
               keyed = (v .before-keyed, v .keyed .1);
               tags = (v .before-tags, λ f. untagged-parts (x .key) (x .is) (x .back) (v .tags f) .1);
-              few = omega (arith, v .few, h .count);
               plain = λ _ f. rw mine at (ok .plain f);
               length-front = v .place;
             }

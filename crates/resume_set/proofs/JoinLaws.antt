@@ -1,5 +1,5 @@
 -- Laws of a plan: the runs of the set after an interval is joined.
-use Prim.Native.Nat.{ℕ, zero, suc, _+_, _-_, _*_, _<_, _≤_}
+use Prim.Native.Nat.{ℕ, zero, suc, _+_, _-_, _*_, _^_, _<_, _≤_}
 use mathlib.Core.Path.{_≡_, refl, sym, ap, _∙_}
 use mathlib.Core.Bool.{Bool, true, false, not, _&&_, _||_, or-comm}
 use mathlib.Core.List.{List, [], _∷_, _++_, append-assoc, append-nil}
@@ -21,16 +21,14 @@ use Rattle.previous_gtids_event.specs.Entry.{Entry, entry, uuidOf, tagOf}
 use Rattle.previous_gtids_event.specs.Rewrite.{intervalsBytes, tagBytes, entriesBytes, anyTag, headerBytes, bodyBytes}
 use Rattle.gtid_sets.specs.Interval.{Gapped, insert}
 use Rattle.gtid_sets.specs.Set.{join}
-use Rattle.gtid_sets.specs.Limits.{maxIntervals, intervals}
+use Rattle.gtid_sets.specs.Limits.{intervals}
 use Rattle.gtid_sets.specs.Lent.{GoodKeys}
 use Rattle.gtid_sets.specs.Splice.{earlier, takenUp, reach, from}
 use Rattle.gtid_sets.proofs.Bools.{or-swap, or-false-parts}
 use Rattle.gtid_sets.proofs.SetLaws.{join-before, join-into, join-after}
 use Rattle.gtid_sets.proofs.SpliceLaws.{insert-splice}
-use Rattle.gtid_sets.proofs.LimitLaws.{maxEntries-is, maxIntervals-is, longestSet-is, limits-says}
 use Rattle.previous_gtids_event.proofs.Writing.{length-header, length-intervals-bytes}
-use Rattle.gtid_sets.proofs.ByteLaws.{intervalsBytes-append, entriesBytes-append}
-use Rattle.gtid_sets.proofs.LentLaws.{Lends, lent-is, lent-short}
+use Rattle.gtid_sets.proofs.ByteLaws.{body-least, intervalsBytes-append, entriesBytes-append}
 use Rattle.set_check.specs.Places.{numberAt, intervalsAt}
 use Rattle.set_check.specs.Head.{headBytes}
 use Rattle.set_check.proofs.PlaceLaws.{Bytes, part-there, after-there, number-there, intervals-count, intervals-stand, one-byte}
@@ -126,7 +124,7 @@ record Wider (bs : List ℕ) (from : ℕ) (es : List Entry) : Type 0 where
   size : length (entriesBytes true es) ≡ length (entriesBytes false es) + length es
 
 widened-is : (bs : List ℕ) (from : ℕ) (es : List Entry) (r : List ℕ) → drop from bs ≡ entriesBytes false es ++ r → anyTag es ≡ false → GoodKeys es
-    → intervals es ≤ maxIntervals → Wider bs from es
+    → intervals es < 2 ^ 64 → Wider bs from es
 unfolding widened entriesBytes anyTag
 widened-is bs from [] r e t k l = record { run = refl; there = tt; size = refl }
 widened-is bs from (entry k is ∷ es) r e t h l =
@@ -140,7 +138,7 @@ widened-is bs from (entry k is ∷ es) r e t h l =
     let e₁ : drop from bs ≡ uuidOf k ++ (run ++ rest) = e ∙ ap (λ (y : List ℕ). y ++ r) (entries-head false k is es) ∙ simp append-assoc in
     let e₂ : drop (from + 16) bs ≡ run ++ rest = after-there bs from 16 (uuidOf k) (run ++ rest) e₁ ul in
     let e₃ : drop (from + 16) bs ≡ leBytes 8 c ++ (intervalsBytes is ++ rest) = e₂ ∙ append-assoc (leBytes 8 c) (intervalsBytes is) rest in
-    let num : numberAt bs (from + 16) ≡ c = number-there bs (from + 16) c (intervalsBytes is ++ rest) e₃ (omega (arith, maxIntervals-is)) in
+    let num : numberAt bs (from + 16) ≡ c = number-there bs (from + 16) c (intervalsBytes is ++ rest) e₃ (omega arith) in
     let m : from + 16 + (8 + 16 * c) ≡ from + (24 + 16 * c) = omega arith in
     let e₄ : drop (from + (24 + 16 * c)) bs ≡ rest = ap (λ (i : ℕ). drop i bs) (sym m) ∙ after-there bs (from + 16) (8 + 16 * c) run rest e₂ rl in
     let w : Wider bs (from + (24 + 16 * c)) es = widened-is bs (from + (24 + 16 * c)) es r e₄ q (h .1) (omega arith) in
@@ -166,7 +164,7 @@ record RunIs (bs : List ℕ) (w v : Bool) (es : List Entry) (from to : ℕ) : Ty
 
 run-is : (bs : List ℕ) (w v : Bool) (es : List Entry) (from to : ℕ) → drop from bs ≡ entriesBytes w es ++ drop to bs
     → from + length (entriesBytes w es) ≡ to → to ≤ length bs
-    → (w ≡ false → anyTag es ≡ false) → GoodKeys es → intervals es ≤ maxIntervals → (w ≡ true → v ≡ true) → RunIs bs w v es from to
+    → (w ≡ false → anyTag es ≡ false) → GoodKeys es → intervals es < 2 ^ 64 → (w ≡ true → v ≡ true) → RunIs bs w v es from to
 run-is bs true false es from to e l h t k i o = clash (o refl) refl
 run-is bs true true es from to e l h t k i o = record {
   run = sym (part-there bs from (to - from) (entriesBytes true es) (drop to bs) e (omega arith));
@@ -196,16 +194,16 @@ any-join k a b (entry j is ∷ s) = key-cases k j
     again true y = refl
     again false y = refl
 
+-- entries and intervals take up bytes, of which there are few enough
 pub record Small (bs : List ℕ) (n : ℕ) : Type 0 where
-  pub few : n ≤ 256
-  pub total : intervals (setOf bs) ≤ maxIntervals
-  pub long : length bs ≤ 47368
+  pub few : 24 * n ≤ length bs
+  pub total : 16 * intervals (setOf bs) ≤ length bs
+  pub long : length bs ≤ 2 ^ 40
 
 pub set-small : (bs : List ℕ) (w : Bool) (n : ℕ) → IsSet bs w n → Small bs n
 set-small bs w n h =
-    let l : Lends bs (setOf bs) = lent-is bs (setOf bs) (h .lent) in
-    let (x, y) = limits-says (setOf bs) (l .limited) in
-    record { few = omega (arith, h .count, maxEntries-is); total = y; long = omega (arith, lent-short bs (setOf bs) (h .lent), longestSet-is) }
+    let least = body-least (setOf bs) (h .keyed) in
+    record { few = omega (arith, ap length (h .written), h .count); total = omega (arith, ap length (h .written)); long = h .small }
 
 tag-length : (v : Bool) (t : List ℕ) → length t ≤ 32 → length (tagBytes v t) ≡ extra v (1 + length t)
 tag-length true t h = rw (one-byte (length t) (omega arith)) (omega arith)
@@ -261,7 +259,7 @@ module _ (bs : List ℕ) (w : Bool) (n : ℕ) (lent : IsSet bs w n) (u t : List 
 
   front-run : RunIs bs w v (is .front) 8 (f .at)
   front-run = run-is bs w v (is .front) 8 (f .at) (is .front-bytes) (is .length-front) (omega (arith, is .order, is .end, is .inside)) (is .tags .0) (is .keyed .0)
-      (omega (arith, is .total, small .total)) (implied w (ltb 0 (length t)))
+      (omega (arith, is .total, small .total, small .long)) (implied w (ltb 0 (length t)))
 
   back-length : length (entriesBytes w (is .back)) ≡ length bs - f .next
   back-length = ap length (sym (is .back-bytes)) ∙ length-drop (f .next) bs
@@ -269,7 +267,7 @@ module _ (bs : List ℕ) (w : Bool) (n : ℕ) (lent : IsSet bs w n) (u t : List 
   back-run : RunIs bs w v (is .back) (f .next) (length bs)
   back-run = run-is bs w v (is .back) (f .next) (length bs) (is .back-bytes ∙ rw (drop-length bs) (sym (append-nil (entriesBytes w (is .back)))))
       (omega (arith, back-length, is .inside)) (omega arith) (is .tags .1) (is .keyed .1)
-      (omega (arith, is .total, small .total)) (implied w (ltb 0 (length t)))
+      (omega (arith, is .total, small .total, small .long)) (implied w (ltb 0 (length t)))
 
   after-length : length after ≡ n + extra (not (f .here)) 1
   unfolding after
@@ -326,10 +324,11 @@ module _ (bs : List ℕ) (w : Bool) (n : ℕ) (lent : IsSet bs w n) (u t : List 
         splice-there = omega (arith, is .end, is .inside);
         splice-inside = si .inside;
         index-below = omega (arith, e₂, is .entries, added-is (f .here), is .index, lent .count);
-        few = omega (arith, e₂, added-is (f .here), added-few (f .here), small .few);
+        few = omega (arith, e₂, added-is (f .here), added-few (f .here), small .few, small .long);
       };
       bytes = plan-bytes;
       len-is = sym plan-size;
+      tags-is = sym after-tags;
       entries-is = e₂ ∙ sym after-length;
       intervals-is = sym (rw (is .joins a b, intervals-append (is .front) (entry (u ++ t) new ∷ is .back), si .count-is) (omega (arith, is .total, e₃, si .inside)));
       member = is .member;

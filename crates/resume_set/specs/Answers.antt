@@ -5,7 +5,7 @@ use mathlib.Core.List.{List, _++_}
 use lib.ListN.{length, take}
 use lib.Dec.{leb, eqb}
 use Rattle.misc.specs.Pick.{pick}
-use Rattle.misc.specs.Refusal.{number, noRoom, notASet}
+use Rattle.misc.specs.Refusal.{number, noRoom, notASet, badGno}
 use Rattle.misc.specs.Parse.{Parse, refuse, parsed}
 use Rattle.misc.specs.Output.{Output, refused, bytes}
 use Rattle.misc.specs.declared.Wrote.{Wrote}
@@ -16,6 +16,7 @@ use Rattle.previous_gtids_event.specs.Rewrite.{bodyBytes}
 use Rattle.gtid_event.specs.declared.GtidEvent.{GtidEvent}
 use Rattle.gtid_event_read.specs.Read.{gtid}
 use Rattle.gtid_sets.specs.Set.{has}
+use Rattle.gtid_sets.specs.TakeIn.{lawful, takeIn}
 use Rattle.gtid_sets.specs.Limits.{Judged, fine, breaks, limits, intervals}
 use Rattle.gtid_sets.specs.Run as run
 use Rattle.gtid_sets.specs.Run.{Event, anonymous, broken, names, Answer, noId, already, taken, answer, after}
@@ -42,6 +43,21 @@ asked s uuid tag gno = eqb (length uuid) 16 && ((noneOrTag tag && isGno gno) && 
 abbrev pub contained : Lent → List ℕ → List ℕ → ℕ → Contained
 contained unfit uuid tag gno = record { refusal = number notASet; present = false }
 contained (form s) uuid tag gno = record { refusal = 0; present = asked s uuid tag gno }
+
+-- ---- `take_in`
+
+-- a set as it is saved, if it is within the limits
+abbrev pub savedIf : Judged → List ℕ → Output
+savedIf fine bs = bytes bs
+savedIf (breaks r) bs = refused r
+
+abbrev pub saved : List Entry → Output
+saved s = savedIf (limits s) (bodyBytes s)
+
+-- what is taken in from what was read: the gno rule is judged before the limits, and these on the result
+abbrev pub takenIn : Parse (List Entry) → Output
+takenIn (refuse r) = refused r
+takenIn (parsed es next) = pick (lawful es) (saved (takeIn es)) (refused badGno)
 
 -- ---- `offer`
 
@@ -87,14 +103,6 @@ output unfit e = refused notASet
 output (form s) e = outputFor s e
 
 -- ---- inside
-
--- a set as it is saved, if it is within the limits
-abbrev pub savedIf : Judged → List ℕ → Output
-savedIf fine bs = bytes bs
-savedIf (breaks r) bs = refused r
-
-abbrev pub saved : List Entry → Output
-saved s = savedIf (limits s) (bodyBytes s)
 
 -- what was written, as an answer of this kind
 abbrev pub caseOf : Kind → ℕ → Offered

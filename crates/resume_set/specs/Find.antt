@@ -1,43 +1,48 @@
 -- Where a key stands in a lent set, or would stand.
-use Prim.Native.Nat.{ℕ, _+_, _*_, _/_, _≤_}
+use Prim.Native.Nat.{ℕ, _+_, _*_, _/_, _^_, _≤_}
 use mathlib.Core.Path.{_≡_}
 use mathlib.Core.Bool.{Bool, true, false}
 use mathlib.Core.List.{List, [], _∷_, _++_}
 use lib.ListN.{length, drop, getD}
+use Rattle.misc.specs.Parse.{Parse, refuse, parsed}
 use Rattle.packets.specs.Gno.{Interval}
 use Rattle.packets.specs.Key.{Key}
 use Rattle.previous_gtids_event.specs.Entry.{Entry, entry, tagOf}
+use Rattle.previous_gtids_event.specs.Previous.{entriesIn}
 use Rattle.previous_gtids_event.specs.Rewrite.{entriesBytes, anyTag, bodyBytes}
 use Rattle.gtid_sets.specs.Interval.{covers, Gapped, insert}
-use Rattle.gtid_sets.specs.Set.{has, join}
-use Rattle.gtid_sets.specs.Limits.{maxIntervals, intervals}
-use Rattle.gtid_sets.specs.Lent.{Lent, form, unfit, lentSet, GoodKeys}
+use Rattle.gtid_sets.specs.Set.{has, SetForm, join}
+use Rattle.gtid_sets.specs.Limits.{intervals}
+use Rattle.gtid_sets.specs.Lent.{form, lentSet, GoodKeys}
 use Rattle.set_check.specs.Places.{numberAt, intervalsAt}
 use Rattle.set_check.specs.declared.Checked.{Checked}
 use Rattle.resume_set.specs.declared.EntryPlace.{EntryPlace}
 use Rattle.resume_set.specs.declared.Found.{Found}
 
--- ---- the set that some bytes are
+-- ---- the set that some bytes are, within the limits or not
 
-abbrev pub entriesOf : Lent → List Entry
-entriesOf (form s) = s
-entriesOf unfit = []
+abbrev pub entriesOf : Parse (List Entry) → List Entry
+entriesOf (refuse r) = []
+entriesOf (parsed s next) = s
 
--- empty if they are none
+-- the entries that stand in them
 unfoldable pub setOf : List ℕ → List Entry
-setOf bs = entriesOf (lentSet bs)
+setOf bs = entriesOf (entriesIn bs)
 
--- the bytes are a set, with tags or not and with so many entries
+-- the bytes are those of a set in set form, with tags or not and with so many entries
 pub record IsSet (bs : List ℕ) (w : Bool) (n : ℕ) : Type 0 where
-  pub lent : lentSet bs ≡ form (setOf bs)
+  pub written : bs ≡ bodyBytes (setOf bs)
+  pub formed : SetForm (setOf bs)
+  pub keyed : GoodKeys (setOf bs)
   pub tags : anyTag (setOf bs) ≡ w
   pub count : length (setOf bs) ≡ n
+  pub small : length bs ≤ 2 ^ 40
 
 -- what a check that found no fault says
 pub record Fits (bs : List ℕ) (c : Checked) : Type 0 where
   pub set : IsSet bs (c .tagged) (c .entries)
   pub total : intervals (setOf bs) ≡ c .intervals
-  pub bytes : bodyBytes (setOf bs) ≡ bs
+  pub lent : lentSet bs ≡ form (setOf bs)
 
 -- ---- an entry
 
@@ -84,6 +89,5 @@ pub record FoundIs (bs : List ℕ) (w : Bool) (k : Key) (s : List Entry) (r : Fo
   pub inside : r .next ≤ length bs
   pub tags : (w ≡ false → anyTag front ≡ false) × (w ≡ false → anyTag back ≡ false)
   pub keyed : GoodKeys front × GoodKeys back
-  pub few : r .count ≤ maxIntervals
   pub plain : r .here ≡ true → w ≡ false → length (tagOf k) ≡ 0
   pub length-front : 8 + length (entriesBytes w front) ≡ r .at

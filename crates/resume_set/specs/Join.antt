@@ -4,7 +4,7 @@ use mathlib.Core.Path.{_≡_}
 use mathlib.Core.Bool.{Bool, true, false}
 use mathlib.Core.List.{List, _++_}
 use lib.ListN.{length}
-use Rattle.previous_gtids_event.specs.Rewrite.{intervalsBytes, headerBytes, bodyBytes}
+use Rattle.previous_gtids_event.specs.Rewrite.{intervalsBytes, anyTag, headerBytes, bodyBytes}
 use Rattle.gtid_sets.specs.Interval.{covers, insert}
 use Rattle.gtid_sets.specs.Set.{has, join}
 use Rattle.gtid_sets.specs.Limits.{intervals}
@@ -45,6 +45,7 @@ pub record PlanIs (bs : List ℕ) (u t : List ℕ) (a b : ℕ) (r : Plan) : Type
   pub runs : Runs bs r
   pub bytes : bodyBytes (join (u ++ t) a b (setOf bs)) ≡ planRuns bs u t r
   pub len-is : r .len ≡ length (bodyBytes (join (u ++ t) a b (setOf bs)))
+  pub tags-is : r .tags ≡ anyTag (join (u ++ t) a b (setOf bs))
   pub entries-is : r .entries ≡ length (join (u ++ t) a b (setOf bs))
   pub intervals-is : r .intervals ≡ intervals (join (u ++ t) a b (setOf bs))
   pub member : (m : ℕ) → has (setOf bs) (u ++ t) m ≡ covers (old bs (r .found)) m

@@ -4,3 +4,4 @@ pub mod Answers
 pub mod Find
 pub mod Put
 pub mod Join
+pub mod TakeIn

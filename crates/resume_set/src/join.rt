@@ -7,6 +7,7 @@ use crate::put::put_head;
 use crate::put::put_number;
 use crate::put::put_spliced;
 use misc::Wrote;
+use misc::bytes::write_bytes;
 use misc::refusal::FULL;
 use misc::refusal::NO_ROOM;
 use set_check::MAX_ENTRIES;
@@ -17,7 +18,7 @@ ghost use Prim.Native.Nat.{_+_, _^_, _≤_, _<_};
 ghost use lib.ListN.{length};
 ghost use Rattle.misc.specs.Le.{leBytes};
 ghost use Rattle.misc.specs.Output.{outputOf, answerOf, WhereFits};
-ghost use Rattle.previous_gtids_event.specs.Rewrite.{headerBytes};
+ghost use Rattle.previous_gtids_event.specs.Rewrite.{headerBytes, bodyBytes};
 ghost use Rattle.gtid_sets.specs.Set.{join};
 ghost use Rattle.gtid_sets.specs.Limits.{intervals};
 ghost use Rattle.resume_set.specs.Answers.{saved};
@@ -85,7 +86,7 @@ fn header_number(count: usize, tags: bool) -> u64
 }
 
 // Writes the set as planned, where there is room.
-fn put_joined(set: &[u8], uuid: &[u8], tag: &[u8], plan: Plan, out: &mut [u8]) -> usize
+pub(crate) fn put_joined(set: &[u8], uuid: &[u8], tag: &[u8], plan: Plan, out: &mut [u8]) -> usize
     requires { ⌜ Runs (now set) plan ⌝ }
     ensures { λ r. ⌜ WhereFits (now (out .entry)) 0 (planRuns (now (set .entry)) (now (uuid .entry)) (now (tag .entry)) plan) (now (out .exit)) r ⌝ }
 {
@@ -108,6 +109,27 @@ fn put_joined(set: &[u8], uuid: &[u8], tag: &[u8], plan: Plan, out: &mut [u8]) -
     );
     let left = plan.entries - (1 + found.index);
     put_entries(set, found.next, set.len(), left, plan.widen, out, at3)
+}
+
+// Writes a set that has been made, if it is within the limits and there is room.
+pub(crate) fn write_set(set: &[u8], count: usize, total: usize, out: &mut [u8]) -> Wrote
+    requires { ⌜ (bodyBytes (setOf (now set)) ≡ now set) × (length (setOf (now set)) ≡ count) × (intervals (setOf (now set)) ≡ total) ⌝ }
+    ensures { λ r. ⌜ r ≡ answerOf (now (out .entry)) (saved (setOf (now (set .entry)))) ⌝ }
+    ensures { λ _. ⌜ now (out .exit) ≡ outputOf (now (out .entry)) (saved (setOf (now (set .entry)))) ⌝ }
+{
+    if MAX_ENTRIES < count {
+        return Wrote {
+            refusal: FULL,
+            len: 0,
+        };
+    }
+    if MAX_INTERVALS < total {
+        return Wrote {
+            refusal: FULL,
+            len: 0,
+        };
+    }
+    write_bytes(set, out)
 }
 
 // Writes the set as planned, if it is within the limits and there is room.

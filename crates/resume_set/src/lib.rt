@@ -25,6 +25,7 @@ mod find;
 mod intervals;
 mod join;
 mod put;
+pub mod take_in;
 
 // Whether bytes are a set (0, else 14), and how many entries and intervals it has.
 pub struct SetRead {
@@ -88,6 +89,14 @@ pub(crate) struct Splice {
     pub(crate) taken: usize,
     pub(crate) start: u64,
     pub(crate) end: u64,
+}
+
+// A set in a work buffer: whether it has tags, its counts and its length.
+pub(crate) struct Held {
+    pub(crate) tagged: bool,
+    pub(crate) entries: usize,
+    pub(crate) intervals: usize,
+    pub(crate) len: usize,
 }
 
 // How a set grows by an interval: whether it then has tags, and had none; its counts and its length; and where the interval goes.

@@ -53,7 +53,7 @@ byte-there s at b q e =
 abbrev pub Bytes : List ℕ → Type 0
 Bytes s = (i : ℕ) → getD s i 0 < 256
 
-number-here : (bs : List ℕ) (at : ℕ) → at + 8 ≤ length bs → numberAt bs at ≡ leOf (part bs at 8)
+pub number-here : (bs : List ℕ) (at : ℕ) → at + 8 ≤ length bs → numberAt bs at ≡ leOf (part bs at 8)
 unfolding numberAt
 number-here bs at h = ap (λ (p : Parse ℕ). uintRead p .value) (le-here 8 bs at h)
 

@@ -20,14 +20,8 @@ start-requires c κs = search needs
 loop-holds : tie.Need-loop-holds Inv-loop μ-loop
 loop-holds c = let a = c .before .before .args in (omega arith, ahead-start (now (a .body)) (a .index) (a .index - 0) _ (omega arith) (c .start .ensures))
 
-step-at-requires : tie.Need-step-at-requires Inv-loop μ-loop
-step-at-requires c κs = search needs
-
-returns : tie.Need-returns Inv-loop μ-loop
-returns c =
-    let s = now (c .before .before .before .before .before .before .args .body) in
-    let l = c .before .before .before .loop in
-    ahead-still s _ _ (l .cursor) (l .inv .1) _ (c .before .step-at .ensures) (c .if1 .taken)
+step-from-requires : tie.Need-step-from-requires Inv-loop μ-loop
+step-from-requires c κs = search needs
 
 add-done : tie.Need-add-done Inv-loop μ-loop
 add-done c = search needs
@@ -39,16 +33,22 @@ loop-again : tie.Need-loop-again Inv-loop μ-loop
 loop-again c =
     let a = c .before .before .before .before .before .before .before .args in
     let l = c .before .before .before .before .loop in
-    (omega arith, ahead-turn (now (a .body)) _ _ (l .cursor) (l .inv .1) (a .index - (l .done + 1)) (omega arith) _ (c .before .before .step-at .ensures))
+    (omega arith, ahead-turn (now (a .body)) _ _ (l .cursor) (l .inv .1) (a .index - (l .done + 1)) (omega arith) _ (c .before .before .step-from .ensures) (c .before .if1 .taken))
 
-step-at-requires-2 : tie.Need-step-at-requires-2 Inv-loop μ-loop
-step-at-requires-2 c κs = search needs
+returns : tie.Need-returns Inv-loop μ-loop
+returns c =
+    let s = now (c .before .before .before .before .before .before .args .body) in
+    let l = c .before .before .before .loop in
+    ahead-still s _ _ (l .cursor) (l .inv .1) _ (c .before .step-from .ensures) (c .if1 .left)
+
+step-from-requires-2 : tie.Need-step-from-requires-2 Inv-loop μ-loop
+step-from-requires-2 c κs = search needs
 
 returns-2 : tie.Need-returns-2 Inv-loop μ-loop
 returns-2 c =
     let s = now (c .before .before .before .before .before .args .body) in
     let l = c .before .before .loop in
-    ahead-none s _ _ (l .cursor) (l .inv .1) (omega arith) _ (c .step-at2 .ensures)
+    ahead-none s _ _ (l .cursor) (l .inv .1) (omega arith) _ (c .step-from2 .ensures)
 
 pub entry-number-spec : {M : Type 1} → statement M
 entry-number-spec =
@@ -58,10 +58,10 @@ entry-number-spec =
     μ-loop
     start-requires
     loop-holds
-    step-at-requires
-    returns
+    step-from-requires
     add-done
     loop-less
     loop-again
-    step-at-requires-2
+    returns
+    step-from-requires-2
     returns-2)

@@ -25,7 +25,7 @@ returns c =
 returns-2 : tie.Need-returns-2
 returns-2 c =
     let a = c .before .before .before .before .before .before .args in
-    no-uuid (now (a .set)) (now (a .uuid)) (now (a .tag)) (a .gno) (fits (c .before) .set .lent) (c .if2 .taken)
+    no-uuid (now (a .set)) (now (a .uuid)) (now (a .tag)) (a .gno) (fits (c .before) .lent) (c .if2 .taken)
 
 none-or-tag-requires : tie.Need-none-or-tag-requires
 none-or-tag-requires c κs = search needs
@@ -36,7 +36,7 @@ is-gno-requires c κs = search needs
 returns-3 : tie.Need-returns-3
 returns-3 c =
     let a = c .before .before .before .before .before .before .before .before .before .args in
-    no-id (now (a .set)) (now (a .uuid)) (now (a .tag)) (a .gno) (fits (c .before .before .before .before) .set .lent) (c .before .before .before .if2 .left) _ _ (c .before .before .none-or-tag .ensures) (c .before .is-gno .ensures) (not-true _ (c .if3 .taken))
+    no-id (now (a .set)) (now (a .uuid)) (now (a .tag)) (a .gno) (fits (c .before .before .before .before) .lent) (c .before .before .before .if2 .left) _ _ (c .before .before .none-or-tag .ensures) (c .before .is-gno .ensures) (not-true _ (c .if3 .taken))
 
 find-requires : tie.Need-find-requires
 find-requires c κs = (fits (c .before .before .before .before) .set, c .before .before .before .if2 .left)
@@ -47,7 +47,7 @@ covers-at-requires c κs = let f = c .find .ensures in omega (arith, f .end, f .
 returns-4 : tie.Need-returns-4
 returns-4 c =
     let a = c .before .before .before .before .before .before .before .before .before .before .before .args in
-    is-asked (now (a .set)) (now (a .uuid)) (now (a .tag)) (a .gno) (fits (c .before .before .before .before .before .before) .set .lent) (c .before .before .before .before .before .if2 .left) _ _ (c .before .before .before .before .none-or-tag .ensures) (c .before .before .before .is-gno .ensures) (c .covers-at .result) (not-false _ (c .before .before .if3 .left)) (c .covers-at .ensures ∙ sym (c .before .find .ensures .member (a .gno)))
+    is-asked (now (a .set)) (now (a .uuid)) (now (a .tag)) (a .gno) (fits (c .before .before .before .before .before .before) .lent) (c .before .before .before .before .before .if2 .left) _ _ (c .before .before .before .before .none-or-tag .ensures) (c .before .before .before .is-gno .ensures) (c .covers-at .result) (not-false _ (c .before .before .if3 .left)) (c .covers-at .ensures ∙ sym (c .before .find .ensures .member (a .gno)))
 
 pub contains-spec : {M : Type 1} → statement M
 contains-spec =

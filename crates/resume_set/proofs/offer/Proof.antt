@@ -38,7 +38,7 @@ read-requires c κs = search needs
 returns-2 : tie.Need-returns-2
 returns-2 c =
     let a = c .before .before .before .before .before .before .before .args in
-    offer-broken (a .event-type) (now (a .body)) (c .before .read .result) (c .before .read .ensures) (now (a .set)) (now (a .out)) (fits (c .before .before) .set .lent) (c .if2 .taken)
+    offer-broken (a .event-type) (now (a .body)) (c .before .read .result) (c .before .read .ensures) (now (a .set)) (now (a .out)) (fits (c .before .before) .lent) (c .if2 .taken)
 
 write-bytes-requires : tie.Need-write-bytes-requires
 write-bytes-requires c κs = search needs
@@ -53,7 +53,7 @@ returns-3 : tie.Need-returns-3
 returns-3 c =
     let a = c .before .before .before .before .before .before .before .before .before .before .before .before .before .args in
     let f = fits (c .before .before .before .before .before .before .before .before) in
-    offer-none (a .event-type) (now (a .body)) (c .before .before .before .before .before .before .before .read .result) (c .before .before .before .before .before .before .before .read .ensures) (now (a .set)) (now (a .out)) (f .set .lent) (c .before .before .before .before .before .before .if2 .left) _ _ _ (c .before .before .before .before .before .if3 .taken) (f .bytes) (c .before .before .before .write-bytes .ensures .0) (c .before .before .before .write-bytes .ensures .1) (c .accepted .ensures)
+    offer-none (a .event-type) (now (a .body)) (c .before .before .before .before .before .before .before .read .result) (c .before .before .before .before .before .before .before .read .ensures) (now (a .set)) (now (a .out)) (f .lent) (c .before .before .before .before .before .before .if2 .left) _ _ _ (c .before .before .before .before .before .if3 .taken) (sym (f .set .written)) (c .before .before .before .write-bytes .ensures .0) (c .before .before .before .write-bytes .ensures .1) (c .accepted .ensures)
 
 cast-tag-len : tie.Need-cast-tag-len
 cast-tag-len c = search needs
@@ -76,7 +76,7 @@ same-length-2 c = search needs
 returns-4 : tie.Need-returns-4
 returns-4 c =
     let a = c .before .before .before .before .before .before .before .before .before .before .before .before .before .before .before .before .before .before .args in
-    offer-some (a .event-type) (now (a .body)) (c .before .before .before .before .before .before .before .before .before .before .before .before .read .result) (c .before .before .before .before .before .before .before .before .before .before .before .before .read .ensures) (now (a .set)) (now (a .out)) (fits (c .before .before .before .before .before .before .before .before .before .before .before .before .before) .set .lent) (c .before .before .before .before .before .before .before .before .before .before .before .if2 .left) _ _ (c .before .before .before .before .before .before .before .before .before .before .if3 .left) (c .before .before .offer-id .ensures)
+    offer-some (a .event-type) (now (a .body)) (c .before .before .before .before .before .before .before .before .before .before .before .before .read .result) (c .before .before .before .before .before .before .before .before .before .before .before .before .read .ensures) (now (a .set)) (now (a .out)) (fits (c .before .before .before .before .before .before .before .before .before .before .before .before .before) .lent) (c .before .before .before .before .before .before .before .before .before .before .before .if2 .left) _ _ (c .before .before .before .before .before .before .before .before .before .before .if3 .left) (c .before .before .offer-id .ensures)
 
 pub offer-spec : {M : Type 1} → statement M
 offer-spec =

@@ -43,7 +43,7 @@ returns-2 : tie.Need-returns-2
 returns-2 c =
     let a = c .before .before .before .before .before .before .before .before .before .before .before .before .before .before .args in
     id-already (setOf (now (a .set))) (now (a .uuid) ++ now (a .tag)) (a .gno) (now (a .out)) (sym (c .before .before .before .before .before .before .before .before .before .is-gno .ensures) ∙ not-false _ (c .before .before .before .before .before .before .before .before .if1 .left)) (now (a .set)) _ _ _
-    (c .before .before .before .before .before .before .before .plan-join .ensures .member (a .gno) ∙ sym (c .before .before .before .before .before .before .covers-at .ensures) ∙ c .before .before .before .before .before .if2 .taken) (c .before .before .before .before .before .before .before .before .before .before .before .before .before .before .pre .0 .bytes) (c .before .before .before .write-bytes .ensures .0) (c .before .before .before .write-bytes .ensures .1) (c .accepted .ensures)
+    (c .before .before .before .before .before .before .before .plan-join .ensures .member (a .gno) ∙ sym (c .before .before .before .before .before .before .covers-at .ensures) ∙ c .before .before .before .before .before .if2 .taken) (sym (c .before .before .before .before .before .before .before .before .before .before .before .before .before .before .pre .0 .set .written)) (c .before .before .before .write-bytes .ensures .0) (c .before .before .before .write-bytes .ensures .1) (c .accepted .ensures)
 
 add-write-joined : tie.Need-add-write-joined
 add-write-joined c =

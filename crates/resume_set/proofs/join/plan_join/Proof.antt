@@ -1,14 +1,18 @@
 -- `resume_set::join::plan_join` meets its contract.
+use Prim.Native.Nat.{_*_, _^_, _≤_}
 use native.Mathlib.Omega.{arith}
 use denote.Ref.{now}
 use borrow.Author.Needs.{needs}
-use Rattle.gtid_sets.proofs.LimitLaws.{maxIntervals-is}
 use Rattle.resume_set.proofs.JoinLaws.{Small, set-small, plan-is}
 use Rattle.resume_set.proofs.join.plan_join.Statement.{statement}
 use Rattle.resume_set.proofs.join.plan_join.Tie as tie
 
 small : (c : tie.After-find) → Small (now (c .before .before .before .before .args .set)) (c .before .before .before .before .args .count)
 small c = set-small (now (c .before .before .before .before .args .set)) (c .before .before .before .before .args .tagged) (c .before .before .before .before .args .count) (c .before .before .before .before .pre .0)
+
+-- the intervals that are there take up bytes
+few : (c : tie.After-find) → 16 * c .find .result .count ≤ 2 ^ 40
+few c = let f = c .find .ensures in omega (arith, f .end, f .inside, small c .long)
 
 find-requires : tie.Need-find-requires
 find-requires c κs = search needs
@@ -20,7 +24,7 @@ sub-held : tie.Need-sub-held
 sub-held c = omega (arith, c .before .before .splice-at .ensures .inside)
 
 add-held : tie.Need-add-held
-add-held c = record { fits = omega (arith, c .before .before .before .find .ensures .few, maxIntervals-is) }
+add-held c = record { fits = omega (arith, few (c .before .before .before)) }
 
 add-gained : tie.Need-add-gained
 add-gained c = search needs
@@ -32,15 +36,15 @@ add-len : tie.Need-add-len
 add-len c = record { fits = omega (arith, c .before .before .before .before .before .before .before .before .pre .1 .1 .0 .1, c .gained .ensures .1) }
 
 mul-len : tie.Need-mul-len
-mul-len c = record { fits = omega (arith, c .before .before .before .before .find .ensures .few, maxIntervals-is) }
+mul-len c = record { fits = omega (arith, few (c .before .before .before .before)) }
 
 add-len-2 : tie.Need-add-len-2
-add-len-2 c = record { fits = omega (arith, c .before .before .before .before .before .before .before .before .pre .1 .1 .0 .1, c .gained .ensures .1, c .before .before .before .before .find .ensures .few, maxIntervals-is) }
+add-len-2 c = record { fits = omega (arith, c .before .before .before .before .before .before .before .before .pre .1 .1 .0 .1, c .gained .ensures .1, few (c .before .before .before .before)) }
 
 add-len-3 : tie.Need-add-len-3
 add-len-3 c =
     let f = c .before .before .before .before .before .find .ensures in
-    record { fits = omega (arith, c .before .before .before .before .before .before .before .before .before .pre .1 .1 .0 .1, c .before .gained .ensures .1, f .few, f .order, f .end, f .inside, small (c .before .before .before .before .before), maxIntervals-is) }
+    record { fits = omega (arith, c .before .before .before .before .before .before .before .before .before .pre .1 .1 .0 .1, c .before .gained .ensures .1, few (c .before .before .before .before .before), f .order, f .end, f .inside, small (c .before .before .before .before .before)) }
 
 sub-len : tie.Need-sub-len
 sub-len c = c .before .before .before .before .before .before .find .ensures .inside
@@ -48,7 +52,7 @@ sub-len c = c .before .before .before .before .before .before .find .ensures .in
 add-len-4 : tie.Need-add-len-4
 add-len-4 c =
     let f = c .before .before .before .before .before .before .find .ensures in
-    record { fits = omega (arith, c .before .before .before .before .before .before .before .before .before .before .pre .1 .1 .0 .1, c .before .before .gained .ensures .1, f .few, f .order, f .end, f .inside, small (c .before .before .before .before .before .before), maxIntervals-is) }
+    record { fits = omega (arith, c .before .before .before .before .before .before .before .before .before .before .pre .1 .1 .0 .1, c .before .before .gained .ensures .1, few (c .before .before .before .before .before .before), f .order, f .end, f .inside, small (c .before .before .before .before .before .before)) }
 
 gained-requires-2 : tie.Need-gained-requires-2
 gained-requires-2 c κs = search needs
@@ -56,7 +60,7 @@ gained-requires-2 c κs = search needs
 add-len-5 : tie.Need-add-len-5
 add-len-5 c =
     let f = c .before .before .before .before .before .before .before .find .ensures in
-    record { fits = omega (arith, c .before .before .before .before .before .before .before .before .before .before .before .pre .1 .1 .0 .1, c .before .before .before .gained .ensures .1, c .gained2 .ensures .1, f .few, f .order, f .end, f .inside, small (c .before .before .before .before .before .before .before), maxIntervals-is) }
+    record { fits = omega (arith, c .before .before .before .before .before .before .before .before .before .before .before .pre .1 .1 .0 .1, c .before .before .before .gained .ensures .1, c .gained2 .ensures .1, few (c .before .before .before .before .before .before .before), f .order, f .end, f .inside, small (c .before .before .before .before .before .before .before)) }
 
 gained-requires-3 : tie.Need-gained-requires-3
 gained-requires-3 c κs = search needs
@@ -70,7 +74,7 @@ sub-t17 c =
     omega (arith, f .total, c .before .before .before .before .before .before .before .before .before .before .before .before .before .pre .1 .0, c .before .before .before .before .before .before .before .before .splice-at .ensures .inside)
 
 add-t27 : tie.Need-add-t27
-add-t27 c = record { fits = omega (arith, small (c .before .before .before .before .before .before .before .before .before), c .before .before .before .before .before .before .before .before .before .before .before .before .before .pre .1 .0, maxIntervals-is) }
+add-t27 c = record { fits = omega (arith, small (c .before .before .before .before .before .before .before .before .before), c .before .before .before .before .before .before .before .before .before .before .before .before .before .pre .1 .0) }
 
 returns : tie.Need-returns
 returns c =

@@ -1,0 +1,213 @@
+// Taking in the body of a Previous-GTIDs event. A body that is a set already is copied; the intervals of any other are joined to a
+// set that grows in a work buffer, one after another. A second work buffer receives each next set.
+use crate::Held;
+use crate::join::plan_join;
+use crate::join::put_joined;
+use crate::join::write_set;
+use misc::Wrote;
+use misc::bytes::write_bytes;
+use misc::refusal::BAD_GNO;
+use packets::is_interval;
+use previous_gtids_event::EntryRead;
+use previous_gtids_event::read::entry_at;
+use previous_gtids_event::read::header_of;
+use previous_gtids_event::read::read;
+use set_check::check::check;
+use set_check::places::number_at;
+ghost use mathlib.Core.Path.{_≡_};
+ghost use mathlib.Core.Bool.{true};
+ghost use mathlib.Core.List.{_++_};
+ghost use Prim.Native.Nat.{_+_, _-_, _*_, _/_, _≤_};
+ghost use lib.ListN.{length, take};
+ghost use Rattle.misc.specs.Parse.{refusalOf};
+ghost use Rattle.misc.specs.Output.{outputOf, answerOf};
+ghost use Rattle.packets.specs.Gno.{interval, isInterval};
+ghost use Rattle.previous_gtids_event.specs.Previous.{noneOrTag, previous};
+ghost use Rattle.gtid_sets.specs.Set.{join};
+ghost use Rattle.gtid_sets.specs.TakeIn.{proper, lawful, joinAll, union, takeIn};
+ghost use Rattle.set_check.specs.Places.{intervalsAt};
+ghost use Rattle.resume_set.specs.Answers.{saved, takenIn};
+ghost use Rattle.resume_set.specs.Find.{entriesOf};
+ghost use Rattle.resume_set.specs.TakeIn.{HeldIs, heldSet, keyIn, EntryIs, widest, enough, Room};
+
+// A work buffer holds the set of any body: its entries take no more bytes there than in the body, but for one byte for the length of
+// a tag, and an entry of a body has 24 bytes at least.
+const WORK: usize = 65536 + 65536 / 24;
+
+// ---- the gno rule
+
+// Whether all intervals at a place obey the gno rule.
+fn proper_at(body: &[u8], first: usize, count: u64) -> bool
+    requires { ⌜ first + 16 * count ≤ length (now body) ⌝ }
+    ensures { λ r. ⌜ r ≡ proper (intervalsAt count (now (body .entry)) first) ⌝ }
+{
+    let mut at = first;
+    let mut left = count;
+    while 0 < left {
+        let start = number_at(body, at);
+        let end = number_at(body, at + 8);
+        let fine = is_interval(start, end);
+        if !fine {
+            return false;
+        }
+        at += 16;
+        left -= 1;
+    }
+    true
+}
+
+// Whether all intervals of a body that can be read obey the gno rule.
+fn lawful_body(body: &[u8]) -> bool
+    requires { ⌜ refusalOf (previous (now body)) ≡ 0 ⌝ }
+    ensures { λ r. ⌜ r ≡ lawful (entriesOf (previous (now (body .entry)))) ⌝ }
+{
+    let header = header_of(body);
+    let tagged = header.tagged;
+    let mut left = header.entries;
+    let mut at: usize = 8;
+    while 0 < left {
+        let entry = entry_at(body, at, tagged);
+        let fine = proper_at(body, entry.first, entry.intervals);
+        if !fine {
+            return false;
+        }
+        at = entry.next;
+        left -= 1;
+    }
+    true
+}
+
+// ---- joining
+
+// Joins the interval from a up to b of a key to the set in `held`.
+fn join_interval(
+    held: &mut [u8],
+    spare: &mut [u8],
+    is: Held,
+    uuid: &[u8],
+    tag: &[u8],
+    a: u64,
+    b: u64,
+) -> Held
+    requires { ⌜ HeldIs (now held) is ⌝ }
+    requires { ⌜ (length (now uuid) ≡ 16) × (length (now tag) ≤ 32) × (noneOrTag (now tag) ≡ true) ⌝ }
+    requires { ⌜ isInterval (interval a b) ≡ true ⌝ }
+    requires { ⌜ Room (now held) (now spare) (enough (now uuid ++ now tag) (heldSet (now held) is) 1) ⌝ }
+    ensures { λ r. ⌜ HeldIs (now (held .exit)) r ⌝ }
+    ensures { λ r. ⌜ heldSet (now (held .exit)) r ≡ join (now (uuid .entry) ++ now (tag .entry)) a b (heldSet (now (held .entry)) is) ⌝ }
+{
+    let len = is.len;
+    let plan = plan_join(
+        &held[..len],
+        is.tagged,
+        is.entries,
+        is.intervals,
+        uuid,
+        tag,
+        a,
+        b,
+    );
+    let tagged = plan.tags;
+    let entries = plan.entries;
+    let intervals = plan.intervals;
+    let next = plan.len;
+    put_joined(&held[..len], uuid, tag, plan, spare);
+    write_bytes(&spare[..next], held);
+    Held {
+        tagged,
+        entries,
+        intervals,
+        len: next,
+    }
+}
+
+// Joins the intervals of an entry of the body to the set in `held`.
+fn join_entry(body: &[u8], entry: EntryRead, held: &mut [u8], spare: &mut [u8], is: Held) -> Held
+    requires { ⌜ HeldIs (now held) is ⌝ }
+    requires { ⌜ EntryIs (now body) entry ⌝ }
+    requires { ⌜ Room (now held) (now spare) (enough (keyIn entry) (heldSet (now held) is) (entry .intervals)) ⌝ }
+    ensures { λ r. ⌜ HeldIs (now (held .exit)) r ⌝ }
+    ensures { λ r. ⌜ heldSet (now (held .exit)) r ≡ joinAll (keyIn entry) (intervalsAt (entry .intervals) (now (body .entry)) (entry .first)) (heldSet (now (held .entry)) is) ⌝ }
+{
+    let uuid = entry.uuid;
+    let tag = entry.tag;
+    let tag_len = entry.tag_len;
+    let mut set = is;
+    let mut at = entry.first;
+    let mut left = entry.intervals;
+    while 0 < left {
+        let start = number_at(body, at);
+        let end = number_at(body, at + 8);
+        set = join_interval(held, spare, set, &uuid, &tag[..tag_len], start, end);
+        at += 16;
+        left -= 1;
+    }
+    set
+}
+
+// Joins all ids of a body to the set in `held`.
+fn join_body(body: &[u8], held: &mut [u8], spare: &mut [u8], is: Held) -> Held
+    requires { ⌜ HeldIs (now held) is ⌝ }
+    requires { ⌜ (refusalOf (previous (now body)) ≡ 0) × (lawful (entriesOf (previous (now body))) ≡ true) ⌝ }
+    requires { ⌜ Room (now held) (now spare) (widest (heldSet (now held) is) + (length (now body) - 8 + length (now body) / 24)) ⌝ }
+    ensures { λ r. ⌜ HeldIs (now (held .exit)) r ⌝ }
+    ensures { λ r. ⌜ heldSet (now (held .exit)) r ≡ union (entriesOf (previous (now (body .entry)))) (heldSet (now (held .entry)) is) ⌝ }
+{
+    let header = header_of(body);
+    let tagged = header.tagged;
+    let mut left = header.entries;
+    let mut at: usize = 8;
+    let mut set = is;
+    while 0 < left {
+        let entry = entry_at(body, at, tagged);
+        at = entry.next;
+        set = join_entry(body, entry, held, spare, set);
+        left -= 1;
+    }
+    set
+}
+
+// Takes in a body that can be read and obeys the gno rule, whatever its order: the empty set, and then all ids joined to it.
+fn merge(body: &[u8], out: &mut [u8]) -> Wrote
+    requires { ⌜ (refusalOf (previous (now body)) ≡ 0) × (lawful (entriesOf (previous (now body))) ≡ true) ⌝ }
+    ensures { λ r. ⌜ r ≡ answerOf (now (out .entry)) (saved (takeIn (entriesOf (previous (now (body .entry)))))) ⌝ }
+    ensures { λ _. ⌜ now (out .exit) ≡ outputOf (now (out .entry)) (saved (takeIn (entriesOf (previous (now (body .entry)))))) ⌝ }
+{
+    let mut held = [0u8; WORK];
+    let mut spare = [0u8; WORK];
+    let empty = Held {
+        tagged: false,
+        entries: 0,
+        intervals: 0,
+        len: 8,
+    };
+    let set = join_body(body, &mut held, &mut spare, empty);
+    write_set(&held[..set.len], set.entries, set.intervals, out)
+}
+
+// Takes in a body: the set of all its ids is written, in set form. Refused are bodies that can't be read (11, 1, 6), an interval outside
+// the gno rule (15), more than a set may hold (16) and an output that is too short (13).
+pub fn take_in(body: &[u8], out: &mut [u8]) -> Wrote
+    ensures { λ r. ⌜ r ≡ answerOf (now (out .entry)) (takenIn (previous (now (body .entry)))) ⌝ }
+    ensures { λ _. ⌜ now (out .exit) ≡ outputOf (now (out .entry)) (takenIn (previous (now (body .entry)))) ⌝ }
+{
+    let said = read(body);
+    let refusal = said.refusal;
+    if refusal != 0 {
+        return Wrote { refusal, len: 0 };
+    }
+    let used = said.used;
+    let checked = check(&body[..used]);
+    let unfit = checked.refusal;
+    if unfit == 0 {
+        return write_bytes(&body[..used], out);
+    }
+    let lawful = lawful_body(body);
+    if !lawful {
+        return Wrote {
+            refusal: BAD_GNO,
+            len: 0,
+        };
+    }
+    merge(body, out)
+}

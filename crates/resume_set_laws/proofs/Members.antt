@@ -1,0 +1,66 @@
+-- Demand 3, members: what a body becomes that is taken in is a set of its ids, and after any offers the members are these and the ids of the
+-- events answered "taken" or "already there".
+use Prim.Native.Nat.{ℕ}
+use mathlib.Core.Path.{_≡_, refl, sym, ap, _∙_}
+use mathlib.Core.Bool.{Bool, true, _&&_, _||_, or-false, or-assoc}
+use mathlib.Core.List.{List, [], _∷_}
+use native.Mathlib.Omega.{arith}
+use Rattle.misc.specs.Refusal.{badGno}
+use Rattle.misc.specs.Output.{bytes, refused}
+use Rattle.packets.specs.Key.{Key}
+use Rattle.packets.proofs.Tests.{split}
+use Rattle.previous_gtids_event.specs.Entry.{Entry}
+use Rattle.previous_gtids_event.specs.Rewrite.{bodyBytes}
+use Rattle.gtid_sets.specs.Set.{has}
+use Rattle.gtid_sets.specs.TakeIn.{lawful, takeIn}
+use Rattle.gtid_sets.specs.Limits.{Judged, fine, breaks, limits}
+use Rattle.gtid_sets.specs.Run.{isOf}
+use Rattle.gtid_sets.specs.Lent.{form, lentSet}
+use Rattle.gtid_sets.proofs.FormLaws.{lawful-holds}
+use Rattle.gtid_sets.proofs.TakeInLaws.{has-takeIn}
+use Rattle.gtid_sets.proofs.LentLaws.{lent-takeIn}
+use Rattle.resume_set.specs.Answers.{savedIf}
+use Rattle.resume_set_laws.specs.History.{Turn, kept, keptAll, grants, granted, OfBytes, TakesIn, TellsHistory}
+use Rattle.resume_set_laws.specs.Ours.{ours}
+use Rattle.resume_set_laws.proofs.OneOffer.{said, good-said, one-offer}
+
+-- ---- the start
+
+pub starts : (body : List ℕ) (es : List Entry) (set : List ℕ) → TakesIn body es set → lentSet set ≡ form (takeIn es)
+starts body es set t = split (lawful es)
+    (λ good. go good (limits (takeIn es)) refl (rw (t .reads, good) at (t .becomes)))
+    (λ bad. let w : refused badGno ≡ bytes set = rw (t .reads, bad) at (t .becomes) in absurd (let z : _≡_ {A = ℕ} 0 1 = cc in omega arith))
+  where
+    go : lawful es ≡ true → (j : Judged) → limits (takeIn es) ≡ j → savedIf j (bodyBytes (takeIn es)) ≡ bytes set → lentSet set ≡ form (takeIn es)
+    go good fine l w =
+        let same : bodyBytes (takeIn es) ≡ set = cc in
+        rw (← same) (lent-takeIn body es (t .used) (t .reads) (lawful-holds es good) l)
+    go good (breaks r) l w = absurd (let z : _≡_ {A = ℕ} 0 1 = cc in omega arith)
+
+-- ---- a run
+
+-- what is kept after some offers
+pub record KeepsAll (set : List ℕ) (s : List Entry) (ts : List Turn) : Type 0 where
+  pub last : List Entry
+  pub lent : lentSet (keptAll ours set ts) ≡ form last
+  pub members : (k : Key) (n : ℕ) → has last k n ≡ has s k n || granted ours set ts k n
+
+pub all-offers : (set : List ℕ) (s : List Entry) (ts : List Turn) → lentSet set ≡ form s → OfBytes ts → KeepsAll set s ts
+all-offers set s [] lent ok = record { last = s; lent = lent; members = λ k n. sym (or-false (has s k n)) }
+all-offers set s (t ∷ ts) lent ok =
+    let one = one-offer set s t lent (good-said (t .type) (t .body) (ok .0)) in
+    let rest = all-offers (kept ours set t) (one .next) ts (one .lent) (ok .1) in
+    record {
+      last = rest .last;
+      lent = rest .lent;
+      members = λ k n.
+          rest .members k n ∙ ap (λ (x : Bool). x || granted ours (kept ours set t) ts k n) (one .members k n)
+          ∙ or-assoc (has s k n) (grants (ours .answers set t) && isOf (said t) k n) (granted ours (kept ours set t) ts k n);
+    }
+
+pub tells-history : TellsHistory ours
+tells-history body es set ts t ok =
+    let run = all-offers set (takeIn es) ts (starts body es set t) ok in (
+      (run .last, run .lent),
+      λ k n. rw (run .lent) (run .members k n ∙ rw (has-takeIn es k n)),
+    )

@@ -1,0 +1,148 @@
+-- One offer to a set's bytes: what is kept after it is a set, whose members are those before and the event's id, if it was answered "taken" or
+-- "already there"; and a refusal changes nothing.
+use Prim.Native.Nat.{ℕ}
+use mathlib.Core.Path.{_≡_, refl, sym, ap, _∙_}
+use mathlib.Core.Bool.{true, false, _&&_, _||_, or-false, or-true}
+use mathlib.Core.List.{List}
+use mathlib.Core.Logic.{_⊎_, inl, inr}
+use native.Mathlib.Omega.{arith}
+use lib.Dec.{leb, eqb}
+use lib.ListN.{length, take}
+use lib.Seq.{take-append-seam}
+use Rattle.misc.specs.Refusal.{Refusal, notASet}
+use Rattle.misc.specs.Parse.{Bytes, Parse, refuse, parsed}
+use Rattle.misc.specs.Output.{bytes, refused, outputOf}
+use Rattle.packets.specs.Key.{Key}
+use Rattle.packets.specs.Kept.{padded}
+use Rattle.packets.proofs.Tests.{split}
+use Rattle.previous_gtids_event.specs.Entry.{Entry}
+use Rattle.previous_gtids_event.specs.Previous.{noneOrTag}
+use Rattle.previous_gtids_event.specs.Rewrite.{bodyBytes}
+use Rattle.gtid_event.specs.declared.GtidEvent.{GtidEvent}
+use Rattle.gtid_event_read.specs.Read.{gtid}
+use Rattle.gtid_event_read.proofs.Ranges.{UntaggedRange, TaggedRange, gtid-range}
+use Rattle.gtid_sets.specs.Set.{has}
+use Rattle.gtid_sets.specs.Run as run
+use Rattle.gtid_sets.specs.Run.{Event, Answer, noId, already, taken, answer, after, isMember, isOf}
+use Rattle.gtid_sets.specs.Lent.{Lent, form, unfit, lentSet}
+use Rattle.gtid_sets.specs.Saved.{GoodEvent}
+use Rattle.gtid_sets.proofs.KeyLaws.{good-key}
+use Rattle.gtid_sets.proofs.LentLaws.{lent-is, lent-back}
+use Rattle.gtid_sets.proofs.RunLaws.{has-after, form-after, limits-after}
+use Rattle.gtid_sets.proofs.SavedLaws.{good-after}
+use Rattle.resume_set.specs.Answers.{says, eventOf, fitting, offeredAs, outputAs, output}
+use Rattle.resume_set.specs.declared.Offered.{Offered}
+use Rattle.resume_set.specs.declared.Offered.the-variants.{NoId, AlreadyThere, Taken, Refused}
+use Rattle.resume_set_laws.specs.History.{Turn, keptAs, kept, grants, RefusalsKeep}
+use Rattle.resume_set_laws.specs.Ours.{ours}
+
+-- ---- the event of a turn
+
+abbrev pub said : Turn → Event
+said t = eventOf (t .type) (t .body)
+
+-- the tag in a record's field
+tag-kept : (t : List ℕ) → take (length t) (padded 32 t) ≡ t
+unfolding padded
+tag-kept t = take-append-seam t _
+
+tag-good : (e : GtidEvent) → UntaggedRange e ⊎ TaggedRange e → (length (e .sid) ≡ 16) × (noneOrTag (take (e .«tag_len») (e .tag)) ≡ true)
+tag-good e (inl u) = (u .uuid, rw (u .none))
+tag-good e (inr t) = (t .uuid, rw (t .counted, t .kept, tag-kept (t .tag), t .valid) (or-true (eqb (length (t .tag)) 0)))
+
+-- it names no id, or one whose key is as keys are read
+pub good-said : (type : ℕ) (body : List ℕ) → Bytes body → GoodEvent (eventOf type body)
+unfolding eventOf
+good-said type body ok = go (gtid type body) refl
+  where
+    go : (p : Parse GtidEvent) → gtid type body ≡ p → GoodEvent (says type p)
+    go (refuse r) e = tt
+    go (parsed event next) e = split (eqb type 34)
+        (λ h. rw h tt)
+        (λ h. let (l, g) = tag-good event (gtid-range type body ok e) in rw h (good-key (event .sid) _ l g))
+
+-- ---- what is kept
+
+-- the front of an output that has room
+pub front : (out bs : List ℕ) → leb (length bs) (length out) ≡ true → take (length bs) (outputOf out (bytes bs)) ≡ bs
+unfolding outputOf
+front out bs h = rw h (take-append-seam bs _)
+
+-- an output that hasn't stays as it was
+short : (out bs : List ℕ) → leb (length bs) (length out) ≡ false → outputOf out (bytes bs) ≡ out
+unfolding outputOf
+short out bs h = rw h
+
+-- nor does a refusal change it
+still : (out : List ℕ) (r : Refusal) → outputOf out (refused r) ≡ out
+unfolding outputOf
+still out r = refl
+
+-- what is kept after an offer is a set, and its members are these
+pub record Keeps (set : List ℕ) (s : List Entry) (t : Turn) : Type 0 where
+  pub next : List Entry
+  pub lent : lentSet (kept ours set t) ≡ form next
+  pub members : (k : Key) (n : ℕ) → has next k n ≡ has s k n || (grants (ours .answers set t) && isOf (said t) k n)
+
+module _ (set : List ℕ) (s : List Entry) (t : Turn) (lent : lentSet set ≡ form s) (good : GoodEvent (said t)) where
+  abbrev grown : List ℕ
+  grown = bodyBytes (after s (said t))
+
+  grown-lent : lentSet grown ≡ form (after s (said t))
+  grown-lent =
+      let l = lent-is set s lent in
+      lent-back (after s (said t)) (form-after s (said t) (l .formed)) (good-after s (said t) good (l .keyed)) (limits-after s (said t) (l .limited))
+
+  -- an answer that is no refusal: what is kept is the set after the event where that has room, and the set itself where it hasn't
+  went : (case : ℕ → Offered) (a : Answer) → answer s (said t) ≡ a
+      → ((size room : ℕ) → offeredAs a size room ≡ fitting case size room) → ((bs : List ℕ) → outputAs a bs ≡ bytes bs)
+      → ((out : List ℕ) (len : ℕ) → keptAs set out (case len) ≡ take len out) → ((len : ℕ) → grants (case len) ≡ isMember a)
+      → Keeps set s t
+  went case a e told writes keeps member = split (leb (length grown) (length (t .out)))
+      (λ h.
+      let o : ours .answers set t ≡ case (length grown) = rw (lent, e, told, h) in
+      let w : ours .leaves set t ≡ outputOf (t .out) (bytes grown) = rw (lent, e, writes) in
+      let k : kept ours set t ≡ grown = ap (keptAs set (ours .leaves set t)) o ∙ keeps (ours .leaves set t) (length grown) ∙ ap (take (length grown)) w ∙ front (t .out) grown h in
+      record {
+        next = after s (said t);
+        lent = ap lentSet k ∙ grown-lent;
+        members = λ i n. has-after s (said t) i n ∙ rw (o, member, e);
+      })
+      (λ h.
+      let o : ours .answers set t ≡ fitting case (length grown) (length (t .out)) = rw (lent, e, told) in
+      let k : ours .answers set t ≡ Refused 13 (length grown) = o ∙ rw h in
+      record { next = s; lent = rw k lent; members = λ i n. rw k (sym (or-false (has s i n))) })
+
+  pub one-offer : Keeps set s t
+  one-offer = go (answer s (said t)) refl
+    where
+      go : (a : Answer) → answer s (said t) ≡ a → Keeps set s t
+      go noId e = went NoId noId e (λ n m. refl) (λ bs. refl) (λ o n. refl) (λ n. refl)
+      go already e = went AlreadyThere already e (λ n m. refl) (λ bs. refl) (λ o n. refl) (λ n. refl)
+      go taken e = went Taken taken e (λ n m. refl) (λ bs. refl) (λ o n. refl) (λ n. refl)
+      go (run.refused r) e = record { next = s; lent = rw (lent, e) lent; members = λ i n. rw (lent, e) (sym (or-false (has s i n))) }
+
+-- ---- a refusal changes nothing
+
+pub refusals-keep : RefusalsKeep ours
+refusals-keep set t n len h = (unchanged (lentSet set) refl, rw h)
+  where
+    -- a case that is no refusal is told where there is no room only
+    no-room : (case : ℕ → Offered) (bs : List ℕ) → ((m : ℕ) → case m ≡ Refused n len → ⊥) → fitting case (length bs) (length (t .out)) ≡ Refused n len
+        → outputOf (t .out) (bytes bs) ≡ t .out
+    no-room case bs never e = split (leb (length bs) (length (t .out)))
+        (λ room. absurd (never (length bs) (rw room at e)))
+        (short (t .out) bs)
+
+    told : (s : List Entry) (a : Answer) → answer s (said t) ≡ a → offeredAs a (length (bodyBytes (after s (said t)))) (length (t .out)) ≡ Refused n len
+        → outputOf (t .out) (outputAs a (bodyBytes (after s (said t)))) ≡ t .out
+    told s noId e o = no-room NoId _ (λ m x. let z : _≡_ {A = ℕ} 0 1 = cc in omega arith) o
+    told s already e o = no-room AlreadyThere _ (λ m x. let z : _≡_ {A = ℕ} 0 1 = cc in omega arith) o
+    told s taken e o = no-room Taken _ (λ m x. let z : _≡_ {A = ℕ} 0 1 = cc in omega arith) o
+    told s (run.refused r) e o = still (t .out) r
+
+    unchanged : (l : Lent) → lentSet set ≡ l → ours .leaves set t ≡ t .out
+    unchanged unfit e = rw e (still (t .out) notASet)
+    unchanged (form s) e =
+        let o : offeredAs (answer s (said t)) (length (bodyBytes (after s (said t)))) (length (t .out)) ≡ Refused n len = rw e at h in
+        rw e (told s (answer s (said t)) refl o)
