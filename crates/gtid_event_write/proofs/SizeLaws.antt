@@ -78,15 +78,6 @@ payload-least fields q a = omega (arith, least-from fields 8 1 (varlenSize q) (s
 pub payload-most : (fields : ℕ) → payloadSize fields ≤ fields + 11
 payload-most fields = omega (arith, payload-agrees fields, size-range (payloadSize fields))
 
--- 128 agrees with itself for 124 bytes of fields, and isn't the least that does
-pub also-128 : Agrees 124 128
-unfolding varlenSize sizeFrom
-also-128 = refl
-
-pub least-127 : payloadSize 124 ≡ 127
-unfolding payloadSize sizeWith varlenSize sizeFrom
-least-127 = refl
-
 -- ---- a turn of the loop
 size-step : (n fields : ℕ) → n < 9
     → sizeWith (9 - n) n fields ≡ pick (eqb (varlenSize (2 + fields + n)) n) (2 + fields + n) (sizeWith (9 - (n + 1)) (n + 1) fields)

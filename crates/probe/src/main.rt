@@ -33,7 +33,7 @@ fn answer(head: Head, a: &[u8], b: &[u8], c: &[u8], out: &mut [u8], line: &mut [
     if call < 64 {
         return probe_sets::answer(call, head.event_type, a, b, out, line);
     }
-    probe_lines::answers::none(line)
+    probe_listing::answer(call, a, out, line)
 }
 
 // Answers the request whose parts stand at the front of `a`, `b` and `c`; false where one doesn't fit there.

@@ -74,14 +74,19 @@ fn refused_write(line: &mut [u8], wrote: Wrote) -> usize {
     refused(line, refusal, len != 0)
 }
 
+// The first `len` bytes of the output as hex.
+pub fn push_front(line: &mut [u8], at: usize, out: &[u8], len: usize) -> usize {
+    if out.len() < len {
+        return at;
+    }
+    push_hex(line, at, &out[..len])
+}
+
 // `LEN HEX` of the first `len` bytes of the output. A length beyond the output is a wrong answer, and has no HEX.
 pub fn push_output(line: &mut [u8], at: usize, out: &[u8], len: usize) -> usize {
     let end = push_decimal(line, at, len as u64);
     let hex_at = push_byte(line, end, b' ');
-    if out.len() < len {
-        return hex_at;
-    }
-    push_hex(line, hex_at, &out[..len])
+    push_front(line, hex_at, out, len)
 }
 
 pub fn push_dirty(line: &mut [u8], at: usize, out: &[u8], from: usize) -> usize {

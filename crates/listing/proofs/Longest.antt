@@ -1,0 +1,112 @@
+-- How long a listed text is at most.
+use mathlib.Core.Path.{_≡_, refl, sym, ap}
+use mathlib.Core.List.{List, [], _∷_}
+use Prim.Native.Nat.{ℕ, suc, _+_, _-_, _*_, _^_, _≤_}
+use native.Mathlib.Omega.{arith}
+use lib.ListN.{length, take, length-append}
+use lib.Seq.{length-take-le}
+use lib.Dec.{eqb}
+use Rattle.misc.specs.Refusal.{number}
+use Rattle.misc.specs.Parse.{Parse, refuse, parsed}
+use Rattle.packets.specs.Gno.{Interval, interval}
+use Rattle.packets.proofs.Tests.{split}
+use Rattle.packets.proofs.GnoLaws.{gnoTop-is}
+use Rattle.previous_gtids_event.specs.Entry.{Entry, entry, uuidOf, tagOf}
+use Rattle.previous_gtids_event.specs.Previous.{previous}
+use Rattle.previous_gtids_event.specs.Rewrite.{bodyBytes}
+use Rattle.previous_gtids_event.proofs.Reading.{none-or-tag-short}
+use Rattle.gtid_event.specs.declared.GtidEvent.{GtidEvent}
+use Rattle.gtid_event_read.specs.Read.{gtid, gtidRead}
+use Rattle.gtid_sets.specs.Interval.{Gapped}
+use Rattle.gtid_sets.specs.Set.{SetForm}
+use Rattle.gtid_sets.specs.Limits.{maxEntries, maxIntervals, intervals, fine, limits}
+use Rattle.gtid_sets.specs.Lent.{GoodKeys}
+use Rattle.gtid_sets.proofs.ByteLaws.{uuid-length}
+use Rattle.gtid_sets.proofs.LimitLaws.{maxEntries-is, maxIntervals-is, limits-says}
+use Rattle.gtid_sets.proofs.LentLaws.{lent-is}
+use Rattle.set_check.proofs.PlaceLaws.{Bytes}
+use Rattle.resume_set.specs.Answers.{takenIn}
+use Rattle.resume_set.proofs.AnswerLaws.{key-parts}
+use Rattle.listing.specs.SetText.{lastText, intervalsText, entryText, entriesText, setText}
+use Rattle.listing.specs.EventText.{previousWord, refusedText, idText, gtidText, takenText, eventText, listing, longestText}
+use Rattle.listing.proofs.DigitLaws.{decimal-most, decimal-short}
+use Rattle.listing.proofs.KeyTextLaws.{key-most}
+use Rattle.listing.proofs.EventTextLaws.{refused-long, id-long}
+use Rattle.listing.proofs.TakenTextLaws.{taken-cases, taken-text}
+
+pub longestText-is : longestText ≡ 99882
+unfolding longestText maxEntries maxIntervals
+longestText-is = refl
+
+-- ---- sets
+
+-- two numbers below 10^19, a colon and a dash
+last-most : (start end : ℕ) → end ≤ 2 ^ 63 → length (lastText start end) ≤ 20
+last-most start end h =
+    split (eqb (start + 1) end) (λ t. rw t (omega arith)) (λ t. rw t (omega (arith, decimal-short 19 (end - 1) (omega arith) (omega arith))))
+
+intervals-most : (low : ℕ) (is : List Interval) → Gapped low is → length (intervalsText is) ≤ length is * 40
+unfolding intervalsText
+intervals-most low [] g = omega arith
+intervals-most low (interval start end ∷ is) g =
+    let small : end ≤ 2 ^ 63 = omega (arith, gnoTop-is) in
+    let first = decimal-short 19 start (omega arith) (omega arith) in
+    let last = last-most start end small in
+    let rest = intervals-most end is (g .3) in
+    simp length-append (omega arith)
+
+-- 69 for the key, 1 for the newline
+entries-most : (s : List Entry) → GoodKeys s → SetForm s → length (entriesText s) ≤ length s * 70 + intervals s * 40
+unfolding entriesText entryText
+entries-most [] g f = omega arith
+entries-most (entry k is ∷ s) g f =
+    let key = key-most (uuidOf k) (tagOf k) (uuid-length k (g .0)) (none-or-tag-short (tagOf k) (g .0 .rule)) in
+    let all = intervals-most 0 is (f .1) in
+    let rest = entries-most s (g .1) (f .3) in
+    simp length-append (omega arith)
+
+pub set-text-long : (word : List ℕ) (s : List Entry) → GoodKeys s → SetForm s → limits s ≡ fine → length (setText word s) ≤ length word + 28 + 256 * 70 + 2048 * 40
+unfolding setText
+set-text-long word s g f h =
+    let (few, less) = limits-says s h in
+    let most = maxEntries-is in
+    let total = maxIntervals-is in
+    let a = decimal-short 3 (length s) (omega arith) (omega arith) in
+    let b = decimal-short 4 (intervals s) (omega arith) (omega arith) in
+    let rest = entries-most s g f in
+    simp length-append (omega arith)
+
+-- ---- events
+
+refused-most : (n : ℕ) → length (refusedText n) ≤ 29
+refused-most n = omega (arith, refused-long n, decimal-most n)
+
+id-most : (e : GtidEvent) → length (e .sid) ≡ 16 → e .«tag_len» ≤ 32 → length (e .tag) ≡ 32 → length (idText e) ≤ 96
+id-most e u n t =
+    let tag = length-take-le (e .«tag_len») (e .tag) (omega arith) in
+    omega (arith, id-long e, decimal-most (e .gno), key-most (e .sid) (take (e .«tag_len») (e .tag)) u (omega arith))
+
+gtid-text-long : (type : ℕ) (body : List ℕ) → Bytes body → length (gtidText type (gtid type body)) ≤ 96
+gtid-text-long type body ok = go (gtid type body) refl
+  where
+    go : (p : Parse GtidEvent) → gtid type body ≡ p → length (gtidText type p) ≤ 96
+    go (refuse r) e = omega (arith, refused-most (number r))
+    go (parsed v next) e =
+        let (u, n, t) = key-parts type body (gtidRead (parsed v next)) (sym (ap gtidRead e)) refl ok in
+        split (eqb type 34) (λ h. rw h (omega arith)) (λ h. rw h (id-most v u n t))
+
+taken-text-long : (body : List ℕ) → length (takenText (takenIn (previous body))) ≤ 99882
+taken-text-long body =
+    taken-cases body (λ r e. rw e (omega (arith, refused-most (number r))))
+    (λ s e lent.
+    let is = lent-is (bodyBytes s) s lent in
+    rw (taken-text body s e lent) (omega (arith, set-text-long previousWord s (is .keyed) (is .formed) (is .limited))))
+
+event-text-long : (type : ℕ) (body : List ℕ) → Bytes body → length (eventText type body) ≤ 99882
+unfolding eventText
+event-text-long type body ok =
+    split (eqb type 35) (λ h. rw h (taken-text-long body)) (λ h. rw h (omega (arith, gtid-text-long type body ok)))
+
+pub longest-text : (input : List ℕ) → Bytes input → length (listing input) ≤ longestText
+longest-text [] ok = omega (arith, refused-most 1, longestText-is)
+longest-text (type ∷ body) ok = omega (arith, event-text-long type body (λ i. ok (suc i)), longestText-is)

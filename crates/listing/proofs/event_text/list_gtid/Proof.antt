@@ -1,0 +1,68 @@
+-- `listing::event_text::list_gtid` meets its contract.
+use denote.Ref.{now}
+use borrow.Author.Needs.{needs}
+use Rattle.resume_set.proofs.AnswerLaws.{key-parts}
+use Rattle.listing.proofs.EventTextLaws.{same-text, text-refused, text-anonymous, text-id}
+use Rattle.listing.proofs.event_text.list_gtid.Statement.{statement}
+use Rattle.listing.proofs.event_text.list_gtid.Tie as tie
+
+read-requires : tie.Need-read-requires
+read-requires c κs = search needs
+
+write-refused-requires : tie.Need-write-refused-requires
+write-refused-requires c κs = search needs
+
+same-length : tie.Need-same-length
+same-length c = search needs
+
+returns : tie.Need-returns
+returns c =
+    let a = c .before .before .before .before .before .before .before .before .args in
+    let r = c .before .before .before .before .before .read in
+    same-text (now (a .out)) (text-refused (a .event-type) (now (a .body)) (r .result) (r .ensures) (c .before .before .before .before .if1 .taken)) (c .before .before .write-refused .ensures)
+
+slice-aggregate-write-bytes : tie.Need-slice-aggregate-write-bytes
+slice-aggregate-write-bytes c = search needs
+
+write-bytes-requires : tie.Need-write-bytes-requires
+write-bytes-requires c κs = search needs
+
+same-length-2 : tie.Need-same-length-2
+same-length-2 c = search needs
+
+returns-2 : tie.Need-returns-2
+returns-2 c =
+    let a = c .before .before .before .before .before .before .before .before .before .before .args in
+    let r = c .before .before .before .before .before .before .before .read in
+    same-text (now (a .out)) (text-anonymous (a .event-type) (now (a .body)) (r .result) (r .ensures) (c .before .before .before .before .before .before .if1 .left) (c .before .before .before .before .before .if2 .taken)) (c .before .before .write-bytes .ensures)
+
+write-id-requires : tie.Need-write-id-requires
+write-id-requires c κs =
+    let a = c .before .before .before .before .before .before .args in
+    let r = c .before .before .before .read in
+    key-parts (a .event-type) (now (a .body)) (r .result) (r .ensures) (c .before .before .if1 .left) (λ i. c .before .before .before .before .before .shared-slice-known .given i .fits)
+
+same-length-3 : tie.Need-same-length-3
+same-length-3 c = search needs
+
+returns-3 : tie.Need-returns-3
+returns-3 c =
+    let a = c .before .before .before .before .before .before .before .before .before .args in
+    let r = c .before .before .before .before .before .before .read in
+    same-text (now (a .out)) (text-id (a .event-type) (now (a .body)) (r .result) (r .ensures) (c .before .before .before .before .before .if1 .left) (c .before .before .before .before .if2 .left)) (c .before .before .write-id .ensures)
+
+pub list-gtid-spec : {M : Type 1} → statement M
+list-gtid-spec =
+    tie.close
+    (tie.spec
+    read-requires
+    write-refused-requires
+    same-length
+    returns
+    slice-aggregate-write-bytes
+    write-bytes-requires
+    same-length-2
+    returns-2
+    write-id-requires
+    same-length-3
+    returns-3)

@@ -1,0 +1,53 @@
+-- `listing::set_text::put_entry` meets its contract.
+use denote.Ref.{now}
+use borrow.Author.Needs.{needs}
+use Rattle.misc.proofs.OutputLaws.{put-placed}
+use Rattle.listing.proofs.EntryTextLaws.{tag-there, entry-put}
+use Rattle.listing.proofs.set_text.put_entry.Statement.{statement}
+use Rattle.listing.proofs.set_text.put_entry.Tie as tie
+
+slice-aggregate-put-key : tie.Need-slice-aggregate-put-key
+slice-aggregate-put-key c = search needs
+
+array-share-prefix-tag : tie.Need-array-share-prefix-tag
+array-share-prefix-tag c = search needs
+
+slice-aggregate-put-key-2 : tie.Need-slice-aggregate-put-key-2
+slice-aggregate-put-key-2 c =
+    let s = c .before .before .before .before .before .before in
+    tag-there (now (s .args .set)) (s .args .entry) (s .pre)
+
+put-key-requires : tie.Need-put-key-requires
+put-key-requires c κs = search needs
+
+put-intervals-requires : tie.Need-put-intervals-requires
+put-intervals-requires c κs = search needs
+
+slice-aggregate-put-bytes : tie.Need-slice-aggregate-put-bytes
+slice-aggregate-put-bytes c = search needs
+
+put-bytes-requires : tie.Need-put-bytes-requires
+put-bytes-requires c κs = search needs
+
+same-length : tie.Need-same-length
+same-length c = search needs
+
+returns : tie.Need-returns
+returns c =
+    let s = c .before .before .before .before .before .before .before .before .before .before .before .before .before .before .before .before .before .before .before in
+    let last = c .before .before .put-bytes .ensures in
+    entry-put (now (s .args .set)) (s .args .entry) (s .pre) (c .before .before .before .before .before .before .before .before .before .before .before .put-key .ensures) (c .before .before .before .before .before .before .before .put-intervals .ensures) (put-placed (last .0) (last .1))
+
+pub put-entry-spec : {M : Type 1} → statement M
+put-entry-spec =
+    tie.close
+    (tie.spec
+    slice-aggregate-put-key
+    array-share-prefix-tag
+    slice-aggregate-put-key-2
+    put-key-requires
+    put-intervals-requires
+    slice-aggregate-put-bytes
+    put-bytes-requires
+    same-length
+    returns)

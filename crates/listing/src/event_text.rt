@@ -1,0 +1,123 @@
+// The text of an event.
+use crate::LONGEST_SET;
+use crate::digits::decimal_len;
+use crate::digits::put_decimal;
+use crate::keys::key_len;
+use crate::keys::put_key;
+use crate::set_text::list_set;
+use gtid_event::ANONYMOUS_GTID_EVENT;
+use gtid_event::GtidEvent;
+use gtid_event_read::read;
+use misc::Wrote;
+use misc::bytes::put_bytes;
+use misc::bytes::write_bytes;
+use misc::refusal::ENDED;
+use misc::refusal::NO_ROOM;
+use resume_set::take_in::take_in;
+ghost use mathlib.Core.Path.{_≡_};
+ghost use Prim.Native.Nat.{_≤_};
+ghost use lib.ListN.{length};
+ghost use Rattle.misc.specs.Output.{bytes, outputOf, answerOf};
+ghost use Rattle.previous_gtids_event.specs.Previous.{previous};
+ghost use Rattle.gtid_event_read.specs.Read.{gtid};
+ghost use Rattle.resume_set.specs.Answers.{takenIn};
+ghost use Rattle.listing.specs.EventText.{refusedText, idText, gtidText, takenText, eventText, listing};
+
+// The type of a Previous-GTIDs event.
+pub const PREVIOUS_GTIDS_EVENT: u8 = 35;
+
+// Writes that an event is refused, and the number.
+fn write_refused(refusal: u8, out: &mut [u8]) -> Wrote
+    ensures { λ r. ⌜ r ≡ answerOf (now (out .entry)) (bytes (refusedText refusal)) ⌝ }
+    ensures { λ _. ⌜ now (out .exit) ≡ outputOf (now (out .entry)) (bytes (refusedText refusal)) ⌝ }
+{
+    let len = 9 + decimal_len(refusal as u64);
+    if out.len() < len {
+        return Wrote {
+            refusal: NO_ROOM,
+            len,
+        };
+    }
+    let at1 = put_bytes(b"refused ", out, 0);
+    let at2 = put_decimal(refusal as u64, out, at1);
+    put_bytes(b"\n", out, at2);
+    Wrote { refusal: 0, len }
+}
+
+// Writes the id of an event.
+fn write_id(event: GtidEvent, out: &mut [u8]) -> Wrote
+    requires { ⌜ (length (event .sid) ≡ 16) × (event .«tag_len» ≤ 32) × (length (event .tag) ≡ 32) ⌝ }
+    ensures { λ r. ⌜ r ≡ answerOf (now (out .entry)) (bytes (idText event)) ⌝ }
+    ensures { λ _. ⌜ now (out .exit) ≡ outputOf (now (out .entry)) (bytes (idText event)) ⌝ }
+{
+    let uuid = event.sid;
+    let tag = event.tag;
+    let tag_len = event.tag_len as usize;
+    let gno = event.gno;
+    let len = 7 + key_len(&uuid, &tag[..tag_len]) + decimal_len(gno);
+    if out.len() < len {
+        return Wrote {
+            refusal: NO_ROOM,
+            len,
+        };
+    }
+    let at1 = put_bytes(b"gtid ", out, 0);
+    let at2 = put_key(&uuid, &tag[..tag_len], out, at1);
+    let at3 = put_bytes(b":", out, at2);
+    let at4 = put_decimal(gno, out, at3);
+    put_bytes(b"\n", out, at4);
+    Wrote { refusal: 0, len }
+}
+
+// Writes the text of a GTID event, or that it is refused.
+fn list_gtid(event_type: u8, body: &[u8], out: &mut [u8]) -> Wrote
+    ensures { λ r. ⌜ r ≡ answerOf (now (out .entry)) (bytes (gtidText «event_type» (gtid «event_type» (now (body .entry))))) ⌝ }
+    ensures { λ _. ⌜ now (out .exit) ≡ outputOf (now (out .entry)) (bytes (gtidText «event_type» (gtid «event_type» (now (body .entry))))) ⌝ }
+{
+    let said = read(event_type, body);
+    let refusal = said.refusal;
+    if refusal != 0 {
+        return write_refused(refusal, out);
+    }
+    if event_type == ANONYMOUS_GTID_EVENT {
+        return write_bytes(b"anonymous\n", out);
+    }
+    write_id(said.event, out)
+}
+
+// Writes the text of a Previous-GTIDs event: the set that it becomes when it is taken in, or that it is refused.
+fn list_previous(body: &[u8], out: &mut [u8]) -> Wrote
+    ensures { λ r. ⌜ r ≡ answerOf (now (out .entry)) (bytes (takenText (takenIn (previous (now (body .entry)))))) ⌝ }
+    ensures { λ _. ⌜ now (out .exit) ≡ outputOf (now (out .entry)) (bytes (takenText (takenIn (previous (now (body .entry)))))) ⌝ }
+{
+    let mut set = [0u8; LONGEST_SET];
+    let taken = take_in(body, &mut set);
+    let refusal = taken.refusal;
+    if refusal != 0 {
+        return write_refused(refusal, out);
+    }
+    let len = taken.len;
+    list_set(b"previous-gtids", &set[..len], out)
+}
+
+// Writes the text of an event; what is refused is said in the text. The call itself is refused only where the output is too short (13).
+pub fn list(event_type: u8, body: &[u8], out: &mut [u8]) -> Wrote
+    ensures { λ r. ⌜ r ≡ answerOf (now (out .entry)) (bytes (eventText «event_type» (now (body .entry)))) ⌝ }
+    ensures { λ _. ⌜ now (out .exit) ≡ outputOf (now (out .entry)) (bytes (eventText «event_type» (now (body .entry)))) ⌝ }
+{
+    if event_type == PREVIOUS_GTIDS_EVENT {
+        return list_previous(body, out);
+    }
+    list_gtid(event_type, body, out)
+}
+
+// The same for a type byte with a body behind it, or nothing at all.
+pub fn list_input(input: &[u8], out: &mut [u8]) -> Wrote
+    ensures { λ r. ⌜ r ≡ answerOf (now (out .entry)) (bytes (listing (now (input .entry)))) ⌝ }
+    ensures { λ _. ⌜ now (out .exit) ≡ outputOf (now (out .entry)) (bytes (listing (now (input .entry)))) ⌝ }
+{
+    if input.len() == 0 {
+        return write_refused(ENDED, out);
+    }
+    list(input[0], &input[1..], out)
+}

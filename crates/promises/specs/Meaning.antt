@@ -1,0 +1,56 @@
+-- Demand 2, of any reader and writer: what is written reads back from exactly its bytes, what is accepted is what the layouts say, and a
+-- tagged record declares the least size that counts itself.
+use Prim.Native.Nat.{ℕ, _+_, _≤_}
+use mathlib.Core.Path.{_≡_}
+use mathlib.Core.Bool.{true}
+use mathlib.Core.List.{List, [], _∷_, _++_}
+use lib.ListN.{length}
+use Rattle.misc.specs.Parse.{Bytes, Parse, parsed}
+use Rattle.misc.specs.Output.{Output, bytes}
+use Rattle.misc.specs.Varlen.{varlenBytes}
+use Rattle.previous_gtids_event.specs.Entry.{Entry}
+use Rattle.gtid_event.specs.Event.{tagged, typeOf}
+use Rattle.gtid_event.specs.declared.GtidEvent.{GtidEvent}
+use Rattle.gtid_event_write.specs.Size.{Agrees}
+use Rattle.gtid_event_laws.specs.Fits.{Fits}
+
+-- ---- records
+
+-- what a reader makes of an event's type and body: a refusal, or a record and the bytes used
+abbrev pub EventReader : Type 0
+EventReader = ℕ → List ℕ → Parse GtidEvent
+
+abbrev pub EventWriter : Type 0
+EventWriter = GtidEvent → Output
+
+-- a record that is written comes back equal, from exactly its bytes
+abbrev pub RecordsBack : EventReader → EventWriter → Type 0
+RecordsBack read write = (e : GtidEvent) (bs : List ℕ) → Fits e → write e ≡ bytes bs → read (typeOf e) bs ≡ parsed e (length bs)
+
+-- a record that is read can be written
+abbrev pub RecordsAgain : EventReader → EventWriter → Type 0
+RecordsAgain read write = (type : ℕ) (body : List ℕ) (e : GtidEvent) (used : ℕ) → Bytes body → read type body ≡ parsed e used
+    → Fits e × ((bs : List ℕ) × (write e ≡ bytes bs))
+
+-- the bytes of a tagged record: version byte 2, a size, and the rest; the size counts all of them, and no smaller number could
+pub record Declares (bs : List ℕ) : Type 0 where
+  pub size : ℕ
+  pub rest : List ℕ
+  pub laid : bs ≡ (2 ∷ []) ++ varlenBytes size ++ rest
+  pub counts : size ≡ length bs
+  pub fields : ℕ
+  pub agrees : Agrees fields size
+  pub least : (other : ℕ) → Agrees fields other → size ≤ other
+
+abbrev pub LeastSize : EventWriter → Type 0
+LeastSize write = (e : GtidEvent) (bs : List ℕ) → tagged e ≡ true → write e ≡ bytes bs → Declares bs
+
+-- ---- Previous-GTIDs
+
+abbrev pub EntriesReader : Type 0
+EntriesReader = List ℕ → Parse (List Entry)
+
+-- what rewriting gives reads as the same entries, from exactly its bytes
+abbrev pub EntriesBack : EntriesReader → (List Entry → List ℕ) → Type 0
+EntriesBack read write = (body : List ℕ) (es : List Entry) (used : ℕ) → Bytes body → read body ≡ parsed es used
+    → read (write es) ≡ parsed es (length (write es))

@@ -1,0 +1,43 @@
+-- Wrong programs that the demands shut out. Each is put in the place of ours by an edit that the gate sees refused.
+use Prim.Native.Nat.{_+_}
+use lib.ListN.{length, replicate}
+use lib.Dec.{eqb}
+use Rattle.misc.specs.Pick.{pick}
+use Rattle.misc.specs.Refusal.{ended}
+use Rattle.misc.specs.Parse.{Parse, refuse, parsed}
+use Rattle.misc.specs.Output.{bytes, outputOf}
+use Rattle.gtid_event.specs.declared.GtidEvent.{GtidEvent}
+use Rattle.gtid_event.specs.Event.{newUntagged}
+use Rattle.gtid_event_read.specs.Read.{gtid}
+use Rattle.resume_set.specs.declared.Offered.the-variants.{Taken}
+use Rattle.resume_set_laws.specs.History.{Offering}
+use Rattle.resume_set_laws.specs.Ours.{ours}
+use Rattle.promises.specs.Meaning.{EventReader}
+
+-- refuses whatever comes
+abbrev pub refusesAll : EventReader
+refusesAll type body = refuse ended
+
+-- reads one record out of anything
+abbrev pub constantRecord : EventReader
+constantRecord type body = parsed (newUntagged (replicate 16 0) 1) (length body)
+
+-- tells one byte used more
+abbrev pub countedUp : Parse GtidEvent → Parse GtidEvent
+countedUp (refuse r) = refuse r
+countedUp (parsed e used) = parsed e (used + 1)
+
+abbrev pub madeUpCount : EventReader
+madeUpCount type body = countedUp (gtid type body)
+
+-- says "taken", and copies its set
+abbrev pub copiesItsSet : Offering
+copiesItsSet = record { answers = λ set t. Taken (length set); leaves = λ set t. outputOf (t .out) (bytes set) }
+
+-- adds an id to the empty set, which has eight bytes, and from then on merely says "taken"
+abbrev pub addsOnlyTheFirst : Offering
+addsOnlyTheFirst =
+    record {
+      answers = λ set t. pick (eqb (length set) 8) (ours .answers set t) (copiesItsSet .answers set t);
+      leaves = λ set t. pick (eqb (length set) 8) (ours .leaves set t) (copiesItsSet .leaves set t);
+    }
