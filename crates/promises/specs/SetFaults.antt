@@ -18,7 +18,7 @@ use Rattle.previous_gtids_event.specs.Entry.{Entry}
 use Rattle.previous_gtids_event.specs.Previous.{previous}
 use Rattle.previous_gtids_event.specs.Rewrite.{bodyBytes}
 use Rattle.previous_gtids_event.specs.Answers.{previousRead, headerRead, entryRead, intervalRead}
-use Rattle.gtid_event.specs.Event.{withTag, newTagged}
+use Rattle.gtid_event.specs.Event.{noEvent, withTag, newTagged}
 use Rattle.gtid_event.specs.declared.GtidEvent.{GtidEvent}
 use Rattle.gtid_event_read.specs.Tagged.{tagged}
 use Rattle.gtid_event_read.specs.Read.{gtid, gtidRead}
@@ -79,32 +79,13 @@ pub record Orders : Type 0 where
   -- 12 before 13: a record that can't be written, whatever the output
   pub writable-first : (e : GtidEvent) (out : List ℕ) → writable e ≡ false → answerOf out (eventOutput e) ≡ record { refusal = 12; len = 0 }
 
--- ---- what else a refusal answers
-
-abbrev pub zeroEvent : GtidEvent
-zeroEvent =
-    record {
-      flags = 0;
-      sid = replicate 16 0;
-      gno = 0;
-      tag = replicate 32 0;
-      «tag_len» = 0;
-      «lc_typecode» = 0;
-      «last_committed» = 0;
-      «sequence_number» = 0;
-      «immediate_commit_timestamp» = 0;
-      «original_commit_timestamp» = 0;
-      «tx_length» = 0;
-      «immediate_server_version» = 0;
-      «original_server_version» = 0;
-      «commit_group_ticket» = 0;
-    }
+-- ---- what else a refusal answers: `noEvent` is the record that is all zero
 
 pub record Zeros (r : Refusal) : Type 0 where
   -- calls that read
   pub uint : uintRead (refuse r) ≡ record { refusal = number r; value = 0; next = 0 }
   pub int : intRead (refuse r) ≡ record { refusal = number r; value = pos 0; next = 0 }
-  pub event : gtidRead (refuse r) ≡ record { refusal = number r; used = 0; event = zeroEvent }
+  pub event : gtidRead (refuse r) ≡ record { refusal = number r; used = 0; event = noEvent }
   pub previous-gtids : previousRead (refuse r) ≡ record { refusal = number r; used = 0; entries = 0 }
   pub header : headerRead (refuse r) ≡ record { refusal = number r; tagged = false; entries = 0 }
   pub entry :
@@ -118,8 +99,8 @@ pub record Zeros (r : Refusal) : Type 0 where
   pub checked : setRead unfit ≡ record { refusal = 14; entries = 0; intervals = 0 }
   pub asked : (uuid tag : List ℕ) (gno : ℕ) → contained unfit uuid tag gno ≡ record { refusal = 14; present = false }
   -- a tag that breaks the tag rule, and a record that can't be written
-  pub step : (tag : List ℕ) (e : GtidEvent) → isTag tag ≡ false → withTag tag e ≡ record { refusal = 6; event = zeroEvent }
-  pub new : (sid tag : List ℕ) (gno : ℕ) → isTag tag ≡ false → newTagged sid tag gno ≡ record { refusal = 6; event = zeroEvent }
+  pub step : (tag : List ℕ) (e : GtidEvent) → isTag tag ≡ false → withTag tag e ≡ record { refusal = 6; event = noEvent }
+  pub new : (sid tag : List ℕ) (gno : ℕ) → isTag tag ≡ false → newTagged sid tag gno ≡ record { refusal = 6; event = noEvent }
   pub sized : (e : GtidEvent) → writable e ≡ false → lengthOf e ≡ record { refusal = 12; len = 0 }
   -- a call that writes: no length, and the output as it was
   pub wrote : (out : List ℕ) → answerOf out (refused r) ≡ record { refusal = number r; len = 0 }
