@@ -1,0 +1,2 @@
+-- Laws that the proofs of `abi` share.
+pub mod NumberLaws

@@ -1,0 +1,28 @@
+-- Answers of the library taken apart into numbers.
+use Prim.Native.Nat.{ℕ}
+use mathlib.Core.Path.{_≡_, ap}
+use mathlib.Core.List.{List}
+use Rattle.misc.specs.declared.Wrote.{Wrote}
+use Rattle.resume_set.specs.declared.SetRead.{SetRead}
+use Rattle.resume_set.specs.declared.Contained.{Contained}
+use Rattle.resume_set.specs.declared.Offered.{Offered}
+use Rattle.abi.specs.declared.OfferNumbers.{OfferNumbers}
+use Rattle.abi.specs.Answers.{numbersOf, bit}
+
+pub wrote-parts : (w v : Wrote) (l m : List ℕ) → (w ≡ v) × (l ≡ m) → (w .refusal ≡ v .refusal) × ((w .len ≡ v .len) × (l ≡ m))
+wrote-parts w v l m e = (ap (λ (x : Wrote). x .refusal) (e .0), (ap (λ (x : Wrote). x .len) (e .0), e .1))
+
+pub set-parts : (w v : SetRead)
+    → w ≡ v
+    → (w .refusal ≡ v .refusal) × ((w .entries ≡ v .entries) × (w .intervals ≡ v .intervals))
+set-parts w v e =
+    (ap (λ (x : SetRead). x .refusal) e, (ap (λ (x : SetRead). x .entries) e, ap (λ (x : SetRead). x .intervals) e))
+
+pub contained-parts : (w v : Contained) → w ≡ v → (w .refusal ≡ v .refusal) × (bit (w .present) ≡ bit (v .present))
+contained-parts w v e = (ap (λ (x : Contained). x .refusal) e, ap (λ (x : Contained). bit (x .present)) e)
+
+pub offer-parts : (n : OfferNumbers) (answer wanted : Offered) (l m : List ℕ)
+    → n ≡ numbersOf answer
+    → (answer ≡ wanted) × (l ≡ m)
+    → (n .refusal ≡ numbersOf wanted .refusal) × ((n .kind ≡ numbersOf wanted .kind) × ((n .len ≡ numbersOf wanted .len) × (l ≡ m)))
+offer-parts n answer wanted l m told e = (cc, (cc, (cc, e .1)))

@@ -1,0 +1,19 @@
+-- The answers of the library's calls as numbers.
+use Prim.Native.Nat.{ℕ}
+use mathlib.Core.Bool.{Bool, true, false}
+use Rattle.resume_set.specs.declared.Offered.{Offered}
+use Rattle.resume_set.specs.declared.Offered.the-variants as offered-as
+use Rattle.abi.specs.declared.OfferNumbers.{OfferNumbers}
+
+-- what an offer comes to: its refusal, 0 for none; its kind, 0 refused, 1 taken, 2 already there, 3 no id; and the length of the set
+-- that was written, or for refusal 13 of the one that has no room
+abbrev pub numbersOf : Offered → OfferNumbers
+numbersOf (offered-as.Refused r n) = record { refusal = r; kind = 0; len = n }
+numbersOf (offered-as.Taken n) = record { refusal = 0; kind = 1; len = n }
+numbersOf (offered-as.AlreadyThere n) = record { refusal = 0; kind = 2; len = n }
+numbersOf (offered-as.NoId n) = record { refusal = 0; kind = 3; len = n }
+
+-- 1 for true and 0 for false
+abbrev pub bit : Bool → ℕ
+bit true = 1
+bit false = 0

@@ -1,0 +1,2 @@
+-- What `abi` promises is said by the definitions of the crates that it calls; `Answers` gives the cases of an offer as numbers.
+pub mod Answers

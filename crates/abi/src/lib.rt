@@ -1,0 +1,135 @@
+// The library's calls as functions that Rust and C can link, over numbers and byte slices. Each returns the number of its refusal,
+// 0 for none, and hands its other answers out through `&mut` numbers. None asks anything of its caller.
+use resume_set::Offered;
+ghost use mathlib.Core.Path.{_≡_};
+ghost use lib.ListN.{length};
+ghost use Rattle.misc.specs.Output.{bytes, outputOf, answerOf};
+ghost use Rattle.previous_gtids_event.specs.Previous.{previous};
+ghost use Rattle.previous_gtids_event.specs.Rewrite.{rewritten};
+ghost use Rattle.gtid_sets.specs.Lent.{lentSet};
+ghost use Rattle.resume_set.specs.Answers.{setRead, contained, takenIn, eventOf, offered, output};
+ghost use Rattle.listing.specs.EventText.{listing};
+ghost use Rattle.abi.specs.Answers.{numbersOf, bit};
+
+// Whether bytes are a set (0, else 14), and how many entries and intervals it has.
+#[no_mangle]
+pub extern "C" fn gtid_check_set(set: &[u8], entries: &mut u64, intervals: &mut u64) -> u8
+    ensures { λ r. ⌜ r ≡ setRead (lentSet (now (set .entry))) .refusal ⌝ }
+    ensures { λ _. ⌜ now (entries .exit) ≡ setRead (lentSet (now (set .entry))) .entries ⌝ }
+    ensures { λ _. ⌜ now (intervals .exit) ≡ setRead (lentSet (now (set .entry))) .intervals ⌝ }
+{
+    let said = resume_set::check_set(set);
+    *entries = said.entries;
+    *intervals = said.intervals;
+    said.refusal
+}
+
+// Whether a set has the id of a uuid, a tag (none: no bytes) and a gno: 1 if it is there, else 0.
+#[no_mangle]
+pub extern "C" fn gtid_contains(
+    set: &[u8],
+    uuid: &[u8],
+    tag: &[u8],
+    gno: u64,
+    present: &mut u8,
+) -> u8
+    ensures { λ r. ⌜ r ≡ contained (lentSet (now (set .entry))) (now (uuid .entry)) (now (tag .entry)) gno .refusal ⌝ }
+    ensures { λ _. ⌜ now (present .exit) ≡ bit (contained (lentSet (now (set .entry))) (now (uuid .entry)) (now (tag .entry)) gno .present) ⌝ }
+{
+    let said = resume_set::contains(set, uuid, tag, gno);
+    *present = said.present as u8;
+    said.refusal
+}
+
+// Takes in the body of a Previous-GTIDs event: the set of all its ids is written, in set form.
+#[no_mangle]
+pub extern "C" fn gtid_take_in(body: &[u8], out: &mut [u8], len: &mut usize) -> u8
+    ensures { λ r. ⌜ r ≡ answerOf (now (out .entry)) (takenIn (previous (now (body .entry)))) .refusal ⌝ }
+    ensures { λ _. ⌜ now (len .exit) ≡ answerOf (now (out .entry)) (takenIn (previous (now (body .entry)))) .len ⌝ }
+    ensures { λ _. ⌜ now (out .exit) ≡ outputOf (now (out .entry)) (takenIn (previous (now (body .entry)))) ⌝ }
+{
+    let wrote = resume_set::take_in::take_in(body, out);
+    *len = wrote.len;
+    wrote.refusal
+}
+
+// Writes the entries that the body of a Previous-GTIDs event holds anew.
+#[no_mangle]
+pub extern "C" fn gtid_rewrite(body: &[u8], out: &mut [u8], len: &mut usize) -> u8
+    ensures { λ r. ⌜ r ≡ answerOf (now (out .entry)) (rewritten (previous (now (body .entry)))) .refusal ⌝ }
+    ensures { λ _. ⌜ now (len .exit) ≡ answerOf (now (out .entry)) (rewritten (previous (now (body .entry)))) .len ⌝ }
+    ensures { λ _. ⌜ now (out .exit) ≡ outputOf (now (out .entry)) (rewritten (previous (now (body .entry)))) ⌝ }
+{
+    let wrote = previous_gtids_event::rewrite::rewrite(body, out);
+    *len = wrote.len;
+    wrote.refusal
+}
+
+// Writes the text of an event: a type byte with a body behind it.
+#[no_mangle]
+pub extern "C" fn gtid_list(input: &[u8], out: &mut [u8], len: &mut usize) -> u8
+    ensures { λ r. ⌜ r ≡ answerOf (now (out .entry)) (bytes (listing (now (input .entry)))) .refusal ⌝ }
+    ensures { λ _. ⌜ now (len .exit) ≡ answerOf (now (out .entry)) (bytes (listing (now (input .entry)))) .len ⌝ }
+    ensures { λ _. ⌜ now (out .exit) ≡ outputOf (now (out .entry)) (bytes (listing (now (input .entry)))) ⌝ }
+{
+    let wrote = listing::event_text::list_input(input, out);
+    *len = wrote.len;
+    wrote.refusal
+}
+
+// What an offer comes to.
+struct OfferNumbers {
+    refusal: u8,
+    kind: u8,
+    len: usize,
+}
+
+fn numbers_of(answer: Offered) -> OfferNumbers
+    ensures { λ r. ⌜ r ≡ numbersOf answer ⌝ }
+{
+    match answer {
+        Offered::Refused(refusal, len) => OfferNumbers {
+            refusal,
+            kind: 0,
+            len,
+        },
+        Offered::Taken(len) => OfferNumbers {
+            refusal: 0,
+            kind: 1,
+            len,
+        },
+        Offered::AlreadyThere(len) => OfferNumbers {
+            refusal: 0,
+            kind: 2,
+            len,
+        },
+        Offered::NoId(len) => OfferNumbers {
+            refusal: 0,
+            kind: 3,
+            len,
+        },
+    }
+}
+
+// Offers an event to a set, and writes the set after it. The kind is 0 for an event that is refused, 1 for an id that is taken, 2 for one
+// that is already there and 3 for an event with no id.
+#[no_mangle]
+pub extern "C" fn gtid_offer(
+    set: &[u8],
+    event_type: u8,
+    body: &[u8],
+    out: &mut [u8],
+    kind: &mut u8,
+    len: &mut usize,
+) -> u8
+    ensures { λ r. ⌜ r ≡ numbersOf (offered (lentSet (now (set .entry))) (eventOf «event_type» (now (body .entry))) (length (now (out .entry)))) .refusal ⌝ }
+    ensures { λ _. ⌜ now (kind .exit) ≡ numbersOf (offered (lentSet (now (set .entry))) (eventOf «event_type» (now (body .entry))) (length (now (out .entry)))) .kind ⌝ }
+    ensures { λ _. ⌜ now (len .exit) ≡ numbersOf (offered (lentSet (now (set .entry))) (eventOf «event_type» (now (body .entry))) (length (now (out .entry)))) .len ⌝ }
+    ensures { λ _. ⌜ now (out .exit) ≡ outputOf (now (out .entry)) (output (lentSet (now (set .entry))) (eventOf «event_type» (now (body .entry)))) ⌝ }
+{
+    let answer = resume_set::offer(set, event_type, body, out);
+    let said = numbers_of(answer);
+    *kind = said.kind;
+    *len = said.len;
+    said.refusal
+}
