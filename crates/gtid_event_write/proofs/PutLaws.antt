@@ -1,4 +1,4 @@
--- Laws of writing at a place: a byte, the bytes of a uuid as integers, and an immediate number with its original.
+-- Laws of writing at a place: the bytes of a uuid as integers, and an immediate number with its original.
 use mathlib.Core.Path.{_≡_, refl, sym, ap, _∙_}
 use mathlib.Core.List.{List, [], _∷_, _++_, append-assoc, append-nil}
 use Prim.Native.Nat.{ℕ, _+_, _^_, _≤_, _<_}
@@ -21,10 +21,6 @@ fits p = record { placed = λ room. p }
 
 pub with-bytes : {l a b l′ : List ℕ} {at next : ℕ} → a ≡ b → WhereFits l at a l′ next → WhereFits l at b l′ next
 with-bytes {l} {a} {b} {l′} {at} {next} e p = rw e at p
-
--- no place is left for a byte
-pub byte-past : {l l′ : List ℕ} {at b next : ℕ} → length l ≤ at → WhereFits l at (b ∷ []) l′ next
-byte-past h = record { placed = λ room. absurd (omega arith) }
 
 -- ---- items, one after the other
 

@@ -6,15 +6,15 @@ ghost use lib.ListN.{length};
 ghost use Rattle.misc.specs.Output.{WhereFits};
 ghost use Rattle.gtid_event_write.specs.Writable.{writableUntagged};
 ghost use Rattle.gtid_event_write.specs.Layout.{pairBytes, openingBytes, laterBytes, untaggedBytes};
-use crate::put::put_byte;
-use crate::put::put_bytes;
-use crate::put::put_lenenc_int;
-use crate::put::put_u32_le;
-use crate::put::put_u56_le;
-use crate::put::put_u64_le;
 use gtid_event::GtidEvent;
 use gtid_event::LOGICAL_TIMESTAMP_TYPECODE;
 use misc::lenenc::lenenc_int_len;
+use misc::put::put_byte;
+use misc::put::put_bytes;
+use misc::put::put_lenenc_int;
+use misc::put::put_u32_le;
+use misc::put::put_u56_le;
+use misc::put::put_u64_le;
 
 const ENCODED_SID_LENGTH: usize = 16;
 

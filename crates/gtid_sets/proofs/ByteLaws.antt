@@ -4,26 +4,21 @@ use mathlib.Core.Path.{_≡_, refl, sym, ap, _∙_}
 use mathlib.Core.Bool.{Bool, true, false}
 use mathlib.Core.List.{List, [], _∷_, _++_, append-assoc}
 use native.Mathlib.Omega.{arith}
-use lib.ListN.{length, take, drop, length-append, length-take}
+use lib.ListN.{length, take, drop, length-append}
 use lib.Seq.{take-at, drop-at}
 use borrow.Author.Tests.{lt-ltb}
 use Rattle.misc.specs.Varlen.{varlenSize, sizeFrom, varlenBytes}
 use Rattle.misc.proofs.VarlenLaws.{length-varlenBytes}
 use Rattle.packets.specs.Gno.{Interval, interval}
-use Rattle.packets.specs.Key.{Key}
-use Rattle.previous_gtids_event.specs.Entry.{Entry, entry, uuidOf, tagOf}
+use Rattle.previous_gtids_event.specs.Entry.{Entry, entry, tagOf}
 use Rattle.previous_gtids_event.specs.Previous.{noneOrTag}
 use Rattle.previous_gtids_event.specs.Rewrite.{intervalsBytes, tagBytes, entriesBytes, anyTag, bodyBytes}
 use Rattle.previous_gtids_event.proofs.Reading.{none-or-tag-short}
 use Rattle.previous_gtids_event.proofs.Writing.{length-header, entry-length}
 use Rattle.gtid_sets.specs.Limits.{intervals}
-use Rattle.gtid_sets.specs.Lent.{GoodKey, GoodKeys}
+use Rattle.gtid_sets.specs.Lent.{GoodKeys}
 
 -- ---- lengths
-
-pub uuid-length : (k : Key) → GoodKey k → length (uuidOf k) ≡ 16
-unfolding uuidOf
-uuid-length k g = omega (arith, length-take 16 k, g .whole)
 
 one-byte : (v : ℕ) → v < 128 → length (varlenBytes v) ≡ 1
 unfolding varlenSize sizeFrom
@@ -36,7 +31,7 @@ tag-long true t h = let short = none-or-tag-short t h in rw (length-append, one-
 entries-long : (w : Bool) (es : List Entry) → GoodKeys es → length (entriesBytes w es) ≤ 57 * length es + 16 * intervals es
 unfolding entriesBytes
 entries-long w [] g = omega arith
-entries-long w (entry k is ∷ es) g = simp (length-append, entry-length w k is (uuid-length k (g .0)))
+entries-long w (entry k is ∷ es) g = simp (length-append, entry-length w k is (g .0 .uuid))
     (omega (arith, tag-long w (tagOf k) (g .0 .rule), entries-long w es (g .1)))
 
 -- 8 bytes for the header, 57 at most for each entry, and 16 for each interval
@@ -48,7 +43,7 @@ body-long es g = simp (length-append, length-header) (omega (arith, entries-long
 pub entries-least : (w : Bool) (es : List Entry) → GoodKeys es → 24 * length es + 16 * intervals es ≤ length (entriesBytes w es)
 unfolding entriesBytes
 entries-least w [] g = omega arith
-entries-least w (entry k is ∷ es) g = simp (length-append, entry-length w k is (uuid-length k (g .0))) (omega (arith, entries-least w es (g .1)))
+entries-least w (entry k is ∷ es) g = simp (length-append, entry-length w k is (g .0 .uuid)) (omega (arith, entries-least w es (g .1)))
 
 pub body-least : (es : List Entry) → GoodKeys es → 8 + 24 * length es + 16 * intervals es ≤ length (bodyBytes es)
 unfolding bodyBytes

@@ -15,7 +15,7 @@ use Rattle.packets.proofs.Tests.{and-true}
 use Rattle.packets.proofs.Keys.{same-self, same-eq, key-cases}
 use Rattle.packets.proofs.GnoLaws.{gnoTop-is}
 use Rattle.previous_gtids_event.specs.Entry.{Entry, entry}
-use Rattle.previous_gtids_event.specs.Previous.{previous}
+use Rattle.previous_gtids_event.specs.Previous.{GoodKey, previous}
 use Rattle.previous_gtids_event.specs.Rewrite.{entriesBytes, anyTag, headerBytes, bodyBytes}
 use Rattle.previous_gtids_event.proofs.Laying.{GoodIntervals, WellFormed}
 use Rattle.previous_gtids_event.proofs.RoundTrip.{rewritten-read-alone}
@@ -23,13 +23,13 @@ use Rattle.gtid_sets.specs.Interval.{Gapped}
 use Rattle.gtid_sets.specs.Set.{SetForm, inSetForm, join}
 use Rattle.gtid_sets.specs.TakeIn.{Lawful, joinAll, union, takeIn}
 use Rattle.gtid_sets.specs.Limits.{intervals, fine, isFine, limits, longestSet}
-use Rattle.gtid_sets.specs.Lent.{Lent, form, unfit, isForm, lentRead, lentSet, GoodKey, GoodKeys}
+use Rattle.gtid_sets.specs.Lent.{Lent, form, unfit, isForm, lentRead, lentSet, GoodKeys}
 use Rattle.gtid_sets.proofs.SetLaws.{join-before, join-into, join-after}
 use Rattle.gtid_sets.proofs.TakeInLaws.{form-takeIn}
 use Rattle.gtid_sets.proofs.FormLaws.{form-holds, form-tests}
 use Rattle.gtid_sets.proofs.LimitLaws.{maxIntervals-is, longestSet-is, limits-says, limits-from, fine-holds}
 use Rattle.gtid_sets.proofs.KeyLaws.{read-good}
-use Rattle.gtid_sets.proofs.ByteLaws.{uuid-length, body-long}
+use Rattle.gtid_sets.proofs.ByteLaws.{body-long}
 
 -- ---- the longest set
 
@@ -46,7 +46,7 @@ gapped-wide low (interval a b ∷ is) g = (omega (arith, gnoTop-is), omega (arit
 pub well-formed : (s : List Entry) → SetForm s → GoodKeys s → intervals s < 2 ^ 64 → WellFormed s
 well-formed [] f g l = tt
 well-formed (entry k is ∷ s) f g l = (
-  record { uuid = uuid-length k (g .0); rule = g .0 .rule },
+  g .0,
   gapped-wide 0 is (f .1),
   omega arith,
   well-formed s (f .3) (g .1) (omega arith),

@@ -1,14 +1,12 @@
 -- Which bytes are a set. A set is saved as the body that the writer gives for its entries, `bodyBytes s`.
-use Prim.Native.Nat.{ℕ, _≤_}
-use mathlib.Core.Path.{_≡_}
-use mathlib.Core.Bool.{Bool, true, _&&_}
+use Prim.Native.Nat.{ℕ}
+use mathlib.Core.Bool.{Bool, _&&_}
 use mathlib.Core.List.{List, [], _∷_}
-use lib.ListN.{length}
 use Rattle.misc.specs.Pick.{pick}
 use Rattle.misc.specs.Parse.{Parse, refuse, parsed}
-use Rattle.packets.specs.Key.{Key, same}
-use Rattle.previous_gtids_event.specs.Entry.{Entry, entry, tagOf}
-use Rattle.previous_gtids_event.specs.Previous.{noneOrTag, previous}
+use Rattle.packets.specs.Key.{same}
+use Rattle.previous_gtids_event.specs.Entry.{Entry, entry}
+use Rattle.previous_gtids_event.specs.Previous.{GoodKey, previous}
 use Rattle.previous_gtids_event.specs.Rewrite.{bodyBytes}
 use Rattle.gtid_sets.specs.Set.{inSetForm}
 use Rattle.gtid_sets.specs.Limits.{limits, isFine}
@@ -29,11 +27,7 @@ lentRead bs (parsed s next) = pick (isForm bs s) (form s) unfit
 unfoldable pub lentSet : List ℕ → Lent
 lentSet bs = lentRead bs (previous bs)
 
--- a key as it is read: 16 uuid bytes, and no tag or one that obeys the tag rule
-pub record GoodKey (k : Key) : Type 0 where
-  pub whole : 16 ≤ length k
-  pub rule : noneOrTag (tagOf k) ≡ true
-
+-- entries whose keys are as keys are read
 abbrev pub GoodKeys : List Entry → Type 0
 GoodKeys [] = Unit {0}
 GoodKeys (entry k is ∷ s) = GoodKey k × GoodKeys s

@@ -1,9 +1,10 @@
 -- Offering events to a saved set, as bytes.
 use Prim.Native.Nat.{ℕ}
 use mathlib.Core.List.{List, [], _∷_}
+use Rattle.previous_gtids_event.specs.Previous.{GoodKey}
 use Rattle.previous_gtids_event.specs.Rewrite.{bodyBytes}
 use Rattle.gtid_sets.specs.Run.{Event, anonymous, broken, names, after}
-use Rattle.gtid_sets.specs.Lent.{Lent, form, unfit, lentSet, GoodKey}
+use Rattle.gtid_sets.specs.Lent.{Lent, form, unfit, lentSet}
 
 -- the set's bytes after an event; bytes that are no set stay as they are
 abbrev pub grown : Lent → List ℕ → Event → List ℕ

@@ -9,7 +9,9 @@ use lib.ListN.{length, getD, take, drop, set, length-append, length-drop, drop-o
 use lib.Seq.{drop-cons, take-all, length-sets, sets-eq, drop-drop}
 use borrow.Rule.Slice.PartMut.{midOf, putMid}
 use Rattle.misc.proofs.ParseLaws.{split}
+use lib.Dec.{eqb}
 use borrow.Author.Tests.{le-leb, lt-leb}
+use Rattle.misc.specs.Pick.{pick}
 use Rattle.misc.specs.Refusal.{Refusal, number, noRoom}
 use Rattle.misc.specs.Output.{bytes, refused, outputOf, answerOf, written, putAt, putEnd, Placed, WhereFits}
 use Rattle.misc.specs.declared.Wrote.{Wrote}
@@ -59,10 +61,6 @@ _then_ {l} {l₁} {l₂} {a} {b} {at} {at₁} {at₂} p q =
 pub nothing-placed : (l : List ℕ) (at : ℕ) → Placed l at [] l at
 nothing-placed l at = record { holds = written-none l at; ends = sym (add-zero at) }
 
-pub one-placed : (l : List ℕ) (at b : ℕ) → Placed l at (b ∷ []) (set l at b) (at + 1)
-unfolding written
-one-placed l at b = record { holds = refl; ends = refl }
-
 -- a run of writes, each where it fits, is one: room is asked once, at the end
 infixl 40 _also_
 pub _also_ : {l l₁ l₂ a b : List ℕ} {at at₁ at₂ : ℕ} → WhereFits l at a l₁ at₁ → WhereFits l₁ at₁ b l₂ at₂ → WhereFits l at (a ++ b) l₂ at₂
@@ -76,20 +74,28 @@ _also_ {l} {l₁} {l₂} {a} {b} {at} {at₁} {at₂} p q = record { placed = go
         first then q .placed (omega arith)
 
 -- bytes put at a place are placed where there is room
-pub put-placed : {l l′ bs : List ℕ} {at r : ℕ} → r ≡ putEnd l at bs → l′ ≡ putAt l at bs → WhereFits l at bs l′ r
+pub put-placed : {l l′ bs : List ℕ} {at r : ℕ} → (r ≡ putEnd l at bs) × (l′ ≡ putAt l at bs) → WhereFits l at bs l′ r
 unfolding putAt putEnd
-put-placed {l} {l′} {bs} {at} {r} e h =
+put-placed {l} {l′} {bs} {at} {r} (e, h) =
     record { placed = λ room. record { holds = h ∙ rw (le-leb (at + length bs) (length l) room); ends = e ∙ rw (le-leb (at + length bs) (length l) room) } }
 
+-- the same bytes, said otherwise
+pub put-as : (l : List ℕ) (at : ℕ) {l′ a b : List ℕ} {r : ℕ} → a ≡ b → (r ≡ putEnd l at a) × (l′ ≡ putAt l at a) → (r ≡ putEnd l at b) × (l′ ≡ putAt l at b)
+put-as l at e p = rw e at p
+
 -- there is no room
-pub put-short : {l′ : List ℕ} (l bs : List ℕ) (at : ℕ) → length l < at + length bs → l′ ≡ l → (at ≡ putEnd l at bs) × (l′ ≡ putAt l at bs)
+pub put-short : (l bs : List ℕ) (at : ℕ) → length l < at + length bs → (at ≡ putEnd l at bs) × (l ≡ putAt l at bs)
 unfolding putAt putEnd
-put-short l bs at h e = simp (lt-leb (at + length bs) (length l) h) (refl, e)
+put-short l bs at h = simp (lt-leb (at + length bs) (length l) h) (refl, refl)
 
 -- there is
-pub put-there : {l l′ bs : List ℕ} {at r : ℕ} → at + length bs ≤ length l → WhereFits l at bs l′ r → (r ≡ putEnd l at bs) × (l′ ≡ putAt l at bs)
+put-there : {l l′ bs : List ℕ} {at r : ℕ} → at + length bs ≤ length l → Placed l at bs l′ r → (r ≡ putEnd l at bs) × (l′ ≡ putAt l at bs)
 unfolding putAt putEnd
-put-there {l} {l′} {bs} {at} {r} room w = let p = w .placed room in simp (le-leb (at + length bs) (length l) room) (p .ends, p .holds)
+put-there {l} {l′} {bs} {at} {r} room p = simp (le-leb (at + length bs) (length l) room) (p .ends, p .holds)
+
+pub byte-put : (l : List ℕ) (at b : ℕ) → at < length l → (at + 1 ≡ putEnd l at (b ∷ [])) × (set l at b ≡ putAt l at (b ∷ []))
+unfolding written
+byte-put l at b h = put-there (omega arith) (record { holds = refl; ends = refl })
 
 -- ---- what a writer leaves and answers
 
@@ -124,10 +130,7 @@ fromOn l at = midOf at (length l - at) l
 abbrev pub putBack : List ℕ → ℕ → List ℕ → List ℕ
 putBack l at part = putMid at (length l - at) l part
 
--- no place is left
-pub past-end : {l bs l′ : List ℕ} {at next : ℕ} → length l < at → WhereFits l at bs l′ next
-past-end {l} {bs} {l′} {at} {next} h = record { placed = λ room. absurd (omega arith) }
-
+-- bytes that a writer was lent such a part for
 module _ (l bs : List ℕ) (at : ℕ) (inside : at ≤ length l) (r : Wrote) (told : r ≡ answerOf (fromOn l at) (bytes bs)) where
   part-is : fromOn l at ≡ drop at l
   part-is = take-all (length l - at) (drop at l) (rw length-drop (omega arith))
@@ -135,68 +138,43 @@ module _ (l bs : List ℕ) (at : ℕ) (inside : at ≤ length l) (r : Wrote) (to
   part-length : length (fromOn l at) ≡ length l - at
   part-length = rw part-is (length-drop at l)
 
-  -- the writer answered 13: they don't fit
-  pub lent-refused : {l′ : List ℕ} {next : ℕ} → (r .refusal ≡ 0 → ⊥) → WhereFits l at bs l′ next
-  unfolding answerOf
-  lent-refused {l′} {next} full =
-      record {
-        placed = λ room.
-            let size = part-length in
-            let fits : length bs ≤ length (fromOn l at) = omega arith in
-            absurd (full (ap (λ (y : Wrote). y .refusal) told ∙ rw (le-leb (length bs) (length (fromOn l at)) fits)));
-      }
-
-  -- so there is no room
-  pub lent-short : (r .refusal ≡ 0 → ⊥) → length l < at + length bs
-  unfolding answerOf
-  lent-short full =
-      split (length bs) (length (fromOn l at))
-      (λ h. absurd (full (ap (λ (y : Wrote). y .refusal) told ∙ rw (le-leb (length bs) (length (fromOn l at)) h))))
-      (λ h. omega (arith, part-length))
-
-  -- and the whole is as it was
-  pub lent-still : {part : List ℕ} → (r .refusal ≡ 0 → ⊥) → part ≡ outputOf (fromOn l at) (bytes bs) → putBack l at part ≡ l
-  unfolding outputOf
-  lent-still {part} full is =
-      let over : length (fromOn l at) < length bs = omega (arith, lent-short full, part-length) in
-      let same : part ≡ drop at l = is ∙ rw (lt-leb (length bs) (length (fromOn l at)) over) part-is in
+  back-is : (part : List ℕ) → putBack l at part ≡ take at l ++ part
+  back-is part =
       let rest : drop (length l - at) (drop at l) ≡ [] = drop-of-length-le (drop at l) {i = length l - at} (rw length-drop (omega arith)) in
-      ap (λ (p : List ℕ). take at l ++ (p ++ drop (length l - at) (drop at l))) same ∙ rw rest (simp append-nil (take-append-drop at l))
+      rw rest (simp append-nil)
 
-  module _ (done : r .refusal ≡ 0) where
-    fits : length bs ≤ length (fromOn l at)
-    unfolding answerOf
-    fits =
-        split (length bs) (length (fromOn l at)) (λ h. h)
-        (λ h.
-        let full : r .refusal ≡ 13 = ap (λ (y : Wrote). y .refusal) told ∙ rw (lt-leb (length bs) (length (fromOn l at)) h) in
-        absurd (omega arith))
+  wrote-all : length bs ≤ length (fromOn l at) → r ≡ record { refusal = 0; len = length bs }
+  unfolding answerOf
+  wrote-all fits = told ∙ rw (le-leb (length bs) (length (fromOn l at)) fits)
 
-    len-is : r .len ≡ length bs
-    unfolding answerOf
-    len-is = ap (λ (y : Wrote). y .len) told ∙ rw (le-leb (length bs) (length (fromOn l at)) fits)
+  wrote-none : length (fromOn l at) < length bs → r ≡ record { refusal = number noRoom; len = length bs }
+  unfolding answerOf
+  wrote-none over = told ∙ rw (lt-leb (length bs) (length (fromOn l at)) over)
 
-    pub lent-room : at + length bs ≤ length l
-    lent-room = omega (arith, fits, part-length)
+  -- the place behind what it wrote is within the output
+  pub lent-ends : r .refusal ≡ 0 → at + r .len ≤ length l
+  lent-ends done =
+      split (length bs) (length (fromOn l at))
+      (λ fits. let size : r .len ≡ length bs = ap (λ (y : Wrote). y .len) (wrote-all fits) in omega (arith, part-length))
+      (λ over. let full : r .refusal ≡ 13 = ap (λ (y : Wrote). y .refusal) (wrote-none over) in absurd (omega arith))
 
-    -- it wrote them: they stand in the whole, and the place after them is within it
-    pub lent-ends : at + r .len ≤ length l
-    lent-ends = omega (arith, len-is, fits, part-length)
-
-    pub lent-placed : {part : List ℕ} → part ≡ outputOf (fromOn l at) (bytes bs) → WhereFits l at bs (putBack l at part) (at + r .len)
-    unfolding outputOf
-    lent-placed {part} is =
-        let size = part-length in
-        let whole = fits in
-        let rest : drop (length l - at) (drop at l) ≡ [] = drop-of-length-le (drop at l) {i = length l - at} (rw length-drop (omega arith)) in
-        let now : part ≡ bs ++ drop (length bs) (drop at l) = is ∙ rw (le-leb (length bs) (length (fromOn l at)) whole, part-is) in
-        let after : drop (length bs) (drop at l) ≡ drop (at + length bs) l = drop-drop (length bs) at l in
-        record {
-          placed = λ room.
-              record {
-                holds =
-                    ap (λ (p : List ℕ). take at l ++ (p ++ drop (length l - at) (drop at l))) now
-                    ∙ rw (rest, after) (simp append-nil (sym (written-is l at bs room ∙ append-assoc (take at l) bs (drop (at + length bs) l))));
-                ends = rw len-is;
-              };
-        }
+  -- they are put there
+  pub lent-put : {part : List ℕ} {next : ℕ} → next ≡ pick (eqb (r .refusal) 0) (at + r .len) at → part ≡ outputOf (fromOn l at) (bytes bs)
+      → (next ≡ putEnd l at bs) × (putBack l at part ≡ putAt l at bs)
+  unfolding outputOf
+  lent-put {part} {next} moved is =
+      split (length bs) (length (fromOn l at))
+      (λ fits.
+      let room : at + length bs ≤ length l = omega (arith, part-length) in
+      let now : part ≡ bs ++ drop (at + length bs) l = is ∙ rw (le-leb (length bs) (length (fromOn l at)) fits, part-is, drop-drop (length bs) at l) in
+      put-there room
+      (record {
+        holds = back-is part ∙ rw now (sym (written-is l at bs room ∙ append-assoc (take at l) bs (drop (at + length bs) l)));
+        ends = moved ∙ ap (λ (y : Wrote). pick (eqb (y .refusal) 0) (at + y .len) at) (wrote-all fits);
+      }))
+      (λ over.
+      let short = put-short l bs at (omega (arith, part-length)) in
+      let still : part ≡ drop at l = is ∙ rw (lt-leb (length bs) (length (fromOn l at)) over) part-is in (
+        moved ∙ ap (λ (y : Wrote). pick (eqb (y .refusal) 0) (at + y .len) at) (wrote-none over) ∙ short .0,
+        back-is part ∙ rw still (take-append-drop at l) ∙ short .1,
+      ))

@@ -4,7 +4,7 @@ use crate::refusal::NO_ROOM;
 ghost use mathlib.Core.Path.{_≡_};
 ghost use Prim.Native.Nat.{_-_, _≤_};
 ghost use lib.ListN.{length};
-ghost use Rattle.misc.specs.Output.{bytes, outputOf, answerOf, written, putAt, putEnd};
+ghost use Rattle.misc.specs.Output.{bytes, outputOf, answerOf, written};
 
 // How many bytes stand from `at` on: none where that is past the end.
 pub fn left_at(s: &[u8], at: usize) -> usize
@@ -41,20 +41,4 @@ pub fn write_bytes(source: &[u8], out: &mut [u8]) -> Wrote
     }
     copy(source, out);
     Wrote { refusal: 0, len }
-}
-
-// Puts all of `source` at a place of the output, if there is room, and returns the place behind it.
-pub fn put_bytes(source: &[u8], out: &mut [u8], at: usize) -> usize
-    ensures { λ r. ⌜ r ≡ putEnd (now (out .entry)) at (now (source .entry)) ⌝ }
-    ensures { λ _. ⌜ now (out .exit) ≡ putAt (now (out .entry)) at (now (source .entry)) ⌝ }
-{
-    if out.len() < at {
-        return at;
-    }
-    let wrote = write_bytes(source, &mut out[at..]);
-    let refusal = wrote.refusal;
-    if refusal != 0 {
-        return at;
-    }
-    at + wrote.len
 }

@@ -1,6 +1,7 @@
 // Integers of the MySQL wire formats: fixed little-endian, variable-length (the server's serialization library) and
 // length-encoded (the protocol). Readers take a slice and a place, wherever that is; writers write at the front of the output
-// that they are lent. Every answer begins with the number of its refusal, 0 for none.
+// that they are lent, those of `put` at a place of it. Every answer of a reader or a writer at the front begins with the number
+// of its refusal, 0 for none.
 ghost use mathlib.Core.Path.{_≡_};
 ghost use Rattle.misc.specs.Parse.{refusedUint};
 
@@ -8,6 +9,7 @@ pub mod bytes;
 pub mod le;
 pub mod lenenc;
 pub mod mark;
+pub mod put;
 pub mod refusal;
 pub mod signed;
 pub mod varlen;

@@ -18,7 +18,7 @@ use Rattle.misc.proofs.Walk.{ahead, many-none, many-next}
 use Rattle.packets.specs.Gno.{Interval, interval}
 use Rattle.packets.specs.Key.{Key}
 use Rattle.previous_gtids_event.specs.Entry.{Entry, entry, uuidOf, tagOf}
-use Rattle.previous_gtids_event.specs.Previous.{noneOrTag, tagAt, entryAt}
+use Rattle.previous_gtids_event.specs.Previous.{noneOrTag, GoodKey, tagAt, entryAt}
 use Rattle.previous_gtids_event.specs.Rewrite.{intervalsBytes}
 use Rattle.previous_gtids_event.proofs.Reading.{intervalOf, intervalsOf, none-or-tag-short, key-whole, tag-here, head-here, entry-here, entry-there}
 use Rattle.previous_gtids_event.proofs.Writing.{length-intervals-bytes, counted-bytes}
@@ -28,10 +28,6 @@ use Rattle.previous_gtids_event.proofs.Standing.{Here, here-part, here-
 abbrev pub GoodIntervals : List Interval → Type 0
 GoodIntervals [] = Unit {0}
 GoodIntervals (interval start end ∷ is) = (start < 2 ^ 64) × (end < 2 ^ 64) × GoodIntervals is
-
-pub record GoodKey (k : Key) : Type 0 where
-  pub uuid : length (uuidOf k) ≡ 16
-  pub rule : noneOrTag (tagOf k) ≡ true
 
 abbrev pub WellFormed : List Entry → Type 0
 WellFormed [] = Unit {0}

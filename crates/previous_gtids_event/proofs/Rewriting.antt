@@ -6,18 +6,15 @@ use Prim.Native.Nat.{ℕ, suc, _+_, _-_, _*_, _≤_, _<_}
 use native.Mathlib.Nat.{zero-add, add-zero, add-assoc}
 use native.Mathlib.Omega.{arith}
 use lib.Dec.{ltb}
-use lib.ListN.{length, drop, length-append}
-use borrow.Author.Tests.{le-leb}
+use lib.ListN.{length, length-append}
 use Rattle.misc.specs.Pick.{pick}
 use Rattle.misc.specs.Refusal.{Refusal, number, noRoom}
 use Rattle.misc.specs.Parse.{Bytes, Parse, refuse, parsed, many, part, refusalOf}
 use Rattle.misc.specs.Body.{usedOf}
-use Rattle.misc.specs.Le.{leBytes}
 use Rattle.misc.specs.Varlen.{varlenBytes}
 use Rattle.misc.specs.Output.{bytes, outputOf, answerOf, WhereFits}
 use Rattle.misc.proofs.ParseLaws.{no-zero, part-length}
-use Rattle.misc.proofs.LeLaws.{length-leBytes}
-use Rattle.misc.proofs.OutputLaws.{written-is, _also_, nothing-placed, output-fits, output-short, output-refused}
+use Rattle.misc.proofs.OutputLaws.{_also_, nothing-placed, output-fits, output-short, output-refused}
 use Rattle.misc.proofs.Walk.{ahead, many-none, many-next, Whole, whole-turn}
 use Rattle.packets.specs.Gno.{Interval}
 use Rattle.packets.specs.Key.{Key}
@@ -219,19 +216,9 @@ module _ (p : Parse (List Entry)) (z : Sizes) (is : z ≡ sizesOf p) (out : List
       rewrite-short h = rw body-is (output-short out _ len (size ∙ sym body-size) h)
 
       -- the header stands at the front, and the entries behind it
-      pub rewrite-whole : len ≤ length out → (h : ℕ) → leBytes 8 h ≡ headerBytes (z .tagged) (z .entries)
-          → (out₁ out₂ : List ℕ) (end : ℕ) → out₁ ≡ outputOf out (bytes (leBytes 8 h))
-          → WhereFits out₁ 8 (entriesBytesOf (z .tagged) p) out₂ end
+      pub rewrite-whole : {out₁ out₂ : List ℕ} {first end : ℕ} → len ≤ length out → WhereFits out 0 (headerBytes (z .tagged) (z .entries)) out₁ first
+          → WhereFits out₁ first (entriesBytesOf (z .tagged) p) out₂ end
           → (record { refusal = 0; len = end } ≡ answerOf out (rewritten p)) × (out₂ ≡ outputOf out (rewritten p))
-      unfolding outputOf
-      rewrite-whole room h is-header out₁ out₂ end front run =
-          let header = headerBytes (z .tagged) (z .entries) in
-          let eight : length (leBytes 8 h) ≡ 8 = length-leBytes 8 h in
-          let fits : length (leBytes 8 h) ≤ length out = omega arith in
-          let first : out₁ ≡ leBytes 8 h ++ drop (length (leBytes 8 h)) out = front ∙ rw (le-leb (length (leBytes 8 h)) (length out) fits) in
-          let placed : WhereFits out 0 (leBytes 8 h) out₁ 8 =
-          record { placed = λ r. record { holds = first ∙ sym (written-is out 0 (leBytes 8 h) r ∙ rw zero-add); ends = sym (zero-add (length (leBytes 8 h)) ∙ eight) } } in
-          let both : WhereFits out 0 (header ++ entriesBytesOf (z .tagged) p) out₂ end =
-          subst (λ (bs : List ℕ). WhereFits out 0 (bs ++ entriesBytesOf (z .tagged) p) out₂ end) is-header (placed also run) in
-          let all : length (header ++ entriesBytesOf (z .tagged) p) ≤ length out = omega (arith, body-size) in
-          rw body-is (output-fits all (both .placed (omega arith)))
+      rewrite-whole room front run =
+          let all : length (headerBytes (z .tagged) (z .entries) ++ entriesBytesOf (z .tagged) p) ≤ length out = omega (arith, body-size) in
+          rw body-is (output-fits all ((front also run) .placed (omega arith)))

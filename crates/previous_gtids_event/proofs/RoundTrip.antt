@@ -23,7 +23,7 @@ use Rattle.previous_gtids_event.specs.Entry.{Entry, entry, uuidOf, tagOf
 use Rattle.previous_gtids_event.specs.Previous.{entryAt, saysTagged, saysCount, entriesAfter, entriesIn, previous}
 use Rattle.previous_gtids_event.specs.Rewrite.{tagBytes, intervalsBytes, entryBytes, entriesBytes, anyTag, headerBytes, bodyBytes, rewritten}
 use Rattle.previous_gtids_event.proofs.Reading.{none-or-tag-short, previous-parts, previous-inside}
-use Rattle.previous_gtids_event.proofs.Writing.{header-plain, header-tagged, length-header, entry-length}
+use Rattle.previous_gtids_event.proofs.Writing.{headerNumber, header-number, length-header, entry-length}
 use Rattle.previous_gtids_event.proofs.Standing.{Here, here-part, here-first, here-rest, here-both, le-stands, length-item}
 use Rattle.previous_gtids_event.proofs.Laying.{WellFormed, TagLaid, untagged, sized, Laid, nothing, followed, entries-stand, entries-accepted}
 
@@ -76,14 +76,6 @@ module _ (s : List ℕ) (es : List Entry) (used : ℕ) where
       )
 
 -- ---- the bytes that a rewrite gives are a body so laid out
-abbrev headerNumber : Bool → ℕ → ℕ
-headerNumber false n = n
-headerNumber true n = 2 ^ 56 + n * 256 + 1
-
-header-is : (t : Bool) (n : ℕ) → n < 2 ^ 48 → headerBytes t n ≡ leBytes 8 (headerNumber t n)
-header-is false n h = sym (header-plain n)
-header-is true n h = sym (header-tagged n h)
-
 header-says : (t : Bool) (n : ℕ) → n < 2 ^ 48 → (headerNumber t n < 2 ^ 64) × (saysTagged (headerNumber t n) ≡ t) × (saysCount (headerNumber t n) ≡ n)
 unfolding saysTagged saysCount
 header-says false n h =
@@ -133,7 +125,7 @@ module _ (es : List Entry) (good : WellFormed es) where
       let list = entriesBytes t es in
       let size = length-append (headerBytes t n) list in
       let few : n < 2 ^ 48 = omega (arith, entries-take t es good) in
-      let whole : headerBytes t n ++ list ≡ leBytes 8 (headerNumber t n) ++ list = ap (λ (x : List ℕ). x ++ list) (header-is t n few) in
+      let whole : headerBytes t n ++ list ≡ leBytes 8 (headerNumber t n) ++ list = ap (λ (x : List ℕ). x ++ list) (header-number t n few) in
       let (below, tagged, count) = header-says t n few in
       let stands : Here (headerBytes t n ++ list ++ rest) 0 (headerBytes t n ++ list) =
       record { is = take-append-seam (headerBytes t n ++ list) rest; room = omega (arith, length-append (headerBytes t n ++ list) rest) } in

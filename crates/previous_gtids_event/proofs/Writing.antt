@@ -4,6 +4,7 @@ use mathlib.Core.Path.{_≡_, refl, sym, ap, _∙_}
 use mathlib.Core.Bool.{Bool, true, false}
 use mathlib.Core.List.{List, [], _∷_, _++_}
 use Prim.Native.Nat.{ℕ, zero, suc, _+_, _-_, _*_, _/_, _%_, _^_, _≤_, _<_}
+use native.Mathlib.Nat.{mul-left-comm, pow-succ', div-add-mod'}
 use native.Mathlib.Omega.{arith}
 use lib.ListN.{length, drop, length-append}
 use lib.Seq.{take-add, drop-drop}
@@ -36,23 +37,46 @@ length-header false n = length-leBytes 8 n
 length-header true n = rw (length-append, length-leBytes 6 n)
 
 -- ---- the header as a number
-pub header-plain : (n : ℕ) → leBytes 8 n ≡ headerBytes false n
-unfolding headerBytes
-header-plain n = refl
+abbrev pub headerNumber : Bool → ℕ → ℕ
+headerNumber false n = n
+headerNumber true n = 2 ^ 56 + n * 256 + 1
 
-pub header-tagged : (n : ℕ) → n < 2 ^ 48 → leBytes 8 (2 ^ 56 + n * 256 + 1) ≡ headerBytes true n
+one-above : (w n : ℕ) → n < 256 ^ w → leBytes (suc w) (256 ^ w + n) ≡ leBytes w n ++ (1 ∷ [])
+unfolding leBytes
+one-above zero n h = let none : n ≡ 0 = omega arith in rw none
+one-above (suc w) n h =
+    let low : (256 ^ suc w + n) % 256 ≡ n % 256 = omega arith in
+    let rest : (256 ^ suc w + n) / 256 ≡ 256 ^ w + n / 256 = omega arith in
+    rw (low, rest) (ap (λ (bs : List ℕ). n % 256 ∷ bs) (one-above w (n / 256) (omega arith)))
+
+pub header-number : (t : Bool) (n : ℕ) → n < 2 ^ 48 → headerBytes t n ≡ leBytes 8 (headerNumber t n)
 unfolding headerBytes leBytes
-header-tagged n h =
+header-number false n h = refl
+header-number true n h =
     let low : (2 ^ 56 + n * 256 + 1) % 256 ≡ 1 = omega arith in
     let rest : (2 ^ 56 + n * 256 + 1) / 256 ≡ 2 ^ 48 + n = omega arith in
-    rw (low, rest) (ap (λ (bs : List ℕ). 1 ∷ bs) (top 6 n h))
-  where
-    top : (w n : ℕ) → n < 256 ^ w → leBytes (suc w) (256 ^ w + n) ≡ leBytes w n ++ (1 ∷ [])
-    top zero n h = let none : n ≡ 0 = omega arith in rw none
-    top (suc w) n h =
-        let low : (256 ^ suc w + n) % 256 ≡ n % 256 = omega arith in
-        let rest : (256 ^ suc w + n) / 256 ≡ 256 ^ w + n / 256 = omega arith in
-        rw (low, rest) (ap (λ (bs : List ℕ). n % 256 ∷ bs) (top w (n / 256) (omega arith)))
+    sym (rw (low, rest) (ap (λ (bs : List ℕ). 1 ∷ bs) (one-above 6 n h)))
+
+-- what stands above the bytes of a width is left out
+low-bytes : (w k n : ℕ) → leBytes w (k * 256 ^ w + n) ≡ leBytes w n
+unfolding leBytes
+low-bytes zero k n = refl
+low-bytes (suc w) k n =
+    let above : k * 256 ^ suc w ≡ 256 * (k * 256 ^ w) = rw pow-succ' (mul-left-comm k 256 (256 ^ w)) in
+    let low : (k * 256 ^ suc w + n) % 256 ≡ n % 256 = omega arith in
+    let rest : (k * 256 ^ suc w + n) / 256 ≡ k * 256 ^ w + n / 256 = omega arith in
+    rw (low, rest) (ap (λ (bs : List ℕ). n % 256 ∷ bs) (low-bytes w k (n / 256)))
+
+-- the header of any count
+pub header-tagged : (t : Bool) (n : ℕ) → t ≡ true → leBytes 8 (headerNumber true (n % 2 ^ 48)) ≡ headerBytes t n
+unfolding headerBytes
+header-tagged t n e =
+    let six : leBytes 6 (n % 2 ^ 48) ≡ leBytes 6 n = sym (low-bytes 6 (n / 2 ^ 48) (n % 2 ^ 48)) ∙ ap (leBytes 6) (div-add-mod' n (2 ^ 48)) in
+    sym (header-number true (n % 2 ^ 48) (omega arith)) ∙ rw (e, six)
+
+pub header-plain : (t : Bool) (n : ℕ) → t ≡ false → leBytes 8 n ≡ headerBytes t n
+unfolding headerBytes
+header-plain t n e = rw e
 
 -- ---- what was read is written as it stood
 pub part-join : (s : List ℕ) (at a b : ℕ) → part s at a ++ part s (at + a) b ≡ part s at (a + b)

@@ -30,7 +30,7 @@ ghost use Rattle.previous_gtids_event.specs.Answers.{previousRead, refus
 ghost use Rattle.previous_gtids_event.specs.Inside.{tagRead, refusedTag, headRead, refusedHead, entryPlace, refusedPlace};
 
 // No tag, or one that obeys the tag rule.
-fn none_or_tag(tag: &[u8]) -> bool
+pub fn none_or_tag(tag: &[u8]) -> bool
     ensures { λ r. ⌜ r ≡ noneOrTag (now (tag .entry)) ⌝ }
 {
     (tag.len() == 0) | is_tag(tag)

@@ -1,24 +1,23 @@
 // Writing the entries of a body anew: tagged only if one of them has a tag, and every length in its shortest form.
+use crate::COUNT_TOP;
 use crate::Put;
 use crate::Sizes;
 use crate::TOP_ONE;
 use crate::read::header_of;
 use crate::read::place_at;
 use misc::Wrote;
-use misc::bytes::write_bytes;
-use misc::le::write_u64_le;
+use misc::put::put_bytes;
+use misc::put::put_u64_le;
+use misc::put::put_varlen_uint;
 use misc::refusal::NO_ROOM;
 use misc::varlen::varlen_uint_size;
-use misc::varlen::write_varlen_uint;
 ghost use mathlib.Core.Path.{_≡_};
-ghost use Prim.Native.Nat.{_+_, _^_, _≤_, _<_};
+ghost use Prim.Native.Nat.{_+_, _≤_};
 ghost use lib.ListN.{length};
 ghost use Rattle.misc.specs.Pick.{pick};
 ghost use Rattle.misc.specs.Parse.{many, refusalOf};
 ghost use Rattle.misc.specs.Body.{usedOf};
-ghost use Rattle.misc.specs.Le.{leBytes};
-ghost use Rattle.misc.specs.Varlen.{varlenBytes};
-ghost use Rattle.misc.specs.Output.{outputOf, answerOf, WhereFits};
+ghost use Rattle.misc.specs.Output.{outputOf, answerOf, putAt, putEnd, WhereFits};
 ghost use Rattle.previous_gtids_event.specs.Previous.{entryAt, previous};
 ghost use Rattle.previous_gtids_event.specs.Rewrite.{tagBytes, headerBytes, rewritten};
 ghost use Rattle.previous_gtids_event.specs.Inside.{sizesOf, refusedSizes, entryBytesOf, entriesBytesOf};
@@ -70,40 +69,13 @@ fn sizes_at(body: &[u8], from: usize, tagged: bool, count: u64) -> Sizes
 }
 
 // The `put` functions write from a place of the output on where there is room, and return the place behind what they wrote.
-fn put_bytes(source: &[u8], out: &mut [u8], at: usize) -> usize
-    ensures { λ r. ⌜ WhereFits (now (out .entry)) at (now (source .entry)) (now (out .exit)) r ⌝ }
-{
-    if out.len() < at {
-        return at;
-    }
-    let wrote = write_bytes(source, &mut out[at..]);
-    let refusal = wrote.refusal;
-    if refusal != 0 {
-        return at;
-    }
-    at + wrote.len
-}
-
-fn put_varlen(value: u64, out: &mut [u8], at: usize) -> usize
-    ensures { λ r. ⌜ WhereFits (now (out .entry)) at (varlenBytes value) (now (out .exit)) r ⌝ }
-{
-    if out.len() < at {
-        return at;
-    }
-    let wrote = write_varlen_uint(value, &mut out[at..]);
-    let refusal = wrote.refusal;
-    if refusal != 0 {
-        return at;
-    }
-    at + wrote.len
-}
 
 // A tag with its length, where tags are wanted.
 fn put_tag(tag: &[u8], tags: bool, out: &mut [u8], at: usize) -> usize
     ensures { λ r. ⌜ WhereFits (now (out .entry)) at (tagBytes tags (now (tag .entry))) (now (out .exit)) r ⌝ }
 {
     if tags {
-        let from = put_varlen(tag.len() as u64, out, at);
+        let from = put_varlen_uint(tag.len() as u64, out, at);
         return put_bytes(tag, out, from);
     }
     at
@@ -152,15 +124,15 @@ fn put_entries(
     put
 }
 
-// The header as a number: where tags follow, its top and its bottom byte are 1, and the count stands between.
-fn header_number(count: u64, tags: bool) -> u64
-    requires { ⌜ count < 2 ^ 48 ⌝ }
-    ensures { λ r. ⌜ leBytes 8 r ≡ headerBytes tags count ⌝ }
+// The header at a place: the count, and where tags follow 1 in the bytes below and above the six of the count.
+pub fn put_header(count: u64, tagged: bool, out: &mut [u8], at: usize) -> usize
+    ensures { λ r. ⌜ r ≡ putEnd (now (out .entry)) at (headerBytes tagged count) ⌝ }
+    ensures { λ _. ⌜ now (out .exit) ≡ putAt (now (out .entry)) at (headerBytes tagged count) ⌝ }
 {
-    if tags {
-        return TOP_ONE + count * 256 + 1;
+    if tagged {
+        return put_u64_le(TOP_ONE + (count % COUNT_TOP) * 256 + 1, out, at);
     }
-    count
+    put_u64_le(count, out, at)
 }
 
 // The length of a body whose entries have these sizes.
@@ -192,8 +164,8 @@ fn rewrite_entries(body: &[u8], tagged: bool, count: u64, out: &mut [u8]) -> Wro
             len,
         };
     }
-    write_u64_le(header_number(sizes.entries, tags), out);
-    let end = put_entries(body, 8, tagged, count, tags, out, 8);
+    let first = put_header(sizes.entries, tags, out, 0);
+    let end = put_entries(body, 8, tagged, count, tags, out, first);
     Wrote {
         refusal: 0,
         len: end,

@@ -19,14 +19,12 @@ use Rattle.packets.specs.Kept.{padded}
 use Rattle.packets.specs.Key.{Key}
 use Rattle.packets.proofs.Tests.{split}
 use Rattle.previous_gtids_event.specs.Entry.{Entry, entry, uuidOf, tagOf}
-use Rattle.previous_gtids_event.specs.Previous.{entryAt, previous}
+use Rattle.previous_gtids_event.specs.Previous.{GoodKey, entryAt, previous}
 use Rattle.previous_gtids_event.specs.Answers.{headerRead, entryRead}
 use Rattle.previous_gtids_event.specs.declared.HeaderRead.{HeaderRead}
 use Rattle.previous_gtids_event.specs.declared.EntryRead.{EntryRead}
 use Rattle.previous_gtids_event.proofs.Reading.{intervalOf, intervalsOf, key-whole, entry-there, headless, headed}
 use Rattle.gtid_sets.specs.TakeIn.{proper}
-use Rattle.gtid_sets.specs.Lent.{GoodKey}
-use Rattle.gtid_sets.proofs.KeyLaws.{good-key}
 use Rattle.set_check.specs.Places.{intervalsAt}
 use Rattle.set_check.proofs.PlaceLaws.{number-here}
 use Rattle.resume_set.specs.Find.{entriesOf}
@@ -66,7 +64,7 @@ entry-read tagged body at k is next small p e told =
     let short : take (length (tagOf k)) (padded 32 (tagOf k)) ≡ tagOf k = take-at (tagOf k) _ (length (tagOf k)) refl in
     rw (told ∙ ap entryRead (body-fits body (entryAt tagged body at) small ∙ p)) (record {
       key = rw short (sym (key-whole k));
-      good = rw (← key-whole k) at (good-key (uuidOf k) (tagOf k) uuid (tag .rule));
+      good = record { uuid = uuid; rule = tag .rule };
       list = list;
       count = refl;
       end = omega (arith, there .end);

@@ -18,14 +18,15 @@ use Rattle.packets.specs.declared.KeyOrder.the-variants.{Before, Same, After}
 use Rattle.packets.proofs.Tests.{clash}
 use Rattle.packets.proofs.Keys.{flip, order-eq, order-flip, order-append, after-not-same}
 use Rattle.previous_gtids_event.specs.Entry.{Entry, entry, uuidOf, tagOf}
+use Rattle.previous_gtids_event.specs.Previous.{GoodKey}
 use Rattle.previous_gtids_event.specs.Rewrite.{intervalsBytes, tagBytes, entriesBytes, anyTag, headerBytes, bodyBytes}
 use Rattle.gtid_sets.specs.Interval.{insert}
 use Rattle.gtid_sets.specs.Set.{has, join, SetForm}
 use Rattle.gtid_sets.specs.Limits.{intervals}
-use Rattle.gtid_sets.specs.Lent.{GoodKey, GoodKeys}
+use Rattle.gtid_sets.specs.Lent.{GoodKeys}
 use Rattle.gtid_sets.proofs.Bools.{or-false-parts}
 use Rattle.gtid_sets.proofs.SetLaws.{join-before, join-into, join-after, above-misses, entry-has}
-use Rattle.previous_gtids_event.proofs.Reading.{none-or-tag-short}
+use Rattle.previous_gtids_event.proofs.Reading.{none-or-tag-short, key-whole}
 use Rattle.previous_gtids_event.proofs.Writing.{length-header, length-intervals-bytes}
 use Rattle.gtid_sets.proofs.ByteLaws.{entries-least, entriesBytes-append}
 use Rattle.gtid_sets.proofs.LentLaws.{gapped-wide}
@@ -33,7 +34,6 @@ use Rattle.set_check.specs.Places.{numberAt, intervalsAt}
 use Rattle.set_check.specs.Head.{headBytes, KeyOk}
 use Rattle.set_check.proofs.PlaceLaws.{part-there, after-there, left-there, byte-there, number-there, intervals-there, one-byte}
 use Rattle.set_check.proofs.OrderLaws.{says-before, says-same, says-after}
-use Rattle.set_check.proofs.HeadLaws.{uuid-length, key-made}
 use Rattle.set_check.proofs.RestLaws.{entries-head}
 use Rattle.resume_set.specs.Find.{setOf, IsSet, placeFrom, placeAt, FoundIs}
 use Rattle.resume_set.specs.declared.EntryPlace.{EntryPlace}
@@ -78,7 +78,7 @@ module _ (bs : List ℕ) (at : ℕ) (k : Key) (is : List Interval) (rest : List 
   entry-here w ok e = go w ok (part-there bs at 16 (uuidOf k) _ e long) (after-there bs at 16 (uuidOf k) _ e long)
     where
       long : length (uuidOf k) ≡ 16
-      long = uuid-length k (ok .good .whole)
+      long = ok .good .uuid
 
       none : (t : List ℕ) → length t ≡ 0 → counted ≡ t ++ counted
       none [] h = refl
@@ -288,7 +288,7 @@ module _ (bs : List ℕ) (w : Bool) (k : Key) (s : List Entry) (done at : ℕ) w
             is
             ∙ ap orderRead (sym (order-append (part bs at 16) u (part bs (p .«tag_at») (p .«tag_len»)) t
             (part-length 16 bs at (omega (arith, stands .place, stands .first-is, stands .next-is, stands .inside)) ∙ sym long)))
-            ∙ rw (made, stands .uuid-there, stands .tag-there, ← key-made (x .key))
+            ∙ rw (made, stands .uuid-there, stands .tag-there, ← key-whole (x .key))
             )
 
         -- the entry is before the key

@@ -19,7 +19,7 @@ use Rattle.packets.specs.Key.{Key}
 use Rattle.packets.proofs.GnoLaws.{interval-says}
 use Rattle.packets.proofs.Tests.{and-true}
 use Rattle.previous_gtids_event.specs.Entry.{Entry}
-use Rattle.previous_gtids_event.specs.Previous.{noneOrTag, entryAt, previous}
+use Rattle.previous_gtids_event.specs.Previous.{noneOrTag, GoodKey, entryAt, previous}
 use Rattle.previous_gtids_event.specs.Answers.{entryRead, headerRead}
 use Rattle.previous_gtids_event.specs.Rewrite.{anyTag, bodyBytes}
 use Rattle.previous_gtids_event.specs.declared.EntryRead.{EntryRead}
@@ -28,7 +28,7 @@ use Rattle.previous_gtids_event.proofs.Reading.{previous-parts}
 use Rattle.gtid_sets.specs.Set.{SetForm, join}
 use Rattle.gtid_sets.specs.Limits.{intervals}
 use Rattle.gtid_sets.specs.TakeIn.{proper, lawful, joinAll, union, takeIn}
-use Rattle.gtid_sets.specs.Lent.{GoodKey, GoodKeys}
+use Rattle.gtid_sets.specs.Lent.{GoodKeys}
 use Rattle.gtid_sets.proofs.FormLaws.{proper-holds}
 use Rattle.gtid_sets.proofs.KeyLaws.{good-key}
 use Rattle.gtid_sets.proofs.SetLaws.{form-join}

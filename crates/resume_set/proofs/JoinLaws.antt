@@ -32,7 +32,6 @@ use Rattle.gtid_sets.proofs.ByteLaws.{body-least, intervalsBytes-append, entrie
 use Rattle.set_check.specs.Places.{numberAt, intervalsAt}
 use Rattle.set_check.specs.Head.{headBytes}
 use Rattle.set_check.proofs.PlaceLaws.{Bytes, part-there, after-there, number-there, intervals-count, intervals-stand, one-byte}
-use Rattle.set_check.proofs.HeadLaws.{uuid-length}
 use Rattle.set_check.proofs.RestLaws.{entries-head}
 use Rattle.resume_set.specs.Find.{setOf, IsSet, added, old, FoundIs}
 use Rattle.resume_set.specs.Put.{widerRun, widened, Untagged, entriesRun, EntriesThere}
@@ -131,7 +130,7 @@ widened-is bs from (entry k is ∷ es) r e t h l =
     let c : ℕ = length is in
     let (p, q) = or-false-parts (ltb 0 (length (tagOf k))) (anyTag es) t in
     let none : tagOf k ≡ [] = no-bytes (tagOf k) (omega (arith, ltb-false 0 (length (tagOf k)) p)) in
-    let ul : length (uuidOf k) ≡ 16 = uuid-length k (h .0 .whole) in
+    let ul : length (uuidOf k) ≡ 16 = h .0 .uuid in
     let rest : List ℕ = entriesBytes false es ++ r in
     let run : List ℕ = leBytes 8 c ++ intervalsBytes is in
     let rl : length run ≡ 8 + 16 * c = length-append (leBytes 8 c) (intervalsBytes is) ∙ omega (arith, length-leBytes 8 c, length-intervals-bytes is) in

@@ -1,17 +1,15 @@
 -- Laws of runs that are written one after another.
-use Prim.Native.Nat.{ℕ, suc, _+_, _-_, _*_, _^_, _<_, _≤_}
-use mathlib.Core.Path.{_≡_, sym}
+use Prim.Native.Nat.{ℕ, suc, _+_, _-_, _*_, _≤_}
+use mathlib.Core.Path.{_≡_}
 use mathlib.Core.Bool.{Bool, true, false}
 use mathlib.Core.List.{List, [], _++_}
 use lib.ListN.{length}
 use Rattle.misc.specs.Parse.{part}
-use Rattle.misc.specs.Le.{leBytes}
 use Rattle.misc.specs.Varlen.{varlenBytes}
 use Rattle.misc.specs.Output.{WhereFits}
 use Rattle.misc.proofs.OutputLaws.{_also_, nothing-placed}
-use Rattle.previous_gtids_event.specs.Rewrite.{tagBytes, headerBytes}
+use Rattle.previous_gtids_event.specs.Rewrite.{tagBytes}
 use Rattle.set_check.specs.Places.{numberAt}
-use Rattle.set_check.proofs.HeaderLaws.{header-number}
 use Rattle.resume_set.specs.Put.{widerRun, widened, Untagged, entriesRun, EntriesThere}
 
 -- a part of some bytes, its length told in another way
@@ -30,18 +28,6 @@ tag-put tags t e p q = rw e (p also q)
 
 pub no-tag-put : (tags : Bool) (t l : List ℕ) (at : ℕ) → tags ≡ false → WhereFits l at (tagBytes tags t) l at
 no-tag-put tags t l at e = rw e (put-none l at)
-
--- ---- the header
-
-pub header-tagged : (tags : Bool) (n : ℕ) → tags ≡ true → n < 2 ^ 48 → leBytes 8 (2 ^ 56 + 1 + 256 * n) ≡ headerBytes tags n
-header-tagged tags n e h = rw e (sym (header-number true n h))
-
-pub header-plain : (tags : Bool) (n : ℕ) → tags ≡ false → n < 2 ^ 48 → leBytes 8 n ≡ headerBytes tags n
-header-plain tags n e h = rw e (sym (header-number false n h))
-
-pub header-put : {l l′ : List ℕ} {at r : ℕ} (w : Bool) (n v : ℕ) → leBytes 8 v ≡ headerBytes w n → WhereFits l at (leBytes 8 v) l′ r
-    → WhereFits l at (headerBytes w n) l′ r
-header-put w n v e p = rw e at p
 
 -- ---- widened entries
 

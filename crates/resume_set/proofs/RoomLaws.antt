@@ -11,6 +11,7 @@ use Rattle.packets.specs.Key.{Key}
 use Rattle.packets.proofs.Tests.{split}
 use Rattle.packets.proofs.Keys.{key-cases, same-self, before-not-same, after-not-same}
 use Rattle.previous_gtids_event.specs.Entry.{Entry, entry, tagOf}
+use Rattle.previous_gtids_event.specs.Previous.{GoodKey}
 use Rattle.previous_gtids_event.specs.Rewrite.{entryBytes, entriesBytes, anyTag, bodyBytes}
 use Rattle.previous_gtids_event.proofs.Reading.{none-or-tag-short}
 use Rattle.previous_gtids_event.proofs.RoundTrip.{plain-least}
@@ -18,10 +19,8 @@ use Rattle.previous_gtids_event.proofs.Writing.{length-header, entry-length}
 use Rattle.gtid_sets.specs.Interval.{insert}
 use Rattle.gtid_sets.specs.Set.{Above, SetForm, join}
 use Rattle.gtid_sets.specs.TakeIn.{Proper, joinAll}
-use Rattle.gtid_sets.specs.Lent.{GoodKey}
 use Rattle.gtid_sets.proofs.IntervalLaws.{insert-cases, insert-before, insert-after, insert-joined}
 use Rattle.gtid_sets.proofs.SetLaws.{join-before, join-into, join-after, above-down, form-join}
-use Rattle.gtid_sets.proofs.ByteLaws.{uuid-length}
 use Rattle.set_check.proofs.HeadLaws.{tag-bytes}
 use Rattle.resume_set.specs.TakeIn.{widest, named, enough}
 
@@ -43,7 +42,7 @@ widest-empty = refl
 entry-wide : (k : Key) (is : List Interval) → GoodKey k → length (entryBytes true (entry k is)) ≡ 25 + length (tagOf k) + 16 * length is
 entry-wide k is g =
     let short = none-or-tag-short (tagOf k) (g .rule) in
-    rw (entry-length true k is (uuid-length k g), tag-bytes (tagOf k) (omega arith)) (omega arith)
+    rw (entry-length true k is (g .uuid), tag-bytes (tagOf k) (omega arith)) (omega arith)
 
 -- ---- one interval more
 

@@ -8,7 +8,6 @@ ghost use mathlib.Core.Path.{_≡_};
 ghost use mathlib.Core.List.{_++_};
 ghost use Prim.Native.Nat.{_+_, _*_, _≤_};
 ghost use lib.ListN.{length};
-ghost use Rattle.set_check.specs.Places.{numberAt};
 ghost use Rattle.resume_set.specs.Find.{placeFrom, placeAt, setOf, IsSet, FoundIs};
 
 fn wide(b: u8) -> usize

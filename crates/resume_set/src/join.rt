@@ -4,21 +4,20 @@ use crate::find::find;
 use crate::intervals::splice_at;
 use crate::put::put_entries;
 use crate::put::put_head;
-use crate::put::put_number;
 use crate::put::put_spliced;
 use misc::Wrote;
 use misc::bytes::write_bytes;
 use misc::refusal::FULL;
 use misc::refusal::NO_ROOM;
+use previous_gtids_event::rewrite::put_header;
 use set_check::MAX_ENTRIES;
 use set_check::MAX_INTERVALS;
 ghost use mathlib.Core.Path.{_≡_};
 ghost use mathlib.Core.List.{_++_};
-ghost use Prim.Native.Nat.{_+_, _^_, _≤_, _<_};
+ghost use Prim.Native.Nat.{_+_, _≤_, _<_};
 ghost use lib.ListN.{length};
-ghost use Rattle.misc.specs.Le.{leBytes};
 ghost use Rattle.misc.specs.Output.{outputOf, answerOf, WhereFits};
-ghost use Rattle.previous_gtids_event.specs.Rewrite.{headerBytes, bodyBytes};
+ghost use Rattle.previous_gtids_event.specs.Rewrite.{bodyBytes};
 ghost use Rattle.gtid_sets.specs.Set.{join};
 ghost use Rattle.gtid_sets.specs.Limits.{intervals};
 ghost use Rattle.resume_set.specs.Answers.{saved};
@@ -74,17 +73,6 @@ pub(crate) fn plan_join(
     }
 }
 
-// The header as a number: where tags follow, its top and its bottom byte are 1, and the count stands between.
-fn header_number(count: usize, tags: bool) -> u64
-    requires { ⌜ count < 2 ^ 48 ⌝ }
-    ensures { λ r. ⌜ leBytes 8 r ≡ headerBytes tags count ⌝ }
-{
-    if tags {
-        return 0x100_0000_0000_0001 + 256 * (count as u64);
-    }
-    count as u64
-}
-
 // Writes the set as planned, where there is room.
 pub(crate) fn put_joined(set: &[u8], uuid: &[u8], tag: &[u8], plan: Plan, out: &mut [u8]) -> usize
     requires { ⌜ Runs (now set) plan ⌝ }
@@ -93,7 +81,7 @@ pub(crate) fn put_joined(set: &[u8], uuid: &[u8], tag: &[u8], plan: Plan, out: &
     let found = plan.found;
     let splice = plan.splice;
     let held = found.count - splice.taken + 1;
-    let at0 = put_number(header_number(plan.entries, plan.tags), out, 0);
+    let at0 = put_header(plan.entries as u64, plan.tags, out, 0);
     let at1 = put_entries(set, 8, found.at, found.index, plan.widen, out, at0);
     let at2 = put_head(uuid, tag, plan.tags, held, out, at1);
     let at3 = put_spliced(

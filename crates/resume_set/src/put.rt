@@ -1,68 +1,21 @@
 // Writing runs of a set's bytes. Each function writes from a place of the output on where there is room, and returns the place behind
 // what it wrote.
-use misc::bytes::write_bytes;
-use misc::le::write_u64_le;
-use misc::varlen::write_varlen_uint;
+use misc::put::put_bytes;
+use misc::put::put_u64_le;
+use misc::put::put_varlen_uint;
 use set_check::places::number_at;
-ghost use mathlib.Core.Path.{_≡_};
-ghost use mathlib.Core.List.{_++_};
 ghost use Prim.Native.Nat.{_+_, _-_, _*_, _≤_};
 ghost use lib.ListN.{length};
-ghost use Rattle.misc.specs.Le.{leBytes};
-ghost use Rattle.misc.specs.Parse.{part};
-ghost use Rattle.misc.specs.Varlen.{varlenBytes};
 ghost use Rattle.misc.specs.Output.{WhereFits};
 ghost use Rattle.previous_gtids_event.specs.Rewrite.{tagBytes};
 ghost use Rattle.resume_set.specs.Put.{headRun, splicedRun, widerRun, widened, Untagged, entriesRun, EntriesThere};
-
-fn put_bytes(source: &[u8], out: &mut [u8], at: usize) -> usize
-    ensures { λ r. ⌜ WhereFits (now (out .entry)) at (now (source .entry)) (now (out .exit)) r ⌝ }
-{
-    if out.len() < at {
-        return at;
-    }
-    let wrote = write_bytes(source, &mut out[at..]);
-    let refusal = wrote.refusal;
-    if refusal != 0 {
-        return at;
-    }
-    at + wrote.len
-}
-
-fn put_varlen(value: u64, out: &mut [u8], at: usize) -> usize
-    ensures { λ r. ⌜ WhereFits (now (out .entry)) at (varlenBytes value) (now (out .exit)) r ⌝ }
-{
-    if out.len() < at {
-        return at;
-    }
-    let wrote = write_varlen_uint(value, &mut out[at..]);
-    let refusal = wrote.refusal;
-    if refusal != 0 {
-        return at;
-    }
-    at + wrote.len
-}
-
-pub(crate) fn put_number(value: u64, out: &mut [u8], at: usize) -> usize
-    ensures { λ r. ⌜ WhereFits (now (out .entry)) at (leBytes 8 value) (now (out .exit)) r ⌝ }
-{
-    if out.len() < at {
-        return at;
-    }
-    let wrote = write_u64_le(value, &mut out[at..]);
-    let refusal = wrote.refusal;
-    if refusal != 0 {
-        return at;
-    }
-    at + wrote.len
-}
 
 // A tag with its length, where tags are wanted.
 fn put_tag(tag: &[u8], tags: bool, out: &mut [u8], at: usize) -> usize
     ensures { λ r. ⌜ WhereFits (now (out .entry)) at (tagBytes tags (now (tag .entry))) (now (out .exit)) r ⌝ }
 {
     if tags {
-        let from = put_varlen(tag.len() as u64, out, at);
+        let from = put_varlen_uint(tag.len() as u64, out, at);
         return put_bytes(tag, out, from);
     }
     at
@@ -81,7 +34,7 @@ pub(crate) fn put_head(
 {
     let named = put_bytes(uuid, out, at);
     let counted = put_tag(tag, tags, out, named);
-    put_number(count as u64, out, counted)
+    put_u64_le(count as u64, out, counted)
 }
 
 // The intervals at a place, with one in the place of those after the first `before` that it takes up.
@@ -103,8 +56,8 @@ pub(crate) fn put_spliced(
     let rest = first + 16 * (before + taken);
     let last = first + 16 * count;
     let at1 = put_bytes(&set[first..kept], out, at);
-    let at2 = put_number(start, out, at1);
-    let at3 = put_number(end, out, at2);
+    let at2 = put_u64_le(start, out, at1);
+    let at3 = put_u64_le(end, out, at2);
     put_bytes(&set[rest..last], out, at3)
 }
 
@@ -116,7 +69,7 @@ fn put_wider(set: &[u8], from: usize, count: usize, out: &mut [u8], at: usize) -
     let counted = from + 16;
     let next = from + (24 + 16 * count);
     let tagged = put_bytes(&set[from..counted], out, at);
-    let named = put_varlen(0, out, tagged);
+    let named = put_varlen_uint(0, out, tagged);
     put_bytes(&set[counted..next], out, named)
 }
 

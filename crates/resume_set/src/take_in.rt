@@ -18,7 +18,7 @@ ghost use mathlib.Core.Path.{_≡_};
 ghost use mathlib.Core.Bool.{true};
 ghost use mathlib.Core.List.{_++_};
 ghost use Prim.Native.Nat.{_+_, _-_, _*_, _/_, _≤_};
-ghost use lib.ListN.{length, take};
+ghost use lib.ListN.{length};
 ghost use Rattle.misc.specs.Parse.{refusalOf};
 ghost use Rattle.misc.specs.Output.{outputOf, answerOf};
 ghost use Rattle.packets.specs.Gno.{interval, isInterval};

@@ -30,7 +30,7 @@ use Rattle.gtid_sets.proofs.KeyLaws.{good-key}
 use Rattle.gtid_sets.proofs.LentLaws.{lent-is, lent-back}
 use Rattle.gtid_sets.proofs.RunLaws.{has-after, form-after, limits-after}
 use Rattle.gtid_sets.proofs.SavedLaws.{good-after}
-use Rattle.resume_set.specs.Answers.{says, eventOf, fitting, offeredAs, outputAs, output}
+use Rattle.resume_set.specs.Answers.{says, eventOf, fitting, offeredAs, outputAs}
 use Rattle.resume_set.specs.declared.Offered.{Offered}
 use Rattle.resume_set.specs.declared.Offered.the-variants.{NoId, AlreadyThere, Taken, Refused}
 use Rattle.resume_set_laws.specs.History.{Turn, keptAs, kept, grants, RefusalsKeep}

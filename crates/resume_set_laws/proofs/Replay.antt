@@ -9,7 +9,7 @@ use lib.Dec.{leb, eqb}
 use lib.ListN.{length}
 use borrow.Author.Tests.{le-leb}
 use Rattle.misc.specs.Refusal.{Refusal, number, full}
-use Rattle.misc.specs.Output.{bytes, outputOf}
+use Rattle.misc.specs.Output.{outputOf}
 use Rattle.previous_gtids_event.specs.Entry.{Entry}
 use Rattle.previous_gtids_event.specs.Rewrite.{bodyBytes}
 use Rattle.gtid_sets.specs.TakeIn.{takeIn}

@@ -9,7 +9,7 @@ use lib.ListN.{length, drop, length-drop}
 use lib.Seq.{drop-length, drop-at}
 use Rattle.packets.specs.Key.{Key}
 use Rattle.packets.proofs.Tests.{clash}
-use Rattle.previous_gtids_event.specs.Entry.{Entry, entry}
+use Rattle.previous_gtids_event.specs.Entry.{Entry, entry, uuidOf}
 use Rattle.previous_gtids_event.specs.Rewrite.{entriesBytes, anyTag, headerBytes, bodyBytes}
 use Rattle.gtid_sets.specs.Set.{Above}
 use Rattle.gtid_sets.specs.Limits.{maxEntries, maxIntervals, intervals}
@@ -99,8 +99,9 @@ module _ (bs : List ℕ) (w : Bool) (count at : ℕ) (low : Key) (used : ℕ) (a
 -- ---- a lent set
 
 all-above : (s : List Entry) → GoodKeys s → Above [] s
+unfolding uuidOf
 all-above [] k = tt
-all-above (entry [] is ∷ s) k = absurd (omega (arith, k .0 .whole))
+all-above (entry [] is ∷ s) k = absurd (omega (arith, k .0 .uuid))
 all-above (entry (b ∷ j) is ∷ s) k = refl
 
 -- what a lent set is, for the check

@@ -5,8 +5,8 @@ use mathlib.Core.Bool.{Bool, true, false}
 use mathlib.Core.List.{List, [], _∷_, _++_}
 use native.Mathlib.Numerals.{add-one}
 use native.Mathlib.Omega.{arith}
-use lib.ListN.{length, take, drop, getD, length-drop, take-append-drop}
-use lib.Seq.{drop-cons, take-at, drop-at, length-take-le}
+use lib.ListN.{length, take, drop, getD, length-drop}
+use lib.Seq.{drop-cons, take-at, drop-at}
 use Rattle.misc.specs.Parse.{part}
 use Rattle.misc.specs.Le.{leBytes}
 use Rattle.misc.proofs.ParseLaws.{part-length}
@@ -99,23 +99,15 @@ tag-unique true s t x y g h p q e =
 
 -- ---- a head
 
-pub uuid-length : (k : Key) → 16 ≤ length k → length (uuidOf k) ≡ 16
-unfolding uuidOf
-uuid-length k h = length-take-le 16 k h
-
-pub key-made : (k : Key) → k ≡ uuidOf k ++ tagOf k
-unfolding uuidOf tagOf
-key-made k = sym (take-append-drop 16 k)
-
 module _ (bs : List ℕ) (w : Bool) (at : ℕ) where
   pub head-gone : length bs - at < 16 → NoHead bs w at
   head-gone h k n x o s m r e =
       let l = left-there bs at (uuidOf k) _ e in
-      omega (arith, uuid-length k (o .good .whole))
+      omega (arith, o .good .uuid)
 
   after-uuid : (k : Key) (n : ℕ) (x : List ℕ) → KeyOk w k → drop at bs ≡ headBytes w k n x
       → drop (at + 16) bs ≡ tagBytes w (tagOf k) ++ (leBytes 8 n ++ x)
-  after-uuid k n x o e = after-there bs at 16 (uuidOf k) _ e (uuid-length k (o .good .whole))
+  after-uuid k n x o e = after-there bs at 16 (uuidOf k) _ e (o .good .uuid)
 
   pub head-no-tag : NoTag bs w (at + 16) → NoHead bs w at
   head-no-tag h k n x o s m r e = h (tagOf k) _ (o .good .rule) (after-uuid k n x o e)

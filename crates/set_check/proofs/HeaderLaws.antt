@@ -1,44 +1,17 @@
 -- A set's header is one number: the count alone, or with 1 in its top and its bottom byte.
-use Prim.Native.Nat.{ℕ, zero, suc, _+_, _-_, _*_, _/_, _%_, _^_, _<_, _≤_}
-use mathlib.Core.Path.{_≡_, refl, sym, ap, _∙_}
+use Prim.Native.Nat.{ℕ, _+_, _-_, _*_, _/_, _%_, _^_, _<_, _≤_}
+use mathlib.Core.Path.{_≡_, refl, ap, _∙_}
 use mathlib.Core.Bool.{Bool, true, false}
-use mathlib.Core.List.{List, [], _∷_, _++_}
-use native.Mathlib.Nat.{pow-suc}
+use mathlib.Core.List.{List, _++_}
 use native.Mathlib.Omega.{arith}
 use lib.ListN.{length, length-append}
-use Rattle.misc.specs.Le.{leBytes}
 use Rattle.previous_gtids_event.specs.Rewrite.{headerBytes}
 use Rattle.gtid_sets.specs.Limits.{maxEntries}
 use Rattle.gtid_sets.proofs.LimitLaws.{maxEntries-is}
-use Rattle.previous_gtids_event.proofs.Writing.{length-header}
+use Rattle.previous_gtids_event.proofs.Writing.{headerNumber, header-number, length-header}
 use Rattle.set_check.specs.Places.{numberAt}
 use Rattle.set_check.specs.Check.{HeaderIs, NoHeader}
 use Rattle.set_check.proofs.PlaceLaws.{Bytes, cut-there, number-stands, number-there}
-
-abbrev pub headerNumber : Bool → ℕ → ℕ
-headerNumber false n = n
-headerNumber true n = 2 ^ 56 + 1 + 256 * n
-
-one-above : (w v : ℕ) → v < 256 ^ w → leBytes (suc w) (v + 256 ^ w) ≡ leBytes w v ++ (1 ∷ [])
-unfolding leBytes
-one-above zero v h = let e : (v + 1) % 256 ≡ 1 = omega arith in rw e
-one-above (suc w) v h =
-    let p = pow-suc 256 w in
-    let low : (v + 256 ^ suc w) % 256 ≡ v % 256 = omega arith in
-    let high : (v + 256 ^ suc w) / 256 ≡ v / 256 + 256 ^ w = omega arith in
-    rw (low, high) (ap (λ (x : List ℕ). v % 256 ∷ x) (one-above w (v / 256) (omega arith)))
-
-first-byte : (w v : ℕ) → leBytes (suc w) v ≡ v % 256 ∷ leBytes w (v / 256)
-unfolding leBytes
-first-byte w v = refl
-
-pub header-number : (w : Bool) (n : ℕ) → n < 2 ^ 48 → headerBytes w n ≡ leBytes 8 (headerNumber w n)
-unfolding headerBytes
-header-number false n h = refl
-header-number true n h =
-    let low : (2 ^ 56 + 1 + 256 * n) % 256 ≡ 1 = omega arith in
-    let high : (2 ^ 56 + 1 + 256 * n) / 256 ≡ n + 256 ^ 6 = omega arith in
-    sym (first-byte 7 (2 ^ 56 + 1 + 256 * n) ∙ rw (low, high) (ap (λ (x : List ℕ). 1 ∷ x) (one-above 6 n (omega arith))))
 
 few : (n : ℕ) → n ≤ maxEntries → n ≤ 256
 few n h = omega (arith, maxEntries-is)
@@ -75,7 +48,7 @@ module _ (bs : List ℕ) where
 
   module _ (v : ℕ) (is : v ≡ numberAt bs 0) (many : 256 < v) where
     -- a greater number is that of a tagged header
-    header-tagged : (w : Bool) (n : ℕ) (x : List ℕ) → n ≤ maxEntries → bs ≡ headerBytes w n ++ x → v ≡ 2 ^ 56 + 1 + 256 * n
+    header-tagged : (w : Bool) (n : ℕ) (x : List ℕ) → n ≤ maxEntries → bs ≡ headerBytes w n ++ x → v ≡ 2 ^ 56 + n * 256 + 1
     header-tagged false n x h e = absurd (omega (arith, few n h, header-there bs false n x h e))
     header-tagged true n x h e = is ∙ header-there bs true n x h e
 

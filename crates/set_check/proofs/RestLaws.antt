@@ -18,15 +18,17 @@ use Rattle.packets.specs.declared.KeyOrder.{KeyOrder}
 use Rattle.packets.proofs.Tests.{clash}
 use Rattle.packets.proofs.Keys.{order-append}
 use Rattle.previous_gtids_event.specs.Entry.{Entry, entry, uuidOf, tagOf}
+use Rattle.previous_gtids_event.specs.Previous.{GoodKey}
 use Rattle.previous_gtids_event.specs.Rewrite.{intervalsBytes, entryBytes, entriesBytes, anyTag}
 use Rattle.gtid_sets.specs.Interval.{Gapped, gapped, Some}
 use Rattle.gtid_sets.specs.Set.{Above, SetForm}
 use Rattle.gtid_sets.specs.Limits.{maxIntervals, intervals}
-use Rattle.gtid_sets.specs.Lent.{GoodKey, GoodKeys}
+use Rattle.gtid_sets.specs.Lent.{GoodKeys}
 use Rattle.gtid_sets.proofs.Bools.{or-false-parts}
 use Rattle.gtid_sets.proofs.FormLaws.{gapped-holds, gapped-tests}
 use Rattle.gtid_sets.proofs.LimitLaws.{maxIntervals-is}
 use Rattle.gtid_sets.proofs.ByteLaws.{append-parts}
+use Rattle.previous_gtids_event.proofs.Reading.{key-whole}
 use Rattle.previous_gtids_event.proofs.Writing.{length-intervals-bytes}
 use Rattle.gtid_sets.proofs.LentLaws.{gapped-wide}
 use Rattle.set_check.specs.Places.{intervalsAt}
@@ -34,7 +36,7 @@ use Rattle.set_check.specs.Head.{headBytes, KeyOk, HeadIs, NoHead}
 use Rattle.set_check.specs.Check.{keyIn, LowKey, EntryIs, NoEntry, Rest}
 use Rattle.set_check.specs.declared.Head.{Head}
 use Rattle.set_check.proofs.PlaceLaws.{Bytes, after-there, intervals-there, intervals-count, intervals-stand}
-use Rattle.set_check.proofs.HeadLaws.{uuid-length, key-made, tag-unique}
+use Rattle.set_check.proofs.HeadLaws.{tag-unique}
 
 -- the bytes of some entries begin with the head of the first
 pub entries-head : (w : Bool) (k : Key) (is : List Interval) (s : List Entry)
@@ -56,7 +58,7 @@ key-ok w any k is s g t = record {
 -- ---- keys in parts
 
 pub key-there : (bs : List ℕ) (w : Bool) (at : ℕ) (r : Head) (h : HeadIs bs w at r) → keyIn bs at 16 (r .«tag_at») (r .«tag_len») ≡ h .key
-key-there bs w at r h = rw (h .uuid-there, h .tag-there) (sym (key-made (h .key)))
+key-there bs w at r h = rw (h .uuid-there, h .tag-there) (sym (key-whole (h .key)))
 
 low-order : (bs : List ℕ) (a n t m : ℕ) → LowKey bs a n t m → (v x : List ℕ) → length v ≡ 16
     → order (keyIn bs a n t m) (v ++ x) ≡ orElse (order (part bs a n) v) (order (part bs t m) x)
@@ -86,12 +88,12 @@ module _ (bs : List ℕ) (w : Bool) (at : ℕ) (r : Head) (h : HeadIs bs w at r)
   both : (uuidOf (h .key) ≡ uuidOf k) × (tagOf (h .key) ≡ tagOf k) × (leBytes 8 (r .count) ++ drop (r .first) bs ≡ leBytes 8 n ++ x)
   both =
       let f = sym (h .is) ∙ e in
-      let (a, b) = append-parts (uuidOf (h .key)) (uuidOf k) _ _ (uuid-length (h .key) (h .ok .good .whole) ∙ sym (uuid-length k (o .good .whole))) f in
+      let (a, b) = append-parts (uuidOf (h .key)) (uuidOf k) _ _ (h .ok .good .uuid ∙ sym (o .good .uuid)) f in
       let (c, d) = tag-unique w (tagOf (h .key)) (tagOf k) _ _ (h .ok .good .rule) (o .good .rule) (h .ok .plain) (o .plain) b in
       (a, c, d)
 
   pub only-key : h .key ≡ k
-  only-key = key-made (h .key) ∙ rw (both .0, both .1) (sym (key-made k))
+  only-key = key-whole (h .key) ∙ rw (both .0, both .1) (sym (key-whole k))
 
   numbers : (leBytes 8 (r .count) ≡ leBytes 8 n) × (drop (r .first) bs ≡ x)
   numbers = append-parts (leBytes 8 (r .count)) (leBytes 8 n) _ _ (length-leBytes 8 (r .count) ∙ sym (length-leBytes 8 n)) (both .2)

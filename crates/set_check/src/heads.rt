@@ -1,9 +1,9 @@
 // The head of an entry: its uuid, its tag and the number of its intervals.
 use crate::Head;
 use crate::TagPlace;
-use crate::places::none_or_tag;
 use crate::places::number_at;
 use misc::bytes::left_at;
+use previous_gtids_event::read::none_or_tag;
 ghost use mathlib.Core.Path.{_≡_};
 ghost use Prim.Native.Nat.{_≤_};
 ghost use lib.ListN.{length};

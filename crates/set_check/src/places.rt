@@ -1,11 +1,9 @@
-// Numbers, tags and keys in the bytes of a set.
+// Numbers and keys in the bytes of a set.
 use misc::le::read_u64_le;
 use packets::KeyOrder;
-use packets::is_tag;
 use packets::key_order;
 ghost use mathlib.Core.Path.{_≡_};
 ghost use Rattle.packets.specs.Key.{order, orElse, orderRead};
-ghost use Rattle.previous_gtids_event.specs.Previous.{noneOrTag};
 ghost use Rattle.set_check.specs.Places.{numberAt};
 
 // The number in the eight bytes from `at` on, 0 where they aren't all there.
@@ -13,13 +11,6 @@ pub fn number_at(s: &[u8], at: usize) -> u64
     ensures { λ r. ⌜ r ≡ numberAt (now (s .entry)) at ⌝ }
 {
     read_u64_le(s, at).value
-}
-
-// No tag, or one that obeys the tag rule.
-pub fn none_or_tag(tag: &[u8]) -> bool
-    ensures { λ r. ⌜ r ≡ noneOrTag (now (tag .entry)) ⌝ }
-{
-    (tag.len() == 0) | is_tag(tag)
 }
 
 // The order of two keys, each a uuid and a tag: by uuid, then by tag.

@@ -3,11 +3,10 @@
 use Rattle.gtid_event.specs.Event.{withTag}
 use Rattle.packets.proofs.TagLaws.{tag-at-most-32}
 use Rattle.packets.specs.Tag.{isTag}
-use Rattle.packets.specs.Kept.{padded}
 use lib.Seq.{take-all}
 use native.Mathlib.Omega.{arith}
 use mathlib.Core.Bool.{true}
-use mathlib.Core.Path.{_≡_, sym, ap, _∙_}
+use mathlib.Core.Path.{_≡_, sym, _∙_}
 use borrow.Author.Needs.{needs}
 use Rattle.gtid_event.proofs.GtidEvent.with_tag.Statement.{statement}
 use Rattle.gtid_event.proofs.GtidEvent.with_tag.Tie as tie

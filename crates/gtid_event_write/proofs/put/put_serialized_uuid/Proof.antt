@@ -4,6 +4,7 @@ use Prim.Native.Nat.{_-_, _≤_}
 use native.Mathlib.Omega.{arith}
 use lib.ListN.{length, take}
 use borrow.Author.Needs.{needs}
+use Rattle.misc.proofs.OutputLaws.{put-placed}
 use Rattle.misc.specs.Output.{WhereFits}
 use Rattle.gtid_event_write.specs.Layout.{itemsBytes}
 use Rattle.gtid_event_write.proofs.PutLaws.{items-start, items-turn, items-end}
@@ -38,7 +39,7 @@ loop-again : tie.Need-loop-again Inv-loop μ-loop
 loop-again c =
     let w = c .before .before .before .before .before .loop in
     let s = c .before .before .before .before .before .before .before .args .t1 in
-    (omega arith, c .before .before .put-varlen-uint .kept .1 .0 ∙ w .inv .1, items-turn s (w .i) (search needs) (w .inv .2) (c .before .before .put-varlen-uint .ensures))
+    (omega arith, c .before .before .put-varlen-uint .kept .1 .0 ∙ w .inv .1, items-turn s (w .i) (search needs) (w .inv .2) (put-placed (c .before .before .put-varlen-uint .ensures)))
 
 same-length : tie.Need-same-length Inv-loop μ-loop
 same-length c = search needs

@@ -1,7 +1,7 @@
 -- `gtid_event_write::tagged::put_identity` meets its contract.
 use native.Mathlib.Omega.{arith}
 use borrow.Author.Needs.{needs}
-use Rattle.misc.proofs.OutputLaws.{_also_}
+use Rattle.misc.proofs.OutputLaws.{_also_, put-placed}
 use Rattle.gtid_event_write.specs.Layout.{identityBytes}
 use Rattle.gtid_event_write.proofs.WritableLaws.{tagged-fits}
 use Rattle.gtid_event_write.proofs.tagged.put_identity.Statement.{statement}
@@ -33,7 +33,7 @@ same-length c = search needs
 
 returns : tie.Need-returns
 unfolding identityBytes
-returns c = c .before .before .before .before .before .before .before .before .before .before .before .before .before .before .before .before .before .before .before .put-number .ensures also (c .before .before .before .before .before .before .before .before .before .before .before .before .before .before .before .put-varlen-uint .ensures also c .before .before .before .before .before .before .before .before .before .before .before .put-serialized-uuid .ensures) also c .before .before .before .before .before .before .put-number2 .ensures also c .before .before .put-tag .ensures
+returns c = c .before .before .before .before .before .before .before .before .before .before .before .before .before .before .before .before .before .before .before .put-number .ensures also (put-placed (c .before .before .before .before .before .before .before .before .before .before .before .before .before .before .before .put-varlen-uint .ensures) also c .before .before .before .before .before .before .before .before .before .before .before .put-serialized-uuid .ensures) also c .before .before .before .before .before .before .put-number2 .ensures also c .before .before .put-tag .ensures
 
 pub put-identity-spec : {M : Type 1} → statement M
 put-identity-spec =

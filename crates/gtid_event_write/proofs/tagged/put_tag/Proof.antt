@@ -2,7 +2,7 @@
 use mathlib.Core.Path.{sym}
 use lib.Seq.{length-take-le}
 use borrow.Author.Needs.{needs}
-use Rattle.misc.proofs.OutputLaws.{_also_}
+use Rattle.misc.proofs.OutputLaws.{_also_, put-placed}
 use Rattle.gtid_event_write.proofs.tagged.put_tag.Statement.{statement}
 use Rattle.gtid_event_write.proofs.tagged.put_tag.Tie as tie
 
@@ -25,7 +25,7 @@ same-length : tie.Need-same-length
 same-length c = search needs
 
 returns : tie.Need-returns
-returns c = c .before .before .before .before .before .before .before .before .before .before .before .put-varlen-uint .ensures also c .before .before .before .before .before .before .before .put-varlen-uint2 .ensures also c .before .before .put-bytes .ensures
+returns c = put-placed (c .before .before .before .before .before .before .before .before .before .before .before .put-varlen-uint .ensures) also put-placed (c .before .before .before .before .before .before .before .put-varlen-uint2 .ensures) also put-placed (c .before .before .put-bytes .ensures)
 
 pub put-tag-spec : {M : Type 1} → statement M
 put-tag-spec =

@@ -1,7 +1,7 @@
 -- `gtid_event_write::tagged::serialize_tagged_v2` meets its contract.
 use mathlib.Core.Path.{ap}
 use borrow.Author.Needs.{needs}
-use Rattle.misc.proofs.OutputLaws.{_also_}
+use Rattle.misc.proofs.OutputLaws.{_also_, put-placed}
 use Rattle.misc.specs.Varlen.{varlenBytes}
 use Rattle.gtid_event_write.specs.Layout.{taggedBytes}
 use Rattle.gtid_event_write.proofs.PutLaws.{with-bytes}
@@ -29,8 +29,8 @@ same-length c = search needs
 returns : tie.Need-returns
 unfolding taggedBytes
 returns c =
-    let size = with-bytes (ap varlenBytes (c .before .before .before .before .before .before .before .before .before .before .before .before .before .before .before .before .len-tagged-v2 .ensures .0)) (c .before .before .before .before .before .before .before .before .before .before .put-varlen-uint .ensures) in
-    c .before .before .before .before .before .before .before .before .before .before .before .before .before .before .put-byte .ensures also size also c .before .before .before .before .before .before .put-varlen-uint2 .ensures also c .before .before .write-tagged-fields-v2 .ensures
+    let size = with-bytes (ap varlenBytes (c .before .before .before .before .before .before .before .before .before .before .before .before .before .before .before .before .len-tagged-v2 .ensures .0)) (put-placed (c .before .before .before .before .before .before .before .before .before .before .put-varlen-uint .ensures)) in
+    put-placed (c .before .before .before .before .before .before .before .before .before .before .before .before .before .before .put-byte .ensures) also size also put-placed (c .before .before .before .before .before .before .put-varlen-uint2 .ensures) also c .before .before .write-tagged-fields-v2 .ensures
 
 pub serialize-tagged-v2-spec : {M : Type 1} → statement M
 serialize-tagged-v2-spec =

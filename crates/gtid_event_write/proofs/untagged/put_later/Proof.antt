@@ -1,6 +1,6 @@
 -- `gtid_event_write::untagged::put_later` meets its contract.
 use borrow.Author.Needs.{needs}
-use Rattle.misc.proofs.OutputLaws.{_also_}
+use Rattle.misc.proofs.OutputLaws.{_also_, put-placed}
 use Rattle.gtid_event_write.specs.Layout.{laterBytes}
 use Rattle.gtid_event_write.proofs.WritableLaws.{untagged-fits}
 use Rattle.gtid_event_write.proofs.untagged.put_later.Statement.{statement}
@@ -29,7 +29,7 @@ same-length c = search needs
 
 returns : tie.Need-returns
 unfolding laterBytes
-returns c = c .before .before .before .before .before .before .before .before .before .before .before .before .before .before .before .before .before .before .before .before .before .before .put-byte .ensures also c .before .before .before .before .before .before .before .before .before .before .before .before .before .before .before .before .before .before .put-u64-le .ensures also c .before .before .before .before .before .before .before .before .before .before .before .before .before .before .put-u64-le2 .ensures also c .before .before .before .before .before .before .before .before .before .before .put-timestamps .ensures also c .before .before .before .before .before .before .put-lenenc-int .ensures also c .before .before .put-versions .ensures
+returns c = put-placed (c .before .before .before .before .before .before .before .before .before .before .before .before .before .before .before .before .before .before .before .before .before .before .put-byte .ensures) also put-placed (c .before .before .before .before .before .before .before .before .before .before .before .before .before .before .before .before .before .before .put-u64-le .ensures) also put-placed (c .before .before .before .before .before .before .before .before .before .before .before .before .before .before .put-u64-le2 .ensures) also c .before .before .before .before .before .before .before .before .before .before .put-timestamps .ensures also put-placed (c .before .before .before .before .before .before .put-lenenc-int .ensures) also c .before .before .put-versions .ensures
 
 pub put-later-spec : {M : Type 1} → statement M
 put-later-spec =

@@ -1,6 +1,6 @@
 -- `gtid_event_write::untagged::put_opening` meets its contract.
 use borrow.Author.Needs.{needs}
-use Rattle.misc.proofs.OutputLaws.{_also_}
+use Rattle.misc.proofs.OutputLaws.{_also_, put-placed}
 use Rattle.gtid_event_write.specs.Layout.{openingBytes}
 use Rattle.gtid_event_write.proofs.untagged.put_opening.Statement.{statement}
 use Rattle.gtid_event_write.proofs.untagged.put_opening.Tie as tie
@@ -22,7 +22,7 @@ same-length c = search needs
 
 returns : tie.Need-returns
 unfolding openingBytes
-returns c = c .before .before .before .before .before .before .before .before .before .before .before .put-byte .ensures also c .before .before .before .before .before .before .put-bytes .ensures also c .before .before .put-u64-le .ensures
+returns c = put-placed (c .before .before .before .before .before .before .before .before .before .before .before .put-byte .ensures) also put-placed (c .before .before .before .before .before .before .put-bytes .ensures) also put-placed (c .before .before .put-u64-le .ensures)
 
 pub put-opening-spec : {M : Type 1} → statement M
 put-opening-spec =

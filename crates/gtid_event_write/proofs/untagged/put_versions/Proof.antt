@@ -1,6 +1,7 @@
 -- `gtid_event_write::untagged::put_versions` meets its contract.
 use borrow.Author.Tests.{eq-eqb}
 use borrow.Author.Needs.{needs}
+use Rattle.misc.proofs.OutputLaws.{put-placed}
 use Rattle.gtid_event_write.proofs.PutLaws.{pair-placed}
 use Rattle.gtid_event_write.proofs.untagged.put_versions.Statement.{statement}
 use Rattle.gtid_event_write.proofs.untagged.put_versions.Tie as tie
@@ -12,7 +13,7 @@ same-length : tie.Need-same-length
 same-length c = search needs
 
 returns : tie.Need-returns
-returns c = simp (eq-eqb _ _ (c .before .before .before .before .if1 .taken)) (c .before .before .put-u32-le .ensures)
+returns c = simp (eq-eqb _ _ (c .before .before .before .before .if1 .taken)) (put-placed (c .before .before .put-u32-le .ensures))
 
 put-u32-le-requires-2 : tie.Need-put-u32-le-requires-2
 put-u32-le-requires-2 c κs = search needs
@@ -24,7 +25,7 @@ same-length-2 : tie.Need-same-length-2
 same-length-2 c = search needs
 
 returns-2 : tie.Need-returns-2
-returns-2 c = pair-placed 31 4 _ _ (c .before .before .before .before .before .before .before .before .before .before .pre) (c .before .before .before .before .before .before .before .before .if1 .left) (c .before .before .before .before .before .before .put-u32-le2 .ensures) (c .before .before .put-u32-le3 .ensures)
+returns-2 c = pair-placed 31 4 _ _ (c .before .before .before .before .before .before .before .before .before .before .pre) (c .before .before .before .before .before .before .before .before .if1 .left) (put-placed (c .before .before .before .before .before .before .put-u32-le2 .ensures)) (put-placed (c .before .before .put-u32-le3 .ensures))
 
 pub put-versions-spec : {M : Type 1} → statement M
 put-versions-spec =

@@ -7,6 +7,7 @@ use Rattle.previous_gtids_event.specs.Previous.{entryAt}
 use Rattle.previous_gtids_event.proofs.Rewriting.{entry-put}
 use Rattle.previous_gtids_event.proofs.Reading.{PlaceTold, place-told, place-says, place-order}
 use borrow.Author.Needs.{needs}
+use Rattle.misc.proofs.OutputLaws.{put-placed}
 use Rattle.previous_gtids_event.proofs.rewrite.put_entry.Statement.{statement}
 use Rattle.previous_gtids_event.proofs.rewrite.put_entry.Tie as tie
 
@@ -73,7 +74,7 @@ returns : tie.Need-returns
 returns c =
     let a = c .before .before .before .before .before .before .before .before .before .before .before .before .before .before .before .before .before .before .before .before .args in
     entry-put (a .tagged) (now (a .body)) (a .from) _ (told (c .before .before .before .before .before .before .before .before .before .before .before .before .before .before .before .before .before)) (a .tags) (λ i. c .before .before .before .before .before .before .before .before .before .before .before .before .before .before .before .before .before .before .before .shared-slice-known .given i .fits)
-    (c .before .before .before .before .before .before .before .before .before .before .before .before .put-bytes .ensures) (c .before .before .before .before .before .before .before .put-tag .ensures) (c .before .before .put-bytes2 .ensures)
+    (put-placed (c .before .before .before .before .before .before .before .before .before .before .before .before .put-bytes .ensures)) (c .before .before .before .before .before .before .before .put-tag .ensures) (put-placed (c .before .before .put-bytes2 .ensures))
 
 pub put-entry-spec : {M : Type 1} → statement M
 put-entry-spec =

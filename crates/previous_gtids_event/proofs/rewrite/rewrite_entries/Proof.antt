@@ -4,6 +4,7 @@ use mathlib.Core.List.{List}
 use mathlib.Core.Bool.{Bool}
 use Prim.Native.Nat.{ℕ}
 use Rattle.misc.specs.Parse.{Parse, many}
+use Rattle.misc.proofs.OutputLaws.{put-placed}
 use Rattle.previous_gtids_event.specs.Previous.{entryAt}
 use Rattle.previous_gtids_event.specs.Entry.{Entry}
 use native.Mathlib.Omega.{arith}
@@ -32,25 +33,22 @@ returns-2 c =
     let a = c .before .before .before .before .before .before .args in
     rewrite-short (entries (now (a .body)) (a .tagged) (a .count)) _ (c .before .before .before .sizes-at .ensures .0) _ (c .before .before .if1 .left) _ (c .before .body-len .ensures) (c .if2 .taken)
 
-header-number-requires : tie.Need-header-number-requires
-header-number-requires c κs = search needs
-
-write-u64-le-requires : tie.Need-write-u64-le-requires
-write-u64-le-requires c κs = search needs
+put-header-requires : tie.Need-put-header-requires
+put-header-requires c κs = search needs
 
 put-entries-requires : tie.Need-put-entries-requires
 put-entries-requires c κs =
-    let a = c .before .before .before .before .before .before .before .before .before .before .before .before .args in
-    was-whole (entries (now (a .body)) (a .tagged) (a .count)) _ (c .before .before .before .before .before .before .before .before .before .sizes-at .ensures .0) (now (a .out)) (c .before .before .before .before .before .before .before .before .if1 .left)
+    let a = c .before .before .before .before .before .before .before .before .before .before .before .args in
+    was-whole (entries (now (a .body)) (a .tagged) (a .count)) _ (c .before .before .before .before .before .before .before .before .sizes-at .ensures .0) (now (a .out)) (c .before .before .before .before .before .before .before .if1 .left)
 
 same-length : tie.Need-same-length
 same-length c = search needs
 
 returns-3 : tie.Need-returns-3
 returns-3 c =
-    let a = c .before .before .before .before .before .before .before .before .before .before .before .before .before .before .before .args in
-    rewrite-whole (entries (now (a .body)) (a .tagged) (a .count)) _ (c .before .before .before .before .before .before .before .before .before .before .before .before .sizes-at .ensures .0) _ (c .before .before .before .before .before .before .before .before .before .before .before .if1 .left) _ (c .before .before .before .before .before .before .before .before .before .before .body-len .ensures) (omega arith)
-    _ (c .before .before .before .before .before .before .before .before .header-number .ensures) _ _ _ (c .before .before .before .before .before .before .write-u64-le .ensures .1) (c .before .before .put-entries .ensures)
+    let a = c .before .before .before .before .before .before .before .before .before .before .before .before .before .before .args in
+    rewrite-whole (entries (now (a .body)) (a .tagged) (a .count)) _ (c .before .before .before .before .before .before .before .before .before .before .before .sizes-at .ensures .0) _ (c .before .before .before .before .before .before .before .before .before .before .if1 .left) _ (c .before .before .before .before .before .before .before .before .before .body-len .ensures) (omega arith)
+    (put-placed (c .before .before .before .before .before .before .put-header .ensures)) (c .before .before .put-entries .ensures)
 
 pub rewrite-entries-spec : {M : Type 1} → statement M
 rewrite-entries-spec =
@@ -60,8 +58,7 @@ rewrite-entries-spec =
     returns
     body-len-requires
     returns-2
-    header-number-requires
-    write-u64-le-requires
+    put-header-requires
     put-entries-requires
     same-length
     returns-3)

@@ -2,8 +2,7 @@
 use mathlib.Core.Path.{_∙_}
 use native.Mathlib.Omega.{arith}
 use borrow.Author.Needs.{needs}
-use Rattle.misc.proofs.OutputLaws.{_also_}
-use Rattle.resume_set.proofs.PutLaws.{header-put}
+use Rattle.misc.proofs.OutputLaws.{_also_, put-placed}
 use Rattle.resume_set.proofs.join.put_joined.Statement.{statement}
 use Rattle.resume_set.proofs.join.put_joined.Tie as tie
 
@@ -13,37 +12,33 @@ sub-held c = search needs
 add-held : tie.Need-add-held
 add-held c = search needs
 
-header-number-requires : tie.Need-header-number-requires
-header-number-requires c κs = c .before .before .before .before .before .before .before .before .pre .few
-
-put-number-requires : tie.Need-put-number-requires
-put-number-requires c κs = search needs
+put-header-requires : tie.Need-put-header-requires
+put-header-requires c κs = search needs
 
 put-entries-requires : tie.Need-put-entries-requires
-put-entries-requires c κs = c .before .before .before .before .before .before .before .before .before .before .before .before .before .before .pre .before-there
+put-entries-requires c κs = c .before .before .before .before .before .before .before .before .before .before .before .before .before .pre .before-there
 
 put-head-requires : tie.Need-put-head-requires
 put-head-requires c κs = search needs
 
 put-spliced-requires : tie.Need-put-spliced-requires
-put-spliced-requires c κs = let h = c .before .before .before .before .before .before .before .before .before .before .before .before .before .before .before .before .before .before .before .before .before .before .pre in (h .splice-there, h .splice-inside)
+put-spliced-requires c κs = let h = c .before .before .before .before .before .before .before .before .before .before .before .before .before .before .before .before .before .before .before .before .before .pre in (h .splice-there, h .splice-inside)
 
 add-left : tie.Need-add-left
-add-left c = let h = c .before .before .before .before .before .before .before .before .before .before .before .before .before .before .before .before .before .before .before .before .before .before .before .before .before .before .pre in record { fits = omega (arith, h .index-below, h .few) }
+add-left c = let h = c .before .before .before .before .before .before .before .before .before .before .before .before .before .before .before .before .before .before .before .before .before .before .before .before .before .pre in record { fits = omega (arith, h .index-below, h .few) }
 
 sub-left : tie.Need-sub-left
-sub-left c = c .before .before .before .before .before .before .before .before .before .before .before .before .before .before .before .before .before .before .before .before .before .before .before .before .before .before .before .pre .index-below
+sub-left c = c .before .before .before .before .before .before .before .before .before .before .before .before .before .before .before .before .before .before .before .before .before .before .before .before .before .before .pre .index-below
 
 put-entries-requires-2 : tie.Need-put-entries-requires-2
-put-entries-requires-2 c κs = c .before .before .before .before .before .before .before .before .before .before .before .before .before .before .before .before .before .before .before .before .before .before .before .before .before .before .before .before .pre .after-there
+put-entries-requires-2 c κs = c .before .before .before .before .before .before .before .before .before .before .before .before .before .before .before .before .before .before .before .before .before .before .before .before .before .before .before .pre .after-there
 
 same-length : tie.Need-same-length
-same-length c = c .before .before .put-entries2 .kept .1 .1 .1 .1 .1 .0 ∙ c .before .before .before .before .before .before .before .before .put-spliced .kept .1 .1 .1 .1 .1 .1 .1 .0 ∙ c .before .before .before .before .before .before .before .before .before .before .before .before .put-head .kept .1 .1 .1 .1 .0 ∙ c .before .before .before .before .before .before .before .before .before .before .before .before .before .before .before .before .put-entries .kept .1 .1 .1 .1 .1 .0 ∙ c .before .before .before .before .before .before .before .before .before .before .before .before .before .before .before .before .before .before .before .before .put-number .kept .1 .0
+same-length c = c .before .before .put-entries2 .kept .1 .1 .1 .1 .1 .0 ∙ c .before .before .before .before .before .before .before .before .put-spliced .kept .1 .1 .1 .1 .1 .1 .1 .0 ∙ c .before .before .before .before .before .before .before .before .before .before .before .before .put-head .kept .1 .1 .1 .1 .0 ∙ c .before .before .before .before .before .before .before .before .before .before .before .before .before .before .before .before .put-entries .kept .1 .1 .1 .1 .1 .0 ∙ c .before .before .before .before .before .before .before .before .before .before .before .before .before .before .before .before .before .before .before .before .put-header .kept .1 .1 .0
 
 returns : tie.Need-returns
 returns c =
-    let a = c .before .before .before .before .before .before .before .before .before .before .before .before .before .before .before .before .before .before .before .before .before .before .before .before .before .before .before .before .before .before .before .args in
-    header-put (a .plan .tags) (a .plan .entries) (c .before .before .before .before .before .before .before .before .before .before .before .before .before .before .before .before .before .before .before .before .before .before .header-number .result) (c .before .before .before .before .before .before .before .before .before .before .before .before .before .before .before .before .before .before .before .before .before .before .header-number .ensures) (c .before .before .before .before .before .before .before .before .before .before .before .before .before .before .before .before .before .before .before .before .put-number .ensures)
+    put-placed (c .before .before .before .before .before .before .before .before .before .before .before .before .before .before .before .before .before .before .before .before .put-header .ensures)
     also c .before .before .before .before .before .before .before .before .before .before .before .before .before .before .before .before .put-entries .ensures also c .before .before .before .before .before .before .before .before .before .before .before .before .put-head .ensures also c .before .before .before .before .before .before .before .before .put-spliced .ensures also c .before .before .put-entries2 .ensures
 
 pub put-joined-spec : {M : Type 1} → statement M
@@ -52,8 +47,7 @@ put-joined-spec =
     (tie.spec
     sub-held
     add-held
-    header-number-requires
-    put-number-requires
+    put-header-requires
     put-entries-requires
     put-head-requires
     put-spliced-requires

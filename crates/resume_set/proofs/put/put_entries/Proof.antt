@@ -2,6 +2,7 @@
 use native.Mathlib.Omega.{arith}
 use denote.Ref.{now}
 use borrow.Author.Needs.{needs}
+use Rattle.misc.proofs.OutputLaws.{put-placed}
 use Rattle.resume_set.proofs.PutLaws.{run-wide, run-plain, wide-there, plain-there}
 use Rattle.resume_set.proofs.put.put_entries.Statement.{statement}
 use Rattle.resume_set.proofs.put.put_entries.Tie as tie
@@ -43,7 +44,7 @@ same-length-2 c = search needs
 returns-2 : tie.Need-returns-2
 returns-2 c =
     let a = c .before .before .before .before .before .before .before .before .args in
-    run-plain (a .widen) (now (a .set)) (a .from) (a .to) (a .count) (c .before .before .before .before .before .if1 .left) (c .before .before .put-bytes .ensures)
+    run-plain (a .widen) (now (a .set)) (a .from) (a .to) (a .count) (c .before .before .before .before .before .if1 .left) (put-placed (c .before .before .put-bytes .ensures))
 
 pub put-entries-spec : {M : Type 1} → statement M
 put-entries-spec =

@@ -3,7 +3,7 @@ use Prim.Native.Nat.{_+_, _-_, _*_}
 use native.Mathlib.Omega.{arith}
 use denote.Ref.{now}
 use borrow.Author.Needs.{needs}
-use Rattle.misc.proofs.OutputLaws.{_also_}
+use Rattle.misc.proofs.OutputLaws.{_also_, put-placed}
 use Rattle.resume_set.proofs.PutLaws.{put-part}
 use Rattle.resume_set.proofs.put.put_spliced.Statement.{statement}
 use Rattle.resume_set.proofs.put.put_spliced.Tie as tie
@@ -41,11 +41,11 @@ part-put-bytes-end c = search needs
 put-bytes-requires : tie.Need-put-bytes-requires
 put-bytes-requires c κs = search needs
 
-put-number-requires : tie.Need-put-number-requires
-put-number-requires c κs = search needs
+put-u64-le-requires : tie.Need-put-u64-le-requires
+put-u64-le-requires c κs = search needs
 
-put-number-requires-2 : tie.Need-put-number-requires-2
-put-number-requires-2 c κs = search needs
+put-u64-le-requires-2 : tie.Need-put-u64-le-requires-2
+put-u64-le-requires-2 c κs = search needs
 
 sub-put-bytes-2 : tie.Need-sub-put-bytes-2
 sub-put-bytes-2 c = search needs
@@ -66,8 +66,8 @@ returns : tie.Need-returns
 returns c =
     let a = c .before .before .before .before .before .before .before .before .before .before .before .before .before .before .before .before .before .before .before .before .args in
     let s = now (a .set) in
-    put-part s (a .first) (16 * a .before) (a .first + 16 * a .before - a .first) (omega arith) (c .before .before .before .before .before .before .before .before .before .before .before .before .before .before .before .put-bytes .ensures) also c .before .before .before .before .before .before .before .before .before .before .before .put-number .ensures also c .before .before .before .before .before .before .before .put-number2 .ensures
-    also put-part s (a .first + 16 * (a .before + a .taken)) (16 * (a .count - a .before - a .taken)) (a .first + 16 * a .count - (a .first + 16 * (a .before + a .taken))) (omega (arith, c .before .before .before .before .before .before .before .before .before .before .before .before .before .before .before .before .before .before .before .before .pre)) (c .before .before .put-bytes2 .ensures)
+    put-part s (a .first) (16 * a .before) (a .first + 16 * a .before - a .first) (omega arith) (put-placed (c .before .before .before .before .before .before .before .before .before .before .before .before .before .before .before .put-bytes .ensures)) also put-placed (c .before .before .before .before .before .before .before .before .before .before .before .put-u64-le .ensures) also put-placed (c .before .before .before .before .before .before .before .put-u64-le2 .ensures)
+    also put-part s (a .first + 16 * (a .before + a .taken)) (16 * (a .count - a .before - a .taken)) (a .first + 16 * a .count - (a .first + 16 * (a .before + a .taken))) (omega (arith, c .before .before .before .before .before .before .before .before .before .before .before .before .before .before .before .before .before .before .before .before .pre)) (put-placed (c .before .before .put-bytes2 .ensures))
 
 pub put-spliced-spec : {M : Type 1} → statement M
 put-spliced-spec =
@@ -84,8 +84,8 @@ put-spliced-spec =
     part-put-bytes-start
     part-put-bytes-end
     put-bytes-requires
-    put-number-requires
-    put-number-requires-2
+    put-u64-le-requires
+    put-u64-le-requires-2
     sub-put-bytes-2
     part-put-bytes-start-2
     part-put-bytes-end-2

@@ -1,12 +1,13 @@
 -- `resume_set::put::put_tag` meets its contract.
 use denote.Ref.{now}
 use borrow.Author.Needs.{needs}
+use Rattle.misc.proofs.OutputLaws.{put-placed}
 use Rattle.resume_set.proofs.PutLaws.{tag-put, no-tag-put}
 use Rattle.resume_set.proofs.put.put_tag.Statement.{statement}
 use Rattle.resume_set.proofs.put.put_tag.Tie as tie
 
-put-varlen-requires : tie.Need-put-varlen-requires
-put-varlen-requires c κs = search needs
+put-varlen-uint-requires : tie.Need-put-varlen-uint-requires
+put-varlen-uint-requires c κs = search needs
 
 put-bytes-requires : tie.Need-put-bytes-requires
 put-bytes-requires c κs = search needs
@@ -17,7 +18,7 @@ same-length c = search needs
 returns : tie.Need-returns
 returns c =
     let a = c .before .before .before .before .before .before .before .before .before .before .before .args in
-    tag-put (a .tags) (now (a .tag)) (c .before .before .before .before .before .before .before .before .if1 .taken) (c .before .before .before .before .before .before .put-varlen .ensures) (c .before .before .put-bytes .ensures)
+    tag-put (a .tags) (now (a .tag)) (c .before .before .before .before .before .before .before .before .if1 .taken) (put-placed (c .before .before .before .before .before .before .put-varlen-uint .ensures)) (put-placed (c .before .before .put-bytes .ensures))
 
 returns-2 : tie.Need-returns-2
 returns-2 c =
@@ -26,4 +27,4 @@ returns-2 c =
 
 pub put-tag-spec : {M : Type 1} → statement M
 put-tag-spec =
-    tie.close (tie.spec put-varlen-requires put-bytes-requires same-length returns returns-2)
+    tie.close (tie.spec put-varlen-uint-requires put-bytes-requires same-length returns returns-2)

@@ -3,7 +3,7 @@ use Prim.Native.Nat.{_+_, _-_, _*_}
 use native.Mathlib.Omega.{arith}
 use denote.Ref.{now}
 use borrow.Author.Needs.{needs}
-use Rattle.misc.proofs.OutputLaws.{_also_}
+use Rattle.misc.proofs.OutputLaws.{_also_, put-placed}
 use Rattle.resume_set.proofs.PutLaws.{put-part}
 use Rattle.resume_set.proofs.put.put_wider.Statement.{statement}
 use Rattle.resume_set.proofs.put.put_wider.Tie as tie
@@ -32,8 +32,8 @@ part-put-bytes-end c = search needs
 put-bytes-requires : tie.Need-put-bytes-requires
 put-bytes-requires c κs = search needs
 
-put-varlen-requires : tie.Need-put-varlen-requires
-put-varlen-requires c κs = search needs
+put-varlen-uint-requires : tie.Need-put-varlen-uint-requires
+put-varlen-uint-requires c κs = search needs
 
 sub-put-bytes-2 : tie.Need-sub-put-bytes-2
 sub-put-bytes-2 c = search needs
@@ -54,8 +54,8 @@ returns : tie.Need-returns
 returns c =
     let a = c .before .before .before .before .before .before .before .before .before .before .before .before .before .before .before .before .args in
     let s = now (a .set) in
-    put-part s (a .from) 16 (a .from + 16 - a .from) (omega arith) (c .before .before .before .before .before .before .before .before .before .before .before .put-bytes .ensures) also c .before .before .before .before .before .before .before .put-varlen .ensures
-    also put-part s (a .from + 16) (8 + 16 * a .count) (a .from + (24 + 16 * a .count) - (a .from + 16)) (omega arith) (c .before .before .put-bytes2 .ensures)
+    put-part s (a .from) 16 (a .from + 16 - a .from) (omega arith) (put-placed (c .before .before .before .before .before .before .before .before .before .before .before .put-bytes .ensures)) also put-placed (c .before .before .before .before .before .before .before .put-varlen-uint .ensures)
+    also put-part s (a .from + 16) (8 + 16 * a .count) (a .from + (24 + 16 * a .count) - (a .from + 16)) (omega arith) (put-placed (c .before .before .put-bytes2 .ensures))
 
 pub put-wider-spec : {M : Type 1} → statement M
 put-wider-spec =
@@ -69,7 +69,7 @@ put-wider-spec =
     part-put-bytes-start
     part-put-bytes-end
     put-bytes-requires
-    put-varlen-requires
+    put-varlen-uint-requires
     sub-put-bytes-2
     part-put-bytes-start-2
     part-put-bytes-end-2

@@ -1,0 +1,50 @@
+-- `misc::put::put_u32_le` meets its contract.
+use native.Mathlib.Omega.{arith}
+use denote.Ref.{now}
+use borrow.Author.Needs.{needs}
+use Rattle.misc.specs.Le.{leBytes}
+use Rattle.misc.proofs.OutputLaws.{put-short, lent-ends, lent-put}
+use Rattle.misc.proofs.put.put_u32_le.Statement.{statement}
+use Rattle.misc.proofs.put.put_u32_le.Tie as tie
+
+returns : tie.Need-returns
+returns c = let a = c .before .before .args in put-short (now (a .out)) (leBytes 4 (a .value)) (a .at) (omega (arith, c .if1 .taken))
+
+sub-write-u32-le : tie.Need-sub-write-u32-le
+sub-write-u32-le c = search needs
+
+part-write-u32-le-start : tie.Need-part-write-u32-le-start
+part-write-u32-le-start c = search needs
+
+part-write-u32-le-end : tie.Need-part-write-u32-le-end
+part-write-u32-le-end c = search needs
+
+write-u32-le-requires : tie.Need-write-u32-le-requires
+write-u32-le-requires c κs = search needs
+
+place-behind-requires : tie.Need-place-behind-requires
+place-behind-requires c κs =
+    let a = c .before .before .before .before .before .before .args in
+    λ done. omega (arith, lent-ends (now (a .out)) (leBytes 4 (a .value)) (a .at) (c .before .before .before .before .if1 .left) _ (c .before .before .write-u32-le .ensures .0) done)
+
+same-length : tie.Need-same-length
+same-length c = search needs
+
+returns-2 : tie.Need-returns-2
+returns-2 c =
+    let a = c .before .before .before .before .before .before .before .args in
+    let wrote = c .before .before .before .write-u32-le .ensures in
+    lent-put (now (a .out)) (leBytes 4 (a .value)) (a .at) (c .before .before .before .before .before .if1 .left) _ (wrote .0) (c .place-behind .ensures) (wrote .1)
+
+pub put-u32-le-spec : {M : Type 1} → statement M
+put-u32-le-spec =
+    tie.close
+    (tie.spec
+    returns
+    sub-write-u32-le
+    part-write-u32-le-start
+    part-write-u32-le-end
+    write-u32-le-requires
+    place-behind-requires
+    same-length
+    returns-2)
