@@ -1,7 +1,7 @@
 -- The lines of a set's entries, one after another.
-use Prim.Native.Nat.{ℕ, _+_, _-_, _*_, _/_, _%_, _^_, _≤_, _<_}
+use Prim.Native.Nat.{ℕ, _+_, _-_, _*_, _≤_, _<_}
 use mathlib.Core.Path.{_≡_, sym, ap, _∙_}
-use mathlib.Core.Bool.{Bool, true, false}
+use mathlib.Core.Bool.{Bool, true}
 use mathlib.Core.List.{List, [], _∷_, _++_}
 use native.Mathlib.Omega.{arith}
 use lib.ListN.{length, take, length-append, length-take}
@@ -26,7 +26,9 @@ use Rattle.gtid_sets.proofs.FormLaws.{lawful-tests}
 use Rattle.gtid_sets.proofs.LimitLaws.{maxEntries-is, limits-says}
 use Rattle.gtid_sets.proofs.LentLaws.{read-back, lent-is}
 use Rattle.set_check.specs.Places.{numberAt, intervalsAt}
-use Rattle.set_check.proofs.HeaderLaws.{headerNumber, header-there}
+use Rattle.previous_gtids_event.proofs.Writing.{headerNumber}
+use Rattle.previous_gtids_event.proofs.RoundTrip.{header-says}
+use Rattle.set_check.proofs.HeaderLaws.{header-there}
 use Rattle.resume_set.specs.Find.{entriesOf}
 use Rattle.resume_set.proofs.EntryLaws.{NextEntry, entry-next}
 use Rattle.listing.specs.SetText.{newline, keyText, intervalsText, entryText, entriesText}
@@ -64,17 +66,6 @@ pub record Ahead (set : List ℕ) (tagged : Bool) (at left : ℕ) : Type 0 where
   pub whole : refusalOf (many (entryAt tagged set) left at) ≡ 0
   pub rule : lawful (entriesFrom set tagged at left) ≡ true
 
-header-says : (w : Bool) (n : ℕ) → n ≤ 256 → (saysTagged (headerNumber w n) ≡ w) × (saysCount (headerNumber w n) ≡ n)
-unfolding saysTagged saysCount
-header-says false n h =
-    let none : n / 2 ^ 56 ≡ 0 = omega arith in
-    let all : n % 2 ^ 56 ≡ n = omega arith in
-    (rw none, rw (none, all))
-header-says true n h =
-    let one : (2 ^ 56 + 1 + 256 * n) / 2 ^ 56 ≡ 1 = omega arith in
-    let count : (2 ^ 56 + 1 + 256 * n) / 256 % 2 ^ 48 ≡ n = omega arith in
-    (rw one, rw (one, count))
-
 -- those of a lent set
 module _ (set : List ℕ) (s : List Entry) (lent : lentSet set ≡ form s) where
   read-whole : previous set ≡ parsed s (length set)
@@ -90,7 +81,7 @@ module _ (set : List ℕ) (s : List Entry) (lent : lentSet set ≡ form s) where
       let few = limits-says s (l .limited) .0 in
       let is : header ≡ headerNumber (anyTag s) (length s) =
       sym (ap (λ (p : Parse ℕ). uintRead p .value) number) ∙ header-there set (anyTag s) (length s) (entriesBytes (anyTag s) s) few (l .written) in
-      let (tagged, count) = header-says (anyTag s) (length s) (omega (arith, maxEntries-is)) in
+      let (below, tagged, count) = header-says (anyTag s) (length s) (omega (arith, maxEntries-is)) in
       let walk : many (entryAt (anyTag s) set) (length s) 8 ≡ parsed s (length set) = rw (ap saysTagged is ∙ tagged, ap saysCount is ∙ count) at all in
       let same = ap entriesOf walk in (
         record { small = small; inside = room; whole = ap refusalOf walk; rule = ap lawful same ∙ lawful-tests s (form-lawful s (l .formed)) },

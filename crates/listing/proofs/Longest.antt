@@ -21,7 +21,6 @@ use Rattle.gtid_sets.specs.Interval.{Gapped}
 use Rattle.gtid_sets.specs.Set.{SetForm}
 use Rattle.gtid_sets.specs.Limits.{maxEntries, maxIntervals, intervals, fine, limits}
 use Rattle.gtid_sets.specs.Lent.{GoodKeys}
-use Rattle.gtid_sets.proofs.ByteLaws.{uuid-length}
 use Rattle.gtid_sets.proofs.LimitLaws.{maxEntries-is, maxIntervals-is, limits-says}
 use Rattle.gtid_sets.proofs.LentLaws.{lent-is}
 use Rattle.set_check.proofs.PlaceLaws.{Bytes}
@@ -60,7 +59,7 @@ entries-most : (s : List Entry) → GoodKeys s → SetForm s → length (entries
 unfolding entriesText entryText
 entries-most [] g f = omega arith
 entries-most (entry k is ∷ s) g f =
-    let key = key-most (uuidOf k) (tagOf k) (uuid-length k (g .0)) (none-or-tag-short (tagOf k) (g .0 .rule)) in
+    let key = key-most (uuidOf k) (tagOf k) (g .0 .uuid) (none-or-tag-short (tagOf k) (g .0 .rule)) in
     let all = intervals-most 0 is (f .1) in
     let rest = entries-most s (g .1) (f .3) in
     simp length-append (omega arith)

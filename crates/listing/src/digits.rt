@@ -1,5 +1,5 @@
 // Numbers and bytes as text.
-use misc::bytes::put_bytes;
+use misc::put::put_bytes;
 ghost use mathlib.Core.Path.{_≡_};
 ghost use Prim.Native.Nat.{_≤_, _<_};
 ghost use lib.ListN.{length};

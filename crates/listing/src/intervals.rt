@@ -1,7 +1,7 @@
 // The intervals of an entry as text.
 use crate::digits::decimal_len;
 use crate::digits::put_decimal;
-use misc::bytes::put_bytes;
+use misc::put::put_bytes;
 use set_check::places::number_at;
 ghost use mathlib.Core.Path.{_≡_};
 ghost use mathlib.Core.Bool.{true};

@@ -1,6 +1,6 @@
 // Keys as text: a uuid with its dashes, and the tag after a colon if there is one.
 use crate::digits::put_hex;
-use misc::bytes::put_bytes;
+use misc::put::put_bytes;
 ghost use mathlib.Core.Path.{_≡_};
 ghost use Prim.Native.Nat.{_≤_};
 ghost use lib.ListN.{length};

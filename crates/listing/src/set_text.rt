@@ -6,7 +6,7 @@ use crate::intervals::put_intervals;
 use crate::keys::key_len;
 use crate::keys::put_key;
 use misc::Wrote;
-use misc::bytes::put_bytes;
+use misc::put::put_bytes;
 use misc::refusal::NO_ROOM;
 use previous_gtids_event::EntryRead;
 use previous_gtids_event::read::entry_at;

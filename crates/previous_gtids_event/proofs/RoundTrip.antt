@@ -76,7 +76,7 @@ module _ (s : List ℕ) (es : List Entry) (used : ℕ) where
       )
 
 -- ---- the bytes that a rewrite gives are a body so laid out
-header-says : (t : Bool) (n : ℕ) → n < 2 ^ 48 → (headerNumber t n < 2 ^ 64) × (saysTagged (headerNumber t n) ≡ t) × (saysCount (headerNumber t n) ≡ n)
+pub header-says : (t : Bool) (n : ℕ) → n < 2 ^ 48 → (headerNumber t n < 2 ^ 64) × (saysTagged (headerNumber t n) ≡ t) × (saysCount (headerNumber t n) ≡ n)
 unfolding saysTagged saysCount
 header-says false n h =
     let none : n / 2 ^ 56 ≡ 0 = omega arith in

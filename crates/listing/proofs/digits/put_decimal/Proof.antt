@@ -66,7 +66,7 @@ same-length c = search needs
 returns : tie.Need-returns Inv-loop μ-loop
 returns c =
     let l = c .before .before .before .before .before .before .before .loop in
-    filled-put (c .before .before .before .before .before .before .before .before .before .args .n) (l .text) (l .first) (l .tens) (l .inv) (omega arith) (put-placed (c .before .before .put-bytes .ensures .0) (c .before .before .put-bytes .ensures .1))
+    filled-put (c .before .before .before .before .before .before .before .before .before .args .n) (l .text) (l .first) (l .tens) (l .inv) (omega arith) (put-placed (c .before .before .put-bytes .ensures))
 
 pub put-decimal-spec : {M : Type 1} → statement M
 put-decimal-spec =

@@ -46,7 +46,7 @@ loop-again : tie.Need-loop-again Inv-loop μ-loop
 loop-again c =
     let a = c .before .before .before .before .before .before .before .before .before .before .before .before .args in
     let l = c .before .before .before .before .before .before .before .before .before .loop in
-    (c .before .before .put-bytes .kept .1 .0 ∙ l .inv .0, putting-turn (l .inv .1) _ (hex (drop (l .i + 1) (now (a .source)))) (hex-more (now (a .source)) (l .i) _ _ (omega arith) (c .before .before .before .before .before .before .hex-digit .ensures) (c .before .before .before .before .before .hex-digit2 .ensures)) _ _ (put-placed (c .before .before .put-bytes .ensures .0) (c .before .before .put-bytes .ensures .1)))
+    (c .before .before .put-bytes .kept .1 .0 ∙ l .inv .0, putting-turn (l .inv .1) _ (hex (drop (l .i + 1) (now (a .source)))) (hex-more (now (a .source)) (l .i) _ _ (omega arith) (c .before .before .before .before .before .before .hex-digit .ensures) (c .before .before .before .before .before .hex-digit2 .ensures)) _ _ (put-placed (c .before .before .put-bytes .ensures)))
 
 same-length : tie.Need-same-length Inv-loop μ-loop
 same-length c = c .before .loop .inv .0

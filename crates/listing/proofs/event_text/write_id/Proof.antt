@@ -85,9 +85,9 @@ returns-2 : tie.Need-returns-2
 returns-2 c =
     let a = c .before .before .before .before .before .before .before .before .before .before .before .before .before .before .before .before .before .before .before .before .before .before .before .before .before .before .before .before .before .before .before .before .before .before .args in
     fits-whole _ (omega (arith, c .before .before .before .before .before .before .before .before .before .before .before .before .before .before .before .before .before .before .before .before .before .before .before .before .before .before .decimal-len .ensures .0, c .before .before .before .before .before .before .before .before .before .before .before .before .before .before .before .before .before .before .before .before .before .before .before .before .before .before .before .key-len .ensures .0, id-long (a .event))) (omega (arith, c .before .before .before .before .before .before .before .before .before .before .before .before .before .before .before .before .before .before .before .before .before .before .before .before .before .if1 .left))
-    (id-put (a .event) (put-placed (c .before .before .before .before .before .before .before .before .before .before .before .before .before .before .before .before .before .before .before .before .before .before .put-bytes .ensures .0) (c .before .before .before .before .before .before .before .before .before .before .before .before .before .before .before .before .before .before .before .before .before .before .put-bytes .ensures .1)) (c .before .before .before .before .before .before .before .before .before .before .before .before .before .before .before .before .put-key .ensures)
-    (put-placed (c .before .before .before .before .before .before .before .before .before .before .before .put-bytes2 .ensures .0) (c .before .before .before .before .before .before .before .before .before .before .before .put-bytes2 .ensures .1)) (c .before .before .before .before .before .before .before .put-decimal .ensures)
-    (put-placed (c .before .before .put-bytes3 .ensures .0) (c .before .before .put-bytes3 .ensures .1)))
+    (id-put (a .event) (put-placed (c .before .before .before .before .before .before .before .before .before .before .before .before .before .before .before .before .before .before .before .before .before .before .put-bytes .ensures)) (c .before .before .before .before .before .before .before .before .before .before .before .before .before .before .before .before .put-key .ensures)
+    (put-placed (c .before .before .before .before .before .before .before .before .before .before .before .put-bytes2 .ensures)) (c .before .before .before .before .before .before .before .put-decimal .ensures)
+    (put-placed (c .before .before .put-bytes3 .ensures)))
 
 pub write-id-spec : {M : Type 1} → statement M
 write-id-spec =

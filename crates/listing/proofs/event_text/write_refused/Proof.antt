@@ -43,8 +43,8 @@ returns-2 : tie.Need-returns-2
 returns-2 c =
     let a = c .before .before .before .before .before .before .before .before .before .before .before .before .before .before .before .before .before .args in
     fits-whole _ (ap (λ n. 9 + n) (c .before .before .before .before .before .before .before .before .before .before .before .before .before .before .before .decimal-len .ensures .0) ∙ refused-long (a .refusal)) (omega (arith, c .before .before .before .before .before .before .before .before .before .before .before .before .before .before .if1 .left))
-    (refused-put (a .refusal) (put-placed (c .before .before .before .before .before .before .before .before .before .before .before .put-bytes .ensures .0) (c .before .before .before .before .before .before .before .before .before .before .before .put-bytes .ensures .1)) (c .before .before .before .before .before .before .before .put-decimal .ensures)
-    (put-placed (c .before .before .put-bytes2 .ensures .0) (c .before .before .put-bytes2 .ensures .1)))
+    (refused-put (a .refusal) (put-placed (c .before .before .before .before .before .before .before .before .before .before .before .put-bytes .ensures)) (c .before .before .before .before .before .before .before .put-decimal .ensures)
+    (put-placed (c .before .before .put-bytes2 .ensures)))
 
 pub write-refused-spec : {M : Type 1} → statement M
 write-refused-spec =

@@ -25,7 +25,7 @@ returns : tie.Need-returns
 returns c =
     let a = c .before .before .before .before .before .before .before .before .before .before .before .args in
     let p = c .before .before .before .before .before .before .before .put-bytes .ensures in
-    one-put (a .start) (a .end) (omega arith) (put-placed (p .0) (p .1)) (c .before .before .before .put-decimal .ensures) (omega arith)
+    one-put (a .start) (a .end) (omega arith) (put-placed p) (c .before .before .before .put-decimal .ensures) (omega arith)
 
 slice-aggregate-put-bytes-2 : tie.Need-slice-aggregate-put-bytes-2
 slice-aggregate-put-bytes-2 c = search needs
@@ -44,7 +44,7 @@ returns-2 c =
     let a = c .before .before .before .before .before .before .before .before .before .before .before .before .before .before .before .before .before .before .before .before .args in
     let p = c .before .before .before .before .before .before .before .before .before .before .before .before .before .before .before .before .put-bytes .ensures in
     let q = c .before .before .before .before .before .before .put-bytes2 .ensures in
-    more-put (a .start) (a .end) (omega arith) (put-placed (p .0) (p .1)) (c .before .before .before .before .before .before .before .before .before .before .before .before .put-decimal .ensures) (c .before .before .before .before .before .before .before .before .before .if1 .left) (put-placed (q .0) (q .1)) (c .before .before .put-decimal2 .ensures)
+    more-put (a .start) (a .end) (omega arith) (put-placed p) (c .before .before .before .before .before .before .before .before .before .before .before .before .put-decimal .ensures) (c .before .before .before .before .before .before .before .before .before .if1 .left) (put-placed q) (c .before .before .put-decimal2 .ensures)
 
 pub put-interval-spec : {M : Type 1} → statement M
 put-interval-spec =

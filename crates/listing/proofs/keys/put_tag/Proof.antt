@@ -24,7 +24,7 @@ same-length : tie.Need-same-length
 same-length c = search needs
 
 returns-2 : tie.Need-returns-2
-returns-2 c = tag-put (now (c .before .before .before .before .before .before .before .before .before .before .before .before .args .tag)) (c .before .before .before .before .before .before .before .before .before .if1 .left) (put-placed (c .before .before .before .before .before .before .put-bytes .ensures .0) (c .before .before .before .before .before .before .put-bytes .ensures .1)) (put-placed (c .before .before .put-bytes2 .ensures .0) (c .before .before .put-bytes2 .ensures .1))
+returns-2 c = tag-put (now (c .before .before .before .before .before .before .before .before .before .before .before .before .args .tag)) (c .before .before .before .before .before .before .before .before .before .if1 .left) (put-placed (c .before .before .before .before .before .before .put-bytes .ensures)) (put-placed (c .before .before .put-bytes2 .ensures))
 
 pub put-tag-spec : {M : Type 1} → statement M
 put-tag-spec =

@@ -36,7 +36,7 @@ returns : tie.Need-returns
 returns c =
     let s = c .before .before .before .before .before .before .before .before .before .before .before .before .before .before .before .before .before .before .before in
     let last = c .before .before .put-bytes .ensures in
-    entry-put (now (s .args .set)) (s .args .entry) (s .pre) (c .before .before .before .before .before .before .before .before .before .before .before .put-key .ensures) (c .before .before .before .before .before .before .before .put-intervals .ensures) (put-placed (last .0) (last .1))
+    entry-put (now (s .args .set)) (s .args .entry) (s .pre) (c .before .before .before .before .before .before .before .before .before .before .before .put-key .ensures) (c .before .before .before .before .before .before .before .put-intervals .ensures) (put-placed last)
 
 pub put-entry-spec : {M : Type 1} → statement M
 put-entry-spec =

@@ -40,8 +40,8 @@ returns c =
     let entries = c .before .before .before .before .before .before .before .before .before .before .before .before .before .before .before .before .before .before .before .before .put-bytes2 .ensures in
     let intervals = c .before .before .before .before .before .before .before .before .before .before .before .put-bytes3 .ensures in
     let last = c .before .before .put-bytes4 .ensures in
-    put-placed (word .0) (word .1) also put-placed (entries .0) (entries .1) also c .before .before .before .before .before .before .before .before .before .before .before .before .before .before .before .before .put-decimal .ensures also put-placed (intervals .0) (intervals .1)
-    also c .before .before .before .before .before .before .before .put-decimal2 .ensures also put-placed (last .0) (last .1)
+    put-placed word also put-placed entries also c .before .before .before .before .before .before .before .before .before .before .before .before .before .before .before .before .put-decimal .ensures also put-placed intervals
+    also c .before .before .before .before .before .before .before .put-decimal2 .ensures also put-placed last
 
 pub put-head-spec : {M : Type 1} → statement M
 put-head-spec =
