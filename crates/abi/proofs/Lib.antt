@@ -1,2 +1,3 @@
--- Laws that the proofs of `abi` share.
+-- Laws that the functions of this crate cite.
 pub mod NumberLaws
+pub mod FlatLaws

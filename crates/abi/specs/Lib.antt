@@ -1,2 +1,4 @@
--- What `abi` promises is said by the definitions of the crates that it calls; `Answers` gives the cases of an offer as numbers.
+-- What `abi` promises is said by the definitions of the crates that it calls; `Answers` gives the cases of an offer as numbers, and
+-- `Flat` a GTID record as bytes.
 pub mod Answers
+pub mod Flat

@@ -1,15 +1,26 @@
 // The library's calls as functions that Rust and C can link, over numbers and byte slices. Each returns the number of its refusal,
 // 0 for none, and hands its other answers out through `&mut` numbers. None asks anything of its caller.
+use flat::SIZE;
+use flat::put_record;
+use flat::record_in;
+use gtid_event_read::read;
+use gtid_event_write::write::write;
+use misc::refusal::NO_ROOM;
+use misc::refusal::NOT_WRITABLE;
 use resume_set::Offered;
 ghost use mathlib.Core.Path.{_≡_};
 ghost use lib.ListN.{length};
 ghost use Rattle.misc.specs.Output.{bytes, outputOf, answerOf};
 ghost use Rattle.previous_gtids_event.specs.Previous.{previous};
 ghost use Rattle.previous_gtids_event.specs.Rewrite.{rewritten};
+ghost use Rattle.gtid_event_read.specs.Read.{gtid};
 ghost use Rattle.gtid_sets.specs.Lent.{lentSet};
 ghost use Rattle.resume_set.specs.Answers.{setRead, contained, takenIn, eventOf, offered, output};
 ghost use Rattle.listing.specs.EventText.{listing};
 ghost use Rattle.abi.specs.Answers.{numbersOf, bit};
+ghost use Rattle.abi.specs.Flat.{readOutput, readUsed, writeOutput};
+
+mod flat;
 
 // Whether bytes are a set (0, else 14), and how many entries and intervals it has.
 #[no_mangle]
@@ -132,4 +143,43 @@ pub extern "C" fn gtid_offer(
     *kind = said.kind;
     *len = said.len;
     said.refusal
+}
+
+// Reads a GTID event of this type: its record is written, as 116 bytes, and `used` is how many bytes of the body the event has.
+#[no_mangle]
+pub extern "C" fn gtid_read(event_type: u8, body: &[u8], out: &mut [u8], used: &mut usize) -> u8
+    ensures { λ r. ⌜ r ≡ answerOf (now (out .entry)) (readOutput (gtid «event_type» (now (body .entry)))) .refusal ⌝ }
+    ensures { λ _. ⌜ now (used .exit) ≡ readUsed (gtid «event_type» (now (body .entry))) (length (now (out .entry))) ⌝ }
+    ensures { λ _. ⌜ now (out .exit) ≡ outputOf (now (out .entry)) (readOutput (gtid «event_type» (now (body .entry)))) ⌝ }
+{
+    let said = read(event_type, body);
+    let refusal = said.refusal;
+    if refusal != 0 {
+        *used = 0;
+        return refusal;
+    }
+    if out.len() < SIZE {
+        *used = SIZE;
+        return NO_ROOM;
+    }
+    *used = said.used;
+    let event = said.event;
+    put_record(event, out, 0);
+    0
+}
+
+// Writes the event of a record, which is 116 bytes.
+#[no_mangle]
+pub extern "C" fn gtid_write(fields: &[u8], out: &mut [u8], len: &mut usize) -> u8
+    ensures { λ r. ⌜ r ≡ answerOf (now (out .entry)) (writeOutput (now (fields .entry))) .refusal ⌝ }
+    ensures { λ _. ⌜ now (len .exit) ≡ answerOf (now (out .entry)) (writeOutput (now (fields .entry))) .len ⌝ }
+    ensures { λ _. ⌜ now (out .exit) ≡ outputOf (now (out .entry)) (writeOutput (now (fields .entry))) ⌝ }
+{
+    if fields.len() != SIZE {
+        *len = 0;
+        return NOT_WRITABLE;
+    }
+    let wrote = write(record_in(fields), out);
+    *len = wrote.len;
+    wrote.refusal
 }

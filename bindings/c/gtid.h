@@ -1,0 +1,98 @@
+/* The GTID library's calls for C (and for Rust, by the same shapes). Link target/staticlib/libabi.a, which
+ * `rt staticlib abi` writes.
+ *
+ * A lent piece of bytes is two arguments, where it begins and how many bytes it has. A pointer is never NULL, also where
+ * there are no bytes: then any other address will do. A number that is handed out must not stand inside lent bytes, two
+ * numbers of one call must be different ones, and an output must not overlap an input.
+ *
+ * Each call returns the number of its refusal, 0 for none:
+ *    1  the bytes, or the payload that they declare, end too early
+ *    2  a number of a tagged event is too large          3  one that is negative
+ *    4  the version byte of a tagged event isn't 2       5  a field that isn't known and may not be ignored
+ *    6  a tag breaks the tag rule                        7  a tagged event has no tag
+ *    8  an event type that the call doesn't serve        9  a declared payload is smaller than its envelope
+ *   10  a length-encoded number begins with FB or FF    11  a body has more than 65,536 bytes
+ *   12  a record can't be written                       13  the output is too short: `*len` bytes are needed
+ *   14  bytes that should be a set are none             15  a transaction number is outside its rule
+ *   16  the set would be larger than sets may be
+ * Where a call writes, `*len` bytes stand at the front of the output, and the rest of it is as it was. Where a call refuses,
+ * all of the output is as it was, and `*len` is 0, but for refusal 13.
+ *
+ * A call uses up to 200 KB of the stack. None keeps anything, so calls on different memory may run at the same time. */
+#ifndef GTID_H
+#define GTID_H
+
+#include <stddef.h>
+#include <stdint.h>
+
+#ifdef __cplusplus
+extern "C" {
+#endif
+
+/* Whether bytes are a set of transaction ids as this library saves it, and how many entries and intervals it has.
+ * Refuses with 14; then both numbers are 0. */
+uint8_t gtid_check_set(const uint8_t *set, size_t set_len, uint64_t *entries, uint64_t *intervals);
+
+/* Whether a set has an id: `*present` is 1 or 0. No tag is a tag of no bytes. What can be no id (a uuid that hasn't 16
+ * bytes, a tag or a number that breaks its rule) isn't there. Refuses with 14. */
+uint8_t gtid_contains(const uint8_t *set, size_t set_len, const uint8_t *uuid, size_t uuid_len,
+                      const uint8_t *tag, size_t tag_len, uint64_t gno, uint8_t *present);
+
+/* Takes in the body of a Previous-GTIDs event (type 35): writes the set of all its ids.
+ * Refuses with 11, 1, 6, 15, 16 and 13. */
+uint8_t gtid_take_in(const uint8_t *body, size_t body_len, uint8_t *out, size_t out_len, size_t *len);
+
+/* Writes the entries that the body of a Previous-GTIDs event holds anew, as they stand: with tags only if one of them has
+ * one, and every length in its shortest form. Refuses with 11, 1, 6 and 13. */
+uint8_t gtid_rewrite(const uint8_t *body, size_t body_len, uint8_t *out, size_t out_len, size_t *len);
+
+/* What `*kind` says of an offer. */
+#define GTID_REFUSED 0
+#define GTID_TAKEN 1
+#define GTID_ALREADY_THERE 2
+#define GTID_NO_ID 3
+
+/* Offers a GTID event (type 33, 34 or 42) to a set, and writes the set after it, also where it is the same: the id is taken,
+ * or it is already there, or the event has none (type 34). Refuses with 14, with what the event's body is refused for
+ * (1 to 11), and with 15, 16 and 13. */
+uint8_t gtid_offer(const uint8_t *set, size_t set_len, uint8_t event_type, const uint8_t *body, size_t body_len,
+                   uint8_t *out, size_t out_len, uint8_t *kind, size_t *len);
+
+/* Writes the text of an event: the input is the byte of its type with its body behind it. An event that is refused has a
+ * text too, which tells the number. Refuses with 13 only. */
+uint8_t gtid_list(const uint8_t *input, size_t input_len, uint8_t *out, size_t out_len, size_t *len);
+
+/* A record of a GTID event as bytes. Numbers have their lowest byte first.
+ *    place  bytes
+ *        0      1  flags
+ *        1     16  uuid
+ *       17      8  gno, the transaction number
+ *       25      1  how many bytes the tag has; 0 is no tag
+ *       26     32  the tag, and zeros after it
+ *       58      1  1 if there is a typecode, else 0
+ *       59      1  the typecode
+ *       60      8  last_committed
+ *       68      8  sequence_number
+ *       76      8  immediate commit timestamp
+ *       84      8  original commit timestamp
+ *       92      8  transaction length
+ *      100      4  immediate server version
+ *      104      4  original server version
+ *      108      8  commit group ticket */
+#define GTID_RECORD_LEN 116
+
+/* Reads the body of a GTID event (type 33, 34 or 42): writes its record, and `*used` is how many bytes of the body it takes.
+ * Refuses with 8, with what the body is refused for (1 to 11; then `*used` is 0), and with 13 if there is no room for 116
+ * bytes (then `*used` is 116). */
+uint8_t gtid_read(uint8_t event_type, const uint8_t *body, size_t body_len, uint8_t *record, size_t record_len, size_t *used);
+
+/* Writes the body of the event that a record describes, of type 42 if it has a tag, else 33. A typecode counts only if the
+ * byte before it isn't 0. Refuses with 12 if the record hasn't exactly 116 bytes, or wouldn't come back equal from the body
+ * that would be written; and with 13. */
+uint8_t gtid_write(const uint8_t *record, size_t record_len, uint8_t *out, size_t out_len, size_t *len);
+
+#ifdef __cplusplus
+}
+#endif
+
+#endif

@@ -1,0 +1,121 @@
+-- Laws of the record as bytes (`specs/Flat.antt`): its length, what is read from it, and what the two calls over it answer.
+use mathlib.Core.Path.{_≡_, refl, sym, ap, _∙_}
+use mathlib.Core.List.{List, append-nil}
+use Prim.Native.Nat.{ℕ, _+_, _-_, _≤_, _<_}
+use native.Mathlib.Nat.{sub-self}
+use native.Mathlib.Omega.{arith}
+use lib.ListN.{length, getD, take, drop, replicate, length-append, length-drop}
+use lib.Seq.{take-all}
+use borrow.Author.Tests.{eq-eqb, ne-eqb, le-leb, lt-leb}
+use Rattle.misc.specs.Refusal.{number, noRoom, notWritable}
+use Rattle.misc.specs.Parse.{Bytes, part}
+use Rattle.misc.specs.Output.{bytes, outputOf, answerOf, WhereFits}
+use Rattle.misc.specs.declared.Wrote.{Wrote}
+use Rattle.misc.proofs.LeLaws.{length-leBytes}
+use Rattle.misc.proofs.ParseLaws.{part-length}
+use Rattle.misc.proofs.OutputLaws.{fromOn, output-fits, output-short, output-refused}
+use Rattle.packets.specs.Kept.{padded, kept}
+use Rattle.gtid_event.specs.declared.GtidEvent.{GtidEvent}
+use Rattle.gtid_event_read.specs.Read.{gtid, gtidRead}
+use Rattle.gtid_event_read.specs.declared.GtidRead.{GtidRead}
+use Rattle.gtid_event_write.specs.Write.{eventOutput}
+use Rattle.set_check.specs.Places.{numberAt}
+use Rattle.resume_set.proofs.AnswerLaws.{read-refused, read-told, key-parts}
+use Rattle.abi.specs.Flat.{flat, flatIdentity, flatClock, flatRest, versionAt, typecodeIf, flatRead, readOutput, readUsed, writeOutput}
+use Rattle.abi.proofs.NumberLaws.{wrote-parts}
+
+pub length-flat : (e : GtidEvent) → length (e .sid) ≡ 16 → length (e .tag) ≡ 32 → length (flat e) ≡ 116
+unfolding flat flatIdentity flatClock flatRest
+length-flat e uuid tag = simp (length-append, length-leBytes, uuid, tag)
+
+-- ---- the record in bytes
+
+-- a field of bytes that are all there
+kept-there : (s : List ℕ) (at width : ℕ) → at + width ≤ length s → kept width (fromOn s at) ≡ part s at width
+unfolding padded
+kept-there s at width h =
+    let rest : fromOn s at ≡ drop at s = take-all (length s - at) (drop at s) (rw length-drop (omega arith)) in
+    rw (rest, part-length width s at h, sub-self) (append-nil (part s at width))
+
+pub record-is : (s sid tag : List ℕ) (gno typecode last sequence immediate original len version originally ticket : ℕ)
+    → length s ≡ 116
+    → sid ≡ kept 16 (fromOn s 1)
+    → gno ≡ numberAt s 17
+    → tag ≡ kept 32 (fromOn s 26)
+    → typecode ≡ typecodeIf (getD s 58 0) (getD s 59 0)
+    → last ≡ numberAt s 60
+    → sequence ≡ numberAt s 68
+    → immediate ≡ numberAt s 76
+    → original ≡ numberAt s 84
+    → len ≡ numberAt s 92
+    → version ≡ versionAt s 100
+    → originally ≡ versionAt s 104
+    → ticket ≡ numberAt s 108
+    → _≡_ {A = GtidEvent}
+    (record {
+      flags = getD s 0 0;
+      sid = sid;
+      gno = gno;
+      tag = tag;
+      «tag_len» = getD s 25 0;
+      «lc_typecode» = typecode;
+      «last_committed» = last;
+      «sequence_number» = sequence;
+      «immediate_commit_timestamp» = immediate;
+      «original_commit_timestamp» = original;
+      «tx_length» = len;
+      «immediate_server_version» = version;
+      «original_server_version» = originally;
+      «commit_group_ticket» = ticket;
+    })
+    (flatRead s)
+unfolding flatRead
+record-is s sid tag gno typecode last sequence immediate original len version originally ticket whole a b c d e f g h i j k l =
+    let uuid : sid ≡ part s 1 16 = a ∙ kept-there s 1 16 (omega arith) in
+    let field : tag ≡ part s 26 32 = c ∙ kept-there s 26 32 (omega arith) in
+    rw (uuid, b, field, d, e, f, g, h, i, j, k, l)
+
+-- ---- `gtid_read`
+
+module _ (type : ℕ) (body : List ℕ) (said : GtidRead) (is : said ≡ gtidRead (gtid type body)) (out : List ℕ) where
+  pub told-refused : (said .refusal ≡ 0 → ⊥)
+      → (said .refusal ≡ answerOf out (readOutput (gtid type body)) .refusal)
+      × ((0 ≡ readUsed (gtid type body) (length out)) × (out ≡ outputOf out (readOutput (gtid type body))))
+  told-refused h =
+      let (x, e, n) = read-refused type body said is h in
+      let (a, b) = output-refused out x in
+      rw e (n ∙ ap (λ (w : Wrote). w .refusal) a, (refl, b))
+
+  module _ (read : said .refusal ≡ 0) (ok : Bytes body) where
+    size : length (flat (said .event)) ≡ 116
+    size = let p = key-parts type body said is read ok in length-flat (said .event) (p .0) (p .2)
+
+    pub told-short : length out < 116
+        → (number noRoom ≡ answerOf out (readOutput (gtid type body)) .refusal)
+        × ((116 ≡ readUsed (gtid type body) (length out)) × (out ≡ outputOf out (readOutput (gtid type body))))
+    told-short h =
+        let (a, b) = output-short out (flat (said .event)) 116 (sym size) h in
+        rw (read-told type body said is read, lt-leb 116 (length out) h) (ap (λ (w : Wrote). w .refusal) a, (refl, b))
+
+    pub told-record : {after : List ℕ} {n : ℕ} → 116 ≤ length out → WhereFits out 0 (flat (said .event)) after n
+        → (0 ≡ answerOf out (readOutput (gtid type body)) .refusal)
+        × ((said .used ≡ readUsed (gtid type body) (length out)) × (after ≡ outputOf out (readOutput (gtid type body))))
+    told-record h p =
+        let room : length (flat (said .event)) ≤ length out = omega (arith, size) in
+        let (a, b) = output-fits room (p .placed (omega arith)) in
+        rw (read-told type body said is read, le-leb 116 (length out) h) (ap (λ (w : Wrote). w .refusal) a, (refl, b))
+
+-- ---- `gtid_write`
+
+pub write-unfit : (s out : List ℕ) → (length s ≡ 116 → ⊥)
+    → (number notWritable ≡ answerOf out (writeOutput s) .refusal) × ((0 ≡ answerOf out (writeOutput s) .len) × (out ≡ outputOf out (writeOutput s)))
+unfolding writeOutput
+write-unfit s out h =
+    let (a, b) = output-refused out notWritable in
+    rw (ne-eqb (length s) 116 h) (ap (λ (w : Wrote). w .refusal) a, (ap (λ (w : Wrote). w .len) a, b))
+
+pub write-told : (s out after : List ℕ) (e : GtidEvent) (w : Wrote) → length s ≡ 116 → e ≡ flatRead s
+    → (w ≡ answerOf out (eventOutput e)) × (after ≡ outputOf out (eventOutput e))
+    → (w .refusal ≡ answerOf out (writeOutput s) .refusal) × ((w .len ≡ answerOf out (writeOutput s) .len) × (after ≡ outputOf out (writeOutput s)))
+unfolding writeOutput
+write-told s out after e w whole is told = rw (eq-eqb (length s) 116 whole, ← is) (wrote-parts w (answerOf out (eventOutput e)) after (outputOf out (eventOutput e)) told)

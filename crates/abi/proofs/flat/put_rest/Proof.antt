@@ -1,0 +1,36 @@
+-- `abi::flat::put_rest` meets its contract.
+use Rattle.misc.proofs.OutputLaws.{_also_, put-placed}
+use Rattle.abi.specs.Flat.{flatRest}
+use borrow.Author.Needs.{needs}
+use Rattle.abi.proofs.flat.put_rest.Statement.{statement}
+use Rattle.abi.proofs.flat.put_rest.Tie as tie
+
+put-u64-le-requires : tie.Need-put-u64-le-requires
+put-u64-le-requires c κs = search needs
+
+put-u32-le-requires : tie.Need-put-u32-le-requires
+put-u32-le-requires c κs = search needs
+
+put-u32-le-requires-2 : tie.Need-put-u32-le-requires-2
+put-u32-le-requires-2 c κs = search needs
+
+put-u64-le-requires-2 : tie.Need-put-u64-le-requires-2
+put-u64-le-requires-2 c κs = search needs
+
+same-length : tie.Need-same-length
+same-length c = search needs
+
+returns : tie.Need-returns
+unfolding flatRest
+returns c = put-placed (c .before .before .before .before .before .before .before .before .before .before .before .before .before .before .put-u64-le .ensures) also put-placed (c .before .before .before .before .before .before .before .before .before .before .put-u32-le .ensures) also put-placed (c .before .before .before .before .before .before .put-u32-le2 .ensures) also put-placed (c .before .before .put-u64-le2 .ensures)
+
+pub put-rest-spec : {M : Type 1} → statement M
+put-rest-spec =
+    tie.close
+    (tie.spec
+    put-u64-le-requires
+    put-u32-le-requires
+    put-u32-le-requires-2
+    put-u64-le-requires-2
+    same-length
+    returns)
