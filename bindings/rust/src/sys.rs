@@ -1,0 +1,42 @@
+//! The archive's functions (`bindings/c/gtid.h` says what each does), and lending an output.
+use crate::Refusal;
+
+extern "C" {
+    pub fn gtid_check_set(set: *const u8, set_len: usize, entries: *mut u64, intervals: *mut u64) -> u8;
+    pub fn gtid_contains(
+        set: *const u8,
+        set_len: usize,
+        uuid: *const u8,
+        uuid_len: usize,
+        tag: *const u8,
+        tag_len: usize,
+        gno: u64,
+        present: *mut u8,
+    ) -> u8;
+    pub fn gtid_take_in(body: *const u8, body_len: usize, out: *mut u8, out_len: usize, len: *mut usize) -> u8;
+    pub fn gtid_rewrite(body: *const u8, body_len: usize, out: *mut u8, out_len: usize, len: *mut usize) -> u8;
+    pub fn gtid_offer(
+        set: *const u8,
+        set_len: usize,
+        event_type: u8,
+        body: *const u8,
+        body_len: usize,
+        out: *mut u8,
+        out_len: usize,
+        kind: *mut u8,
+        len: *mut usize,
+    ) -> u8;
+    pub fn gtid_list(input: *const u8, input_len: usize, out: *mut u8, out_len: usize, len: *mut usize) -> u8;
+    pub fn gtid_read(event_type: u8, body: *const u8, body_len: usize, record: *mut u8, record_len: usize, used: *mut usize) -> u8;
+    pub fn gtid_write(record: *const u8, record_len: usize, out: *mut u8, out_len: usize, len: *mut usize) -> u8;
+}
+
+/// Lends a call an output of `room` bytes, and hands out those that it wrote.
+pub fn written(room: usize, call: impl FnOnce(&mut [u8], &mut usize) -> u8) -> Result<Vec<u8>, Refusal> {
+    let mut out = vec![0; room];
+    let mut len = 0;
+    let number = call(&mut out, &mut len);
+    Refusal::unless_zero(number, len)?;
+    out.truncate(len);
+    Ok(out)
+}
