@@ -1,0 +1,225 @@
+//! Compares this repository's answers with those of the given files of mysql_common 0.38.2 (README.md).
+//!
+//!     compare [CASES [SEED]]      PROBE: the path of the program probe
+
+mod case;
+mod differences;
+mod generate;
+mod ours;
+mod random;
+mod table;
+mod words;
+
+use case::{Case, Input};
+use ours::Ours;
+use random::Random;
+use std::{env, io, panic, process::ExitCode, thread, time::Instant};
+use table::Table;
+use theirs::answers::Told;
+
+/// How many cases are asked in one go, and how many bytes of requests at most.
+const BATCH: usize = 40_000;
+const BATCH_BYTES: usize = 8_000_000;
+
+/// So many unsorted differences are printed in full; the rest is counted.
+const PRINTED: u64 = 200;
+
+/// One that answers for the repository, and what was found of it.
+struct Side {
+    ours: Box<dyn Ours>,
+    table: Table,
+    /// By kind: the unsorted difference with the shortest input.
+    smallest: Vec<Option<(usize, String)>>,
+}
+
+struct Comparison {
+    sides: Vec<Side>,
+    batch: Vec<Case>,
+    bytes: usize,
+    asked: u64,
+    failed: Option<io::Error>,
+}
+
+impl Comparison {
+    fn put(&mut self, case: Case) {
+        self.bytes += case.body().len() + 150;
+        self.batch.push(case);
+        if self.batch.len() >= BATCH || self.bytes >= BATCH_BYTES {
+            self.compare();
+        }
+    }
+
+    fn compare(&mut self) {
+        let batch = std::mem::take(&mut self.batch);
+        self.bytes = 0;
+        self.asked += batch.len() as u64;
+        if self.failed.is_some() || batch.is_empty() {
+            return;
+        }
+        let (ours, theirs) = thread::scope(|scope| {
+            let theirs = scope.spawn(|| batch.iter().map(Case::theirs).collect::<Vec<_>>());
+            let ours: Vec<_> = self
+                .sides
+                .iter()
+                .map(|side| answers_of(side.ours.as_ref(), &batch))
+                .collect();
+            (ours, theirs.join().expect("panics of the crate are caught"))
+        });
+        for (side, answers) in self.sides.iter_mut().zip(ours) {
+            match answers {
+                Ok(answers) => answers
+                    .iter()
+                    .for_each(|(place, line)| side.judge(&batch[*place], line, &theirs[*place])),
+                Err(error) => self.failed = Some(error),
+            }
+        }
+    }
+}
+
+impl Side {
+    fn new(ours: Box<dyn Ours>) -> Self {
+        Self {
+            ours,
+            table: Table::default(),
+            smallest: vec![None; case::KINDS.len()],
+        }
+    }
+
+    fn judge(&mut self, case: &Case, ours: &str, theirs: &Told<String>) {
+        let kind = case.kind.row();
+        let row = &mut self.table.rows[kind];
+        if differences::equal(ours, theirs) {
+            match theirs {
+                Told::Ok(_) => row.accepted += 1,
+                _ => row.refused += 1,
+            }
+            return;
+        }
+        if let Some(number) = differences::sort(case, ours, theirs) {
+            row.differences[number - 1] += 1;
+            return;
+        }
+        row.unsorted += 1;
+        let told = described(case, ours, theirs);
+        if self.table.whole().unsorted <= PRINTED {
+            println!("{told}");
+        }
+        let size = case.part_a().len();
+        let smallest = &mut self.smallest[kind];
+        if smallest.as_ref().is_none_or(|(least, _)| size < *least) {
+            *smallest = Some((size, told));
+        }
+    }
+
+    /// Prints what was found; how many differences are unsorted.
+    fn print(&self) -> u64 {
+        println!("Ours: {}.", self.ours.name());
+        println!();
+        self.table.print();
+        let unsorted = self.table.whole().unsorted;
+        println!();
+        if unsorted == 0 {
+            println!("Every difference is one of D1 to D{}.", differences::COUNT);
+        } else {
+            println!(
+                "{unsorted} differences are not among D1 to D{}; of each kind the shortest:",
+                differences::COUNT
+            );
+            self.smallest
+                .iter()
+                .flatten()
+                .for_each(|(_, told)| println!("{told}"));
+        }
+        println!();
+        unsorted
+    }
+}
+
+/// The answers of a side to the cases that it has, each with the case's place.
+fn answers_of(side: &dyn Ours, batch: &[Case]) -> io::Result<Vec<(usize, String)>> {
+    let places: Vec<usize> = (0..batch.len())
+        .filter(|place| side.has(&batch[*place]))
+        .collect();
+    let lines = if places.len() == batch.len() {
+        side.ask(batch)?
+    } else {
+        let cases: Vec<Case> = places.iter().map(|place| batch[*place].clone()).collect();
+        side.ask(&cases)?
+    };
+    Ok(places.into_iter().zip(lines).collect())
+}
+
+fn described(case: &Case, ours: &str, theirs: &Told<String>) -> String {
+    let input = match &case.input {
+        Input::Bytes(_) => String::new(),
+        other => format!(", {other:?}"),
+    };
+    format!(
+        "not among D1 to D{}: call {} ({}), type {}, out_len {}{input}\n  A = {}\n  ours:   {ours}\n  theirs: {theirs:?}",
+        differences::COUNT,
+        case.kind.call(),
+        case.kind.name(),
+        case.event_type,
+        case.out_len,
+        words::hex(&case.part_a()),
+    )
+}
+
+fn main() -> ExitCode {
+    let numbers: Option<Vec<u64>> = env::args()
+        .skip(1)
+        .map(|word| word.replace([',', '_'], "").parse().ok())
+        .collect();
+    let Some(numbers) = numbers.filter(|numbers| numbers.len() <= 2) else {
+        eprintln!("compare [CASES [SEED]]");
+        return ExitCode::from(2);
+    };
+    let cases = numbers.first().copied().unwrap_or(4_000_000);
+    let seed = numbers.get(1).copied().unwrap_or(1);
+    let path = env::var("PROBE").unwrap_or_else(|_| "../target/bin/probe".to_owned());
+    // Panics in the crate's files are answers here: they are caught, and not told on standard error.
+    let told = panic::take_hook();
+    panic::set_hook(Box::new(move |panic| {
+        if !panic
+            .location()
+            .is_some_and(|location| location.file().contains("theirs/src/binlog/"))
+        {
+            told(panic);
+        }
+    }));
+
+    let begun = Instant::now();
+    let mut comparison = Comparison {
+        sides: vec![Side::new(Box::new(ours::Probe { path }))],
+        batch: Vec::new(),
+        bytes: 0,
+        asked: 0,
+        failed: None,
+    };
+    #[cfg(archive)]
+    comparison.sides.push(Side::new(Box::new(ours::Archive)));
+    let mut random = Random::new(seed);
+    generate::fixed(&mut random, &mut |case| comparison.put(case));
+    let fixed = comparison.asked + comparison.batch.len() as u64;
+    while comparison.asked + (comparison.batch.len() as u64) < cases && comparison.failed.is_none()
+    {
+        comparison.put(generate::random(&mut random));
+    }
+    comparison.compare();
+    if let Some(error) = comparison.failed {
+        println!("ours failed: {error}");
+        return ExitCode::from(2);
+    }
+
+    let (asked, seconds) = (comparison.asked, begun.elapsed().as_secs());
+    println!(
+        "{asked} cases, seed {seed} ({fixed} of them fixed, the others random), {seconds} seconds."
+    );
+    println!();
+    let unsorted: u64 = comparison.sides.iter().map(Side::print).sum();
+    if unsorted == 0 {
+        ExitCode::SUCCESS
+    } else {
+        ExitCode::FAILURE
+    }
+}

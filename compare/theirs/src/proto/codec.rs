@@ -1,0 +1,1 @@
+// STAND-IN for proto/codec: named by proto/mod.rs, used by none of the given files.
