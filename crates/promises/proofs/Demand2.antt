@@ -1,18 +1,21 @@
 -- Demand 2 holds of the reader and the writers that our functions promise.
-use Prim.Native.Nat.{ℕ, _+_}
+use Prim.Native.Nat.{ℕ, _+_, _≤_}
 use mathlib.Core.Path.{_≡_}
 use mathlib.Core.Bool.{true}
 use mathlib.Core.List.{List, [], _∷_, _++_, append-assoc}
 use native.Mathlib.Omega.{arith}
 use lib.ListN.{length, length-append}
 use Rattle.misc.specs.Refusal.{notWritable}
+use Rattle.misc.specs.Parse.{Bytes, parsed}
 use Rattle.misc.specs.Output.{bytes, refused}
 use Rattle.misc.specs.Varlen.{sizeFrom, varlenSize, varlenBytes}
 use Rattle.misc.proofs.VarlenLaws.{length-varlenBytes}
 use Rattle.packets.proofs.Tests.{split}
 use Rattle.previous_gtids_event.specs.Previous.{previous}
 use Rattle.previous_gtids_event.specs.Rewrite.{bodyBytes}
-use Rattle.previous_gtids_event.proofs.RoundTrip.{read-again}
+use Rattle.previous_gtids_event.proofs.RoundTrip.{BodyLaid, laid-read, read-laid, read-again}
+use Rattle.previous_gtids_event.proofs.Laying.{WellFormed}
+use Rattle.previous_gtids_event.specs.Entry.{Entry}
 use Rattle.gtid_event.specs.declared.GtidEvent.{GtidEvent}
 use Rattle.gtid_event.specs.Event.{tagged}
 use Rattle.gtid_event_read.specs.Read.{gtid}
@@ -65,3 +68,8 @@ least-size e bs is w = rw (← (written e bs w .1)) (declares e is)
 
 pub entries-back : EntriesBack previous bodyBytes
 entries-back body es used are read = read-again body are es used read
+
+-- what is accepted is laid out as the format says, and whatever is laid out so is accepted
+pub entries-mean : (s : List ℕ) (es : List Entry) (used : ℕ) → Bytes s → length s ≤ 65536
+    → (previous s ≡ parsed es used → BodyLaid s es used × WellFormed es) × (WellFormed es → BodyLaid s es used → previous s ≡ parsed es used)
+entries-mean s es used are small = (read-laid s es used are, laid-read s es used small)
