@@ -1,0 +1,900 @@
+//! What the repository's archive costs beside the given files of mysql_common 0.38.2, on the same inputs.
+//!
+//!     bench list                  what can be counted, for the script compare/bench
+//!     bench SIDE WHAT TURNS       does WHAT so many times; run it under callgrind with two numbers of turns
+//!     bench stack                 how deep each call of the archive goes into the stack
+//!
+//! Before the turns the answers are checked: both sides give the same, or ours gives what is written out here by hand.
+//! Outputs are lent again and again, and not cleared between turns.
+
+#[cfg(not(archive))]
+compile_error!("GTID_ARCHIVE: the path of libabi.a");
+
+use std::{
+    env,
+    hint::black_box,
+    process::ExitCode,
+    ptr::{self, null_mut},
+};
+use theirs::{
+    binlog::{
+        BinlogCtx,
+        events::{gtid_event::GtidEvent, previous_gtids_event::PreviousGtidsEvent},
+    },
+    io::ParseBuf,
+    proto::{MyDeserialize, MySerialize},
+};
+
+mod linked {
+    unsafe extern "C" {
+        pub fn gtid_check_set(set: *const u8, len: usize, entries: *mut u64, n: *mut u64) -> u8;
+        pub fn gtid_contains(
+            set: *const u8,
+            set_len: usize,
+            uuid: *const u8,
+            uuid_len: usize,
+            tag: *const u8,
+            tag_len: usize,
+            gno: u64,
+            present: *mut u8,
+        ) -> u8;
+        pub fn gtid_take_in(
+            body: *const u8,
+            body_len: usize,
+            out: *mut u8,
+            out_len: usize,
+            len: *mut usize,
+        ) -> u8;
+        pub fn gtid_rewrite(
+            body: *const u8,
+            body_len: usize,
+            out: *mut u8,
+            out_len: usize,
+            len: *mut usize,
+        ) -> u8;
+        pub fn gtid_offer(
+            set: *const u8,
+            set_len: usize,
+            event_type: u8,
+            body: *const u8,
+            body_len: usize,
+            out: *mut u8,
+            out_len: usize,
+            kind: *mut u8,
+            len: *mut usize,
+        ) -> u8;
+        pub fn gtid_list(
+            input: *const u8,
+            input_len: usize,
+            out: *mut u8,
+            out_len: usize,
+            len: *mut usize,
+        ) -> u8;
+        pub fn gtid_read(
+            event_type: u8,
+            body: *const u8,
+            body_len: usize,
+            record: *mut u8,
+            record_len: usize,
+            used: *mut usize,
+        ) -> u8;
+        pub fn gtid_write(
+            record: *const u8,
+            record_len: usize,
+            out: *mut u8,
+            out_len: usize,
+            len: *mut usize,
+        ) -> u8;
+    }
+}
+
+/// The archive's calls over slices. SAFETY, for all of them: every piece is alive, as long as told, and apart from the
+/// others, and so are the numbers; no pointer of a slice is null. gtid.h asks no more.
+mod ours {
+    use super::linked;
+
+    pub struct Answer {
+        pub refusal: u8,
+        pub number: usize,
+        pub kind: u8,
+    }
+
+    macro_rules! over_output {
+        ($name:ident, $call:ident) => {
+            #[inline(always)]
+            pub fn $name(input: &[u8], out: &mut [u8]) -> Answer {
+                let mut number = 0;
+                let refusal = unsafe {
+                    linked::$call(
+                        input.as_ptr(),
+                        input.len(),
+                        out.as_mut_ptr(),
+                        out.len(),
+                        &raw mut number,
+                    )
+                };
+                Answer {
+                    refusal,
+                    number,
+                    kind: 0,
+                }
+            }
+        };
+    }
+
+    over_output!(take_in, gtid_take_in);
+    over_output!(rewrite, gtid_rewrite);
+    over_output!(list, gtid_list);
+    over_output!(write, gtid_write);
+
+    #[inline(always)]
+    pub fn read(event_type: u8, body: &[u8], record: &mut [u8]) -> Answer {
+        let mut number = 0;
+        let refusal = unsafe {
+            linked::gtid_read(
+                event_type,
+                body.as_ptr(),
+                body.len(),
+                record.as_mut_ptr(),
+                record.len(),
+                &raw mut number,
+            )
+        };
+        Answer {
+            refusal,
+            number,
+            kind: 0,
+        }
+    }
+
+    #[inline(always)]
+    pub fn offer(set: &[u8], event_type: u8, body: &[u8], out: &mut [u8]) -> Answer {
+        let (mut kind, mut number) = (0, 0);
+        let refusal = unsafe {
+            linked::gtid_offer(
+                set.as_ptr(),
+                set.len(),
+                event_type,
+                body.as_ptr(),
+                body.len(),
+                out.as_mut_ptr(),
+                out.len(),
+                &raw mut kind,
+                &raw mut number,
+            )
+        };
+        Answer {
+            refusal,
+            number,
+            kind,
+        }
+    }
+
+    #[inline(always)]
+    pub fn check_set(set: &[u8]) -> (u8, u64, u64) {
+        let (mut entries, mut intervals) = (0, 0);
+        let refusal = unsafe {
+            linked::gtid_check_set(
+                set.as_ptr(),
+                set.len(),
+                &raw mut entries,
+                &raw mut intervals,
+            )
+        };
+        (refusal, entries, intervals)
+    }
+
+    #[inline(always)]
+    pub fn contains(set: &[u8], uuid: &[u8], tag: &[u8], gno: u64) -> (u8, u8) {
+        let mut present = 0;
+        let refusal = unsafe {
+            linked::gtid_contains(
+                set.as_ptr(),
+                set.len(),
+                uuid.as_ptr(),
+                uuid.len(),
+                tag.as_ptr(),
+                tag.len(),
+                gno,
+                &raw mut present,
+            )
+        };
+        (refusal, present)
+    }
+}
+
+// ---- what is counted ----
+
+/// A word for it, what it is, and the smaller number of turns; the other is twice that.
+#[rustfmt::skip]
+const TABLE: [(&str, &str, u64); 33] = [
+    ("read-untagged", "read an untagged record (type 33), all fields", 1000),
+    ("read-short", "read an untagged record of 25 bytes", 1000),
+    ("read-tagged", "read a tagged record (type 42), all fields, tag of 10 bytes", 1000),
+    ("read-tagged-32", "the same, tag of 32 bytes", 1000),
+    ("write-untagged", "write the untagged record", 1000),
+    ("write-short", "write the untagged record of 25 bytes", 1000),
+    ("write-tagged", "write the tagged record, tag of 10 bytes", 1000),
+    ("write-tagged-32", "the same, tag of 32 bytes", 1000),
+    ("rewrite-1", "rewrite Previous-GTIDs, 1 interval", 1000),
+    ("rewrite-64", "rewrite Previous-GTIDs, 64 intervals of one uuid", 100),
+    ("rewrite-2048", "rewrite Previous-GTIDs, 2,048 intervals of one uuid", 10),
+    ("rewrite-uuids", "rewrite Previous-GTIDs, 256 uuids, 1 interval each", 10),
+    ("rewrite-tags", "rewrite Previous-GTIDs, 256 tags of 32 bytes, 1 interval each", 10),
+    ("offer-1", "offer, 1 interval", 1000),
+    ("offer-64", "offer, 64 intervals of one uuid", 100),
+    ("offer-512", "offer, 512 intervals of one uuid", 10),
+    ("offer-2047", "offer, 2,047 intervals of one uuid", 10),
+    ("offer-first", "the same, the id before all others", 10),
+    ("offer-there", "the same, the last id, already there", 10),
+    ("offer-64-uuids", "offer, 64 uuids, 1 interval each", 10),
+    ("offer-255-uuids", "offer, 255 uuids, 1 interval each", 10),
+    ("offer-255-tagged", "offer, 255 uuids with 32-byte tags, 1 interval each", 10),
+    ("offer-tags", "offer, 256 tags of one uuid that differ in their last bytes only, 1 interval each", 10),
+    ("offer-longest", "the same with 8 intervals each: the longest set", 10),
+    ("take-in-set", "take in, a set of 2,048 intervals", 10),
+    ("take-in-worst", "take in, one uuid, 4,094 intervals, the highest first and then rising (refused with 16)", 1),
+    ("take-in-merged", "the same, every second one touching the one before it: 2,048 remain", 1),
+    ("take-in-falling", "take in, one uuid, 4,094 intervals, falling (refused with 16)", 1),
+    ("take-in-uuids", "take in, 1,638 uuids with an interval each, falling (refused with 16)", 1),
+    ("take-in-tags", "take in, 897 tags of one uuid with an interval each, falling (refused with 16)", 1),
+    ("check-set", "check_set, 2,047 intervals", 10),
+    ("contains", "contains, 2,047 intervals, the last id", 10),
+    ("list-35", "list, type 35, a set of 2,048 intervals", 10),
+];
+
+type Turns = Box<dyn FnMut(u64)>;
+
+/// One thing that can be counted, checked.
+struct Made {
+    /// The bytes of its input; for an offer those of the set.
+    bytes: usize,
+    ours: Turns,
+    theirs: Option<Turns>,
+}
+
+fn turns(mut once: impl FnMut() + 'static) -> Turns {
+    Box::new(move |count| {
+        for _ in 0..count {
+            once();
+        }
+    })
+}
+
+fn made(what: &str) -> Option<Made> {
+    Some(match what {
+        "read-untagged" => reading(33, untagged()),
+        "read-short" => reading(33, short()),
+        "read-tagged" => reading(42, tagged(b"billing_eu")),
+        "read-tagged-32" => reading(42, tagged(&long_tag(7))),
+        "write-untagged" => writing(33, untagged()),
+        "write-short" => writing(33, short()),
+        "write-tagged" => writing(42, tagged(b"billing_eu")),
+        "write-tagged-32" => writing(42, tagged(&long_tag(7))),
+        "rewrite-1" => rewriting(one_uuid(1)),
+        "rewrite-64" => rewriting(one_uuid(64)),
+        "rewrite-2048" => rewriting(one_uuid(2048)),
+        "rewrite-uuids" => rewriting(uuids(256, false)),
+        "rewrite-tags" => rewriting(tags(256, 1)),
+        "offer-1" => offering(one_uuid(1), 0, apart(1)),
+        "offer-64" => offering(one_uuid(64), 0, apart(64)),
+        "offer-512" => offering(one_uuid(512), 0, apart(512)),
+        "offer-2047" => offering(one_uuid(2047), 0, apart(2047)),
+        "offer-first" => offering(one_uuid(2047), 0, 1),
+        "offer-there" => offering(one_uuid(2047), 0, interval(2046).0),
+        "offer-64-uuids" => offering(uuids(64, false), 63, apart(1)),
+        "offer-255-uuids" => offering(uuids(255, false), 254, apart(1)),
+        "offer-255-tagged" => offering(uuids(255, true), 254, apart(1)),
+        "offer-tags" => offering(tags(256, 1), 255, apart(1)),
+        // 2,048 intervals are there: the id lengthens the last one.
+        "offer-longest" => offering(tags(256, 8), 255, interval(7).1),
+        "take-in-set" => taking_in(&one_uuid(2048), Ok(body(&one_uuid(2048)))),
+        "take-in-worst" => taking_in(&highest_first(false), Err(16)),
+        "take-in-merged" => taking_in(&highest_first(true), Ok(body(&merged()))),
+        "take-in-falling" => taking_in(&falling(), Err(16)),
+        "take-in-uuids" => taking_in(&reversed(uuids(1638, false)), Err(16)),
+        "take-in-tags" => taking_in(&reversed(tags(897, 1)), Err(16)),
+        "check-set" => checking(&one_uuid(2047)),
+        "contains" => containing(&one_uuid(2047)),
+        "list-35" => listing(35, &body(&one_uuid(2048)), &text(&one_uuid(2048))),
+        "list-35-merged" => listing(35, &body(&highest_first(true)), &text(&merged())),
+        "list-35-tags" => listing(35, &body(&reversed(tags(256, 2))), &text(&tags(256, 2))),
+        "list-33" => listing(
+            33,
+            &untagged(),
+            "gtid 3e11fa47-71ca-11e1-9e33-c80aa9429562:1234567\n",
+        ),
+        "list-42" => listing(
+            42,
+            &tagged(b"billing_eu"),
+            "gtid 3e11fa47-71ca-11e1-9e33-c80aa9429562:billing_eu:1234567\n",
+        ),
+        _ => return None,
+    })
+}
+
+fn reading(event_type: u8, body: Vec<u8>) -> Made {
+    let mut record = [0; 116];
+    let answer = ours::read(event_type, &body, &mut record);
+    let mut buf = ParseBuf(&body);
+    let event = GtidEvent::deserialize(BinlogCtx::new(event_type), &mut buf).expect("an event");
+    assert_eq!(answer.refusal, 0);
+    assert_eq!(answer.number, body.len() - buf.len());
+    assert_eq!(record, record_of(&event));
+
+    let again = body.clone();
+    Made {
+        bytes: body.len(),
+        ours: turns(move || {
+            let answer = ours::read(event_type, black_box(&body), black_box(&mut record));
+            black_box(answer);
+        }),
+        theirs: Some(turns(move || {
+            let mut buf = ParseBuf(black_box(&again));
+            let event = GtidEvent::deserialize(BinlogCtx::new(black_box(event_type)), &mut buf);
+            black_box(&event);
+        })),
+    }
+}
+
+fn writing(event_type: u8, body: Vec<u8>) -> Made {
+    let mut buf = ParseBuf(&body);
+    let event = GtidEvent::deserialize(BinlogCtx::new(event_type), &mut buf).expect("an event");
+    let record = record_of(&event);
+    let mut out = vec![0; 4096];
+    let answer = ours::write(&record, &mut out);
+    let mut theirs = Vec::with_capacity(4096);
+    event.serialize(&mut theirs);
+    assert_eq!(answer.refusal, 0);
+    assert_eq!(&out[..answer.number], theirs);
+    assert_eq!(theirs, body);
+
+    Made {
+        bytes: body.len(),
+        ours: turns(move || {
+            let answer = ours::write(black_box(&record), black_box(&mut out));
+            black_box(answer);
+        }),
+        theirs: Some(turns(move || {
+            theirs.clear();
+            black_box(&event).serialize(black_box(&mut theirs));
+        })),
+    }
+}
+
+fn rewriting(entries: Vec<Entry>) -> Made {
+    let body = body(&entries);
+    let mut out = vec![0; 65_536];
+    let answer = ours::rewrite(&body, &mut out);
+    let mut theirs = Vec::with_capacity(65_536);
+    PreviousGtidsEvent::deserialize(BinlogCtx::new(35), &mut ParseBuf(&body))
+        .expect("an event")
+        .serialize(&mut theirs);
+    assert_eq!(answer.refusal, 0);
+    assert_eq!(&out[..answer.number], theirs);
+    assert_eq!(theirs, body);
+
+    let again = body.clone();
+    Made {
+        bytes: body.len(),
+        ours: turns(move || {
+            let answer = ours::rewrite(black_box(&body), black_box(&mut out));
+            black_box(answer);
+        }),
+        theirs: Some(turns(move || {
+            let mut buf = ParseBuf(black_box(&again));
+            let event = PreviousGtidsEvent::deserialize(BinlogCtx::new(35), &mut buf);
+            theirs.clear();
+            if let Ok(event) = event {
+                event.serialize(black_box(&mut theirs));
+            }
+        })),
+    }
+}
+
+/// The greatest length of a set.
+const LONGEST: usize = 47_368;
+
+/// Offers an id of an entry that is there: it stands apart from all intervals, or lengthens one, or is there already.
+fn offering(entries: Vec<Entry>, place: usize, gno: u64) -> Made {
+    let set = body(&entries);
+    let (event_type, event) = event_for(&entries[place], gno);
+    let mut after = entries;
+    let there = !with(&mut after[place].intervals, gno);
+    let after = body(&after);
+    let mut out = vec![0; LONGEST];
+    let answer = ours::offer(&set, event_type, &event, &mut out);
+    assert_eq!((answer.refusal, answer.kind), (0, 1 + u8::from(there)));
+    assert_eq!(&out[..answer.number], after);
+
+    Made {
+        bytes: set.len(),
+        ours: turns(move || {
+            let (set, event) = (black_box(&set), black_box(&event));
+            let answer = ours::offer(set, event_type, event, black_box(&mut out));
+            black_box(answer);
+        }),
+        theirs: None,
+    }
+}
+
+fn taking_in(entries: &[Entry], expected: Result<Vec<u8>, u8>) -> Made {
+    let body = body(entries);
+    let mut out = vec![0; LONGEST];
+    let answer = ours::take_in(&body, &mut out);
+    match expected {
+        Ok(set) => {
+            assert_eq!(answer.refusal, 0);
+            assert_eq!(&out[..answer.number], set);
+        }
+        Err(refusal) => assert_eq!((answer.refusal, answer.number), (refusal, 0)),
+    }
+
+    Made {
+        bytes: body.len(),
+        ours: turns(move || {
+            let answer = ours::take_in(black_box(&body), black_box(&mut out));
+            black_box(answer);
+        }),
+        theirs: None,
+    }
+}
+
+fn checking(entries: &[Entry]) -> Made {
+    let set = body(entries);
+    let intervals: usize = entries.iter().map(|entry| entry.intervals.len()).sum();
+    let expected = (0, entries.len() as u64, intervals as u64);
+    assert_eq!(ours::check_set(&set), expected);
+
+    Made {
+        bytes: set.len(),
+        ours: turns(move || {
+            black_box(ours::check_set(black_box(&set)));
+        }),
+        theirs: None,
+    }
+}
+
+fn containing(entries: &[Entry]) -> Made {
+    let set = body(entries);
+    let last = entries.last().expect("an entry").clone();
+    let gno = last.intervals.last().expect("an interval").0;
+    assert_eq!(ours::contains(&set, &last.uuid, &last.tag, gno), (0, 1));
+    assert_eq!(ours::contains(&set, &last.uuid, &last.tag, 1), (0, 0));
+
+    Made {
+        bytes: set.len(),
+        ours: turns(move || {
+            let (set, id) = (black_box(&set), black_box(&last));
+            black_box(ours::contains(set, &id.uuid, &id.tag, black_box(gno)));
+        }),
+        theirs: None,
+    }
+}
+
+fn listing(event_type: u8, body: &[u8], expected: &str) -> Made {
+    let mut input = vec![event_type];
+    input.extend(body);
+    let mut out = vec![0; 1 << 20];
+    let answer = ours::list(&input, &mut out);
+    assert_eq!(answer.refusal, 0);
+    assert_eq!(String::from_utf8_lossy(&out[..answer.number]), expected);
+
+    Made {
+        bytes: input.len(),
+        ours: turns(move || {
+            let answer = ours::list(black_box(&input), black_box(&mut out));
+            black_box(answer);
+        }),
+        theirs: None,
+    }
+}
+
+// ---- inputs ----
+
+const UUID: [u8; 16] = [
+    0x3e, 0x11, 0xfa, 0x47, 0x71, 0xca, 0x11, 0xe1, 0x9e, 0x33, 0xc8, 0x0a, 0xa9, 0x42, 0x95, 0x62,
+];
+const GNO: u64 = 1_234_567;
+const IMMEDIATE: u64 = 1_700_000_000_654_321;
+const ORIGINAL: u64 = 1_700_000_000_123_456;
+
+/// Both timestamps, a transaction length of three bytes, both versions: 67 bytes.
+fn untagged() -> Vec<u8> {
+    let mut body = short();
+    body.push(2);
+    body.extend(41_u64.to_le_bytes());
+    body.extend(42_u64.to_le_bytes());
+    body.extend(&(IMMEDIATE | 1 << 55).to_le_bytes()[..7]);
+    body.extend(&ORIGINAL.to_le_bytes()[..7]);
+    body.extend([0xfc, 0x39, 0x05]);
+    body.extend((80_034_u32 | 1 << 31).to_le_bytes());
+    body.extend(80_400_u32.to_le_bytes());
+    body
+}
+
+/// Nothing after the gno.
+fn short() -> Vec<u8> {
+    let mut body = vec![1];
+    body.extend(UUID);
+    body.extend(GNO.to_le_bytes());
+    body
+}
+
+/// All twelve fields, as the Rust writes them.
+fn tagged(tag: &[u8]) -> Vec<u8> {
+    let tag = String::from_utf8(tag.to_vec()).expect("a tag");
+    let tag = theirs::packets::Tag::new(tag).expect("a tag");
+    let event = GtidEvent::new_tagged(UUID, tag, GNO)
+        .with_flags(1.into())
+        .with_last_committed(41)
+        .with_sequence_number(42)
+        .with_immediate_commit_timestamp(IMMEDIATE)
+        .with_original_commit_timestamp(ORIGINAL)
+        .with_tx_length(1337)
+        .with_immediate_server_version(80_034)
+        .with_original_server_version(80_400)
+        .with_commit_group_ticket(99);
+    let mut body = Vec::new();
+    event.serialize(&mut body);
+    body
+}
+
+/// The 116 bytes of gtid.h.
+fn record_of(event: &GtidEvent) -> [u8; 116] {
+    let tag = event.tag().map_or(&[][..], |tag| tag.as_str().as_bytes());
+    let mut record = vec![event.flags_raw()];
+    record.extend(event.sid());
+    record.extend(event.gno().to_le_bytes());
+    record.push(tag.len() as u8);
+    record.extend(tag);
+    record.resize(58, 0);
+    record.push(u8::from(event.lc_typecode().is_some()));
+    record.push(event.lc_typecode().unwrap_or(0));
+    record.extend(event.last_committed().to_le_bytes());
+    record.extend(event.sequence_number().to_le_bytes());
+    record.extend(event.immediate_commit_timestamp().to_le_bytes());
+    record.extend(event.original_commit_timestamp().to_le_bytes());
+    record.extend(event.tx_length().to_le_bytes());
+    record.extend(event.immediate_server_version().to_le_bytes());
+    record.extend(event.original_server_version().to_le_bytes());
+    record.extend(event.commit_group_ticket().to_le_bytes());
+    record.try_into().expect("116 bytes")
+}
+
+#[derive(Clone)]
+struct Entry {
+    uuid: [u8; 16],
+    /// Empty for none.
+    tag: Vec<u8>,
+    intervals: Vec<(u64, u64)>,
+}
+
+/// Five ids of every ten: 11 to 15, 21 to 25 and so on.
+fn interval(place: u64) -> (u64, u64) {
+    (11 + 10 * place, 16 + 10 * place)
+}
+
+fn intervals(count: u64) -> Vec<(u64, u64)> {
+    (0..count).map(interval).collect()
+}
+
+/// An id that stands apart from all of so many intervals, behind them.
+fn apart(count: u64) -> u64 {
+    interval(count).0
+}
+
+fn entry(tag: &[u8], intervals: Vec<(u64, u64)>) -> Entry {
+    Entry {
+        uuid: UUID,
+        tag: tag.to_vec(),
+        intervals,
+    }
+}
+
+fn one_uuid(count: u64) -> Vec<Entry> {
+    vec![entry(b"", intervals(count))]
+}
+
+/// Uuids that differ in two bytes in the middle, with a tag of 32 bytes or none, an interval each.
+fn uuids(count: u16, with_tag: bool) -> Vec<Entry> {
+    let one = |number: u16| {
+        let mut entry = entry(b"", intervals(1));
+        entry.uuid[6..8].copy_from_slice(&number.to_be_bytes());
+        if with_tag {
+            entry.tag = long_tag(number);
+        }
+        entry
+    };
+    (0..count).map(one).collect()
+}
+
+/// 32 bytes; only the last three tell the numbers apart.
+fn long_tag(number: u16) -> Vec<u8> {
+    format!("a_tag_of_thirty_two_bytes____{number:03}").into_bytes()
+}
+
+/// So many tags of one uuid, with `count` intervals each.
+fn tags(tags: u16, count: u64) -> Vec<Entry> {
+    (0..tags)
+        .map(|number| entry(&long_tag(number), intervals(count)))
+        .collect()
+}
+
+fn reversed(mut entries: Vec<Entry>) -> Vec<Entry> {
+    entries.reverse();
+    entries
+}
+
+/// As many intervals as 65,536 bytes hold.
+const MOST: u64 = 4094;
+
+/// The highest interval, and then the others, rising. If they touch, the 4,093 others are 2,047 pairs, of which the
+/// last is a single one.
+fn highest_first(touching: bool) -> Vec<Entry> {
+    let one = |place: u64| {
+        let (start, end) = interval(place);
+        match touching && place % 2 == 1 {
+            true => (start - 5, end),
+            false => (start, end),
+        }
+    };
+    let mut all = vec![one(MOST)];
+    all.extend((0..MOST - 1).map(one));
+    vec![entry(b"", all)]
+}
+
+/// What is left of the touching ones.
+fn merged() -> Vec<Entry> {
+    let pair = |number: u64| (interval(2 * number).0, interval(2 * number + 1).1);
+    let mut all: Vec<_> = (0..MOST / 2 - 1).map(pair).collect();
+    all.push(interval(MOST - 2));
+    all.push(interval(MOST));
+    vec![entry(b"", all)]
+}
+
+fn falling() -> Vec<Entry> {
+    vec![entry(b"", (0..MOST).rev().map(interval).collect())]
+}
+
+/// The entries as a Previous-GTIDs body; tags have fewer than 128 bytes.
+fn body(entries: &[Entry]) -> Vec<u8> {
+    let tagged = entries.iter().any(|entry| !entry.tag.is_empty());
+    let count = entries.len() as u64;
+    let header = if tagged {
+        1 << 56 | count << 8 | 1
+    } else {
+        count
+    };
+    let mut body = header.to_le_bytes().to_vec();
+    for entry in entries {
+        body.extend(entry.uuid);
+        if tagged {
+            body.push(2 * entry.tag.len() as u8);
+            body.extend(&entry.tag);
+        }
+        body.extend((entry.intervals.len() as u64).to_le_bytes());
+        for (start, end) in &entry.intervals {
+            body.extend(start.to_le_bytes());
+            body.extend(end.to_le_bytes());
+        }
+    }
+    body
+}
+
+/// Adds a number to rising intervals, for the few ways that are used here; whether it wasn't there.
+fn with(intervals: &mut Vec<(u64, u64)>, gno: u64) -> bool {
+    if intervals.iter().any(|one| one.0 <= gno && gno < one.1) {
+        return false;
+    }
+    match intervals.iter_mut().find(|one| one.1 == gno) {
+        Some(one) => one.1 += 1,
+        None => intervals.push((gno, gno + 1)),
+    }
+    intervals.sort();
+    true
+}
+
+/// The event with an id of the entry, with all fields.
+fn event_for(entry: &Entry, gno: u64) -> (u8, Vec<u8>) {
+    let (event_type, base) = match entry.tag.is_empty() {
+        true => (33, untagged()),
+        false => (42, tagged(&entry.tag)),
+    };
+    let event = GtidEvent::deserialize(BinlogCtx::new(event_type), &mut ParseBuf(&base))
+        .expect("an event")
+        .with_sid(entry.uuid)
+        .with_gno(gno);
+    let mut body = Vec::new();
+    event.serialize(&mut body);
+    (event_type, body)
+}
+
+/// The listing of a set in which no interval is a single id.
+fn text(entries: &[Entry]) -> String {
+    let intervals: usize = entries.iter().map(|entry| entry.intervals.len()).sum();
+    let mut text = format!(
+        "previous-gtids entries {} intervals {intervals}\n",
+        entries.len()
+    );
+    for entry in entries {
+        for (place, byte) in entry.uuid.iter().enumerate() {
+            if [4, 6, 8, 10].contains(&place) {
+                text.push('-');
+            }
+            text += &format!("{byte:02x}");
+        }
+        if !entry.tag.is_empty() {
+            text += &format!(":{}", String::from_utf8_lossy(&entry.tag));
+        }
+        for (start, end) in &entry.intervals {
+            text += &format!(":{start}-{}", end - 1);
+        }
+        text.push('\n');
+    }
+    text
+}
+
+// ---- the stack ----
+
+/// A thread on memory of our own, filled with a pattern before it starts (pthreads of the C library, x86-64 Linux).
+mod painted {
+    use super::{null_mut, ptr};
+    use std::ffi::{c_int, c_void};
+
+    /// At least as large and as aligned as the C library's.
+    #[repr(C, align(16))]
+    struct Attributes([u8; 128]);
+
+    unsafe extern "C" {
+        fn pthread_attr_init(attributes: *mut Attributes) -> c_int;
+        fn pthread_attr_setstack(
+            attributes: *mut Attributes,
+            stack: *mut c_void,
+            len: usize,
+        ) -> c_int;
+        fn pthread_attr_destroy(attributes: *mut Attributes) -> c_int;
+        fn pthread_create(
+            thread: *mut usize,
+            attributes: *const Attributes,
+            start: extern "C" fn(*mut c_void) -> *mut c_void,
+            argument: *mut c_void,
+        ) -> c_int;
+        fn pthread_join(thread: usize, result: *mut *mut c_void) -> c_int;
+    }
+
+    const LEN: usize = 1 << 20;
+    const PATTERN: u8 = 0xa5;
+
+    struct Argument<'a> {
+        call: &'a mut (dyn FnMut() + Send),
+        stack: *const u8,
+        used: usize,
+    }
+
+    /// Makes the call, and looks at once how far down the pattern has gone.
+    extern "C" fn start(argument: *mut c_void) -> *mut c_void {
+        // SAFETY: deepest() lends it until this thread has ended.
+        let argument = unsafe { &mut *argument.cast::<Argument<'_>>() };
+        let here = 0_u8;
+        (argument.call)();
+        let mut lowest = argument.stack;
+        // SAFETY: the memory of the stack, which is alive; the search ends below this function's own frame.
+        while lowest < &raw const here && unsafe { ptr::read_volatile(lowest) } == PATTERN {
+            lowest = lowest.wrapping_add(1);
+        }
+        argument.used = (&raw const here).addr() - lowest.addr();
+        null_mut()
+    }
+
+    /// How many bytes of stack a call uses, below the function that makes it.
+    pub fn deepest(call: &mut (dyn FnMut() + Send)) -> usize {
+        let mut memory = vec![PATTERN; LEN + 4096];
+        let stack = memory.as_mut_ptr();
+        let stack = stack.wrapping_add(stack.align_offset(4096));
+        let mut argument = Argument {
+            call,
+            stack,
+            used: 0,
+        };
+        let mut attributes = Attributes([0; 128]);
+        let mut thread = 0;
+        // SAFETY: the memory and the argument outlive the thread, which is waited for.
+        unsafe {
+            assert_eq!(pthread_attr_init(&raw mut attributes), 0);
+            assert_eq!(
+                pthread_attr_setstack(&raw mut attributes, stack.cast(), LEN),
+                0
+            );
+            let argument = (&raw mut argument).cast();
+            assert_eq!(
+                pthread_create(&raw mut thread, &raw const attributes, start, argument),
+                0
+            );
+            assert_eq!(pthread_join(thread, null_mut()), 0);
+            pthread_attr_destroy(&raw mut attributes);
+        }
+        drop(memory);
+        argument.used
+    }
+}
+
+/// The most bytes of stack that a call used on some inputs, and on which.
+fn most(inputs: &[&str]) -> (usize, String) {
+    let used = inputs.iter().map(|what| {
+        let mut ours = Sent(made(what).expect("a word of the table").ours);
+        let used = painted::deepest(&mut move || ours.once());
+        (used, (*what).to_owned())
+    });
+    used.max().expect("an input")
+}
+
+/// A closure with bytes of its own, which may go to another thread.
+struct Sent(Turns);
+
+// SAFETY: the closures own what they use, and one thread at a time has them.
+unsafe impl Send for Sent {}
+
+impl Sent {
+    fn once(&mut self) {
+        (self.0)(1);
+    }
+}
+
+#[rustfmt::skip]
+fn stack() {
+    let rows: [(&str, &[&str]); 8] = [
+        ("gtid_read", &["read-untagged", "read-short", "read-tagged", "read-tagged-32"]),
+        ("gtid_write", &["write-untagged", "write-short", "write-tagged", "write-tagged-32"]),
+        ("gtid_rewrite", &["rewrite-1", "rewrite-2048", "rewrite-uuids", "rewrite-tags"]),
+        ("gtid_check_set", &["check-set"]),
+        ("gtid_contains", &["contains"]),
+        ("gtid_offer", &["offer-1", "offer-2047", "offer-first", "offer-there", "offer-255-tagged", "offer-longest"]),
+        ("gtid_take_in", &["take-in-set", "take-in-worst", "take-in-merged", "take-in-uuids", "take-in-tags"]),
+        ("gtid_list", &["list-35", "list-35-merged", "list-35-tags", "list-33", "list-42"]),
+    ];
+    println!("| call | bytes of stack | on the input |");
+    println!("|---|---|---|");
+    println!("| none (an empty function) | {} | |", painted::deepest(&mut || ()));
+    for (call, inputs) in rows {
+        let (used, what) = most(inputs);
+        println!("| {call} | {used} | {what} |");
+    }
+}
+
+fn main() -> ExitCode {
+    let words: Vec<String> = env::args().skip(1).collect();
+    let words: Vec<&str> = words.iter().map(String::as_str).collect();
+    match words[..] {
+        ["list"] => {
+            for (what, text, turns) in TABLE {
+                let made = made(what).expect("a word of the table");
+                let sides = if made.theirs.is_some() {
+                    "both"
+                } else {
+                    "ours"
+                };
+                println!("{what} {sides} {} {turns} {text}", made.bytes);
+            }
+        }
+        ["stack"] => stack(),
+        [side @ ("ours" | "theirs"), what, count] => {
+            let (Some(made), Ok(count)) = (made(what), count.parse()) else {
+                return ExitCode::from(2);
+            };
+            let run = match side {
+                "ours" => Some(made.ours),
+                _ => made.theirs,
+            };
+            let Some(mut run) = run else {
+                return ExitCode::from(2);
+            };
+            run(count);
+        }
+        _ => {
+            eprintln!("bench list | bench stack | bench ours|theirs WHAT TURNS");
+            return ExitCode::from(2);
+        }
+    }
+    ExitCode::SUCCESS
+}
