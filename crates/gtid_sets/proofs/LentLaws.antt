@@ -27,7 +27,7 @@ use Rattle.gtid_sets.specs.Lent.{Lent, form, unfit, isForm, lentRead, le
 use Rattle.gtid_sets.proofs.SetLaws.{join-before, join-into, join-after}
 use Rattle.gtid_sets.proofs.TakeInLaws.{form-takeIn}
 use Rattle.gtid_sets.proofs.FormLaws.{form-holds, form-tests}
-use Rattle.gtid_sets.proofs.LimitLaws.{maxIntervals-is, longestSet-is, limits-says, limits-from, fine-holds}
+use Rattle.gtid_sets.proofs.LimitLaws.{maxIntervals-is, longestSet-is, limits-says, fine-holds}
 use Rattle.gtid_sets.proofs.KeyLaws.{read-good}
 use Rattle.gtid_sets.proofs.ByteLaws.{body-long}
 
@@ -112,9 +112,6 @@ lent-short bs s h = let l = lent-is bs s h in rw (l .written) (longest s (l .key
 pub empty-bytes : bodyBytes [] ≡ 0 ∷ 0 ∷ 0 ∷ 0 ∷ 0 ∷ 0 ∷ 0 ∷ 0 ∷ []
 unfolding bodyBytes anyTag headerBytes entriesBytes leBytes
 empty-bytes = refl
-
-pub empty-lent : lentSet (bodyBytes []) ≡ form []
-empty-lent = lent-back [] tt tt (limits-from [] (omega arith) (omega arith))
 
 -- ---- keys of a set that grows
 

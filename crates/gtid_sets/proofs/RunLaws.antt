@@ -1,6 +1,6 @@
 -- What a run of offers does to a set: the members after it, that set form and limits last, that a refusal changes nothing, and replay.
 use Prim.Native.Nat.{ℕ}
-use mathlib.Core.Path.{_≡_, refl, sym, ap, _∙_}
+use mathlib.Core.Path.{_≡_, refl, sym, _∙_}
 use mathlib.Core.Bool.{true, false, _&&_, _||_, or-false, or-assoc, or-comm}
 use mathlib.Core.List.{List, [], _∷_, _++_}
 use lib.Dec.{eqb}
@@ -40,13 +40,6 @@ pub after-unless-taken : (s : List Entry) (e : Event) → isTaken (answer s e) �
 after-unless-taken s anonymous h = refl
 after-unless-taken s (broken r) h = refl
 after-unless-taken s (names k n) h = rw h
-
--- a refusal changes nothing
-pub after-refused : (s : List Entry) (e : Event) (r : Refusal) → answer s e ≡ refused r → after s e ≡ s
-after-refused s e r h = after-unless-taken s e (ap isTaken h)
-
-pub after-taken : (s : List Entry) (k : Key) (n : ℕ) → answer s (names k n) ≡ taken → after s (names k n) ≡ add k n s
-after-taken s k n h = rw h
 
 -- its id is the only one that the set gains
 pub has-after : (s : List Entry) (e : Event) (k : Key) (n : ℕ) → has (after s e) k n ≡ has s k n || (isMember (answer s e) && isOf e k n)

@@ -1,17 +1,15 @@
 -- Demand 3 on the saved bytes: a run over them is the run over the set that they are; so members and replay hold there too.
 use Prim.Native.Nat.{ℕ, _+_}
 use mathlib.Core.Path.{_≡_, sym, ap, _∙_}
-use mathlib.Core.Bool.{false, _||_}
+use mathlib.Core.Bool.{false}
 use mathlib.Core.List.{List, [], _∷_, _++_}
 use Rattle.misc.specs.Refusal.{Refusal}
-use Rattle.packets.specs.Key.{Key}
 use Rattle.previous_gtids_event.specs.Entry.{Entry}
 use Rattle.previous_gtids_event.specs.Rewrite.{bodyBytes}
-use Rattle.gtid_sets.specs.Set.{has}
-use Rattle.gtid_sets.specs.Run.{Event, anonymous, broken, names, refused, answer, isTaken, after, run, granted, NeverFull}
-use Rattle.gtid_sets.specs.Lent.{form, unfit, lentSet, GoodKeys}
+use Rattle.gtid_sets.specs.Run.{Event, anonymous, broken, names, refused, answer, isTaken, after, run, NeverFull}
+use Rattle.gtid_sets.specs.Lent.{form, lentSet, GoodKeys}
 use Rattle.gtid_sets.specs.Saved.{savedAfter, savedRun, GoodEvent, GoodEvents}
-use Rattle.gtid_sets.proofs.RunLaws.{answer-cases, after-unless-taken, form-after, limits-after, has-run, replay}
+use Rattle.gtid_sets.proofs.RunLaws.{answer-cases, after-unless-taken, form-after, limits-after, replay}
 use Rattle.gtid_sets.proofs.LentLaws.{lent-is, lent-back, good-join}
 
 pub good-after : (s : List Entry) (e : Event) → GoodEvent e → GoodKeys s → GoodKeys (after s e)
@@ -40,10 +38,6 @@ module _ (bs : List ℕ) (s : List Entry) (e : Event) (lent : lentSet bs ≡ for
   pub saved-refused : (r : Refusal) → answer s e ≡ refused r → savedAfter bs e ≡ bs
   saved-refused r h = saved-unless-taken (ap isTaken h)
 
--- nor does an event change bytes that are no set
-pub saved-unfit : (bs : List ℕ) (e : Event) → lentSet bs ≡ unfit → savedAfter bs e ≡ bs
-saved-unfit bs e h = rw h
-
 -- ---- a run
 
 pub saved-run : (bs : List ℕ) (s : List Entry) (es : List Event) → lentSet bs ≡ form s → GoodEvents es → savedRun bs es ≡ bodyBytes (run s es)
@@ -53,11 +47,6 @@ saved-run bs s (e ∷ es) h g = saved-run (savedAfter bs e) (after s e) es (lent
 pub lent-run : (bs : List ℕ) (s : List Entry) (es : List Event) → lentSet bs ≡ form s → GoodEvents es → lentSet (savedRun bs es) ≡ form (run s es)
 lent-run bs s [] h g = h
 lent-run bs s (e ∷ es) h g = lent-run (savedAfter bs e) (after s e) es (lent-after bs s e h (g .0)) (g .1)
-
--- demand 3, members: the saved bytes lend a set whose members are the starting ids and those that were granted
-pub saved-members : (bs : List ℕ) (s : List Entry) (es : List Event) → lentSet bs ≡ form s → GoodEvents es
-    → (t : List Entry) × (lentSet (savedRun bs es) ≡ form t) × ((k : Key) (n : ℕ) → has t k n ≡ has s k n || granted s es k n)
-saved-members bs s es h g = (run s es, lent-run bs s es h g, has-run s es)
 
 good-append : (xs ys : List Event) → GoodEvents xs → GoodEvents ys → GoodEvents (xs ++ ys)
 good-append [] ys g h = h

@@ -1,7 +1,7 @@
 -- Laws of sets: what they hold after a joining, and that their set form is unique.
 use Prim.Native.Nat.{ℕ, _+_, _<_, _≤_, Ordering·gt}
 use mathlib.Core.Path.{_≡_, refl, sym, ap, _∙_}
-use mathlib.Core.Bool.{true, false, _&&_, _||_, or-false, or-assoc, or-comm, and-or-distrib-left}
+use mathlib.Core.Bool.{true, false, _&&_, _||_, or-false, or-assoc, and-or-distrib-left}
 use mathlib.Core.List.{List, [], _∷_, _++_}
 use native.Mathlib.Omega.{arith}
 use lib.Dec.{eqb}
@@ -109,11 +109,6 @@ named-again s j m k n h = split (same k j && eqb n m)
     let z : has s k n ≡ true = rw (same-eq k j (w .0), eqb-true n m (w .1)) h in
     rw z)
     (λ g. rw g (or-false (has s k n)))
-
--- adding a member gives the set back
-pub add-present : (k : Key) (n : ℕ) (s : List Entry) → isGno n ≡ true → SetForm s → has s k n ≡ true → add k n s ≡ s
-add-present k n s g f m = set-unique (add k n s) s (form-add k n s g f) f
-    (λ k′ n′. has-add k n s k′ n′ ∙ or-comm (same k′ k && eqb n′ n) (has s k′ n′) ∙ named-again s k n k′ n′ m)
 
 -- ---- one more entry at the end
 

@@ -1,13 +1,11 @@
 -- Laws of gnos and of intervals of them.
-use Prim.Native.Nat.{ℕ, _+_, _^_, _≤_, _<_}
+use Prim.Native.Nat.{ℕ, _^_, _≤_, _<_}
 use mathlib.Core.Path.{_≡_, refl}
 use mathlib.Core.Bool.{true, _&&_}
-use native.Mathlib.Numerals.{add-one}
-use native.Mathlib.Omega.{arith}
 use lib.Dec.{leb, ltb}
 use borrow.Author.Tests.{le-leb, lt-ltb}
 use Rattle.packets.specs.Gno.{gnoTop, isGno, interval, isInterval}
-use Rattle.packets.proofs.Tests.{split, and-true, tests}
+use Rattle.packets.proofs.Tests.{and-true, tests}
 
 pub gnoTop-is : gnoTop ≡ 2 ^ 63
 unfolding gnoTop
@@ -15,9 +13,6 @@ gnoTop-is = refl
 
 pub gno-says : (n : ℕ) → isGno n ≡ true → (1 ≤ n) × (n < gnoTop)
 gno-says n h = let p = and-true (leb 1 n) (ltb n gnoTop) h in (omega tests, omega tests)
-
-pub gno-from : (n : ℕ) → 1 ≤ n → n < gnoTop → isGno n ≡ true
-gno-from n h k = rw (le-leb 1 n h, lt-ltb n gnoTop k)
 
 pub interval-says : (s e : ℕ) → isInterval (interval s e) ≡ true → (1 ≤ s) × (s < e) × (e ≤ gnoTop)
 interval-says s e h =
@@ -27,7 +22,3 @@ interval-says s e h =
 
 pub interval-from : (s e : ℕ) → 1 ≤ s → s < e → e ≤ gnoTop → isInterval (interval s e) ≡ true
 interval-from s e h k l = rw (le-leb 1 s h, lt-ltb s e k, le-leb e gnoTop l)
-
--- a gno is an interval of one number
-pub gno-interval : (n : ℕ) → isGno n ≡ isInterval (interval n (n + 1))
-gno-interval n = rw (lt-ltb n (n + 1) (omega arith), add-one) (split (leb 1 n) (λ h. rw h) (λ h. rw h))

@@ -4,7 +4,7 @@ use mathlib.Core.List.{List}
 use Prim.Native.Nat.{ℕ, zero, suc, _-_, _≤_}
 use native.Mathlib.Nat.{suc-sub-suc}
 use native.Mathlib.Omega.{arith}
-use lib.ListN.{length, take, drop, replicate, length-take, length-append, length-replicate}
+use lib.ListN.{length, take, drop, replicate, length-take, length-replicate}
 use borrow.Author.Tests.{le-leb}
 use Rattle.misc.specs.Output.{bytes, outputOf}
 use Rattle.packets.specs.Kept.{padded, kept}
@@ -20,7 +20,3 @@ unfolding outputOf padded
 kept-written w s =
     let fits : length (take w s) ≤ length (replicate {A = ℕ} w 0) = rw (length-take, length-replicate) (omega arith) in
     rw (le-leb _ _ fits, drop-replicate)
-
-pub length-kept : (w : ℕ) (s : List ℕ) → length (kept w s) ≡ w
-unfolding padded
-length-kept w s = simp (length-append, length-replicate, length-take) (omega arith)

@@ -120,9 +120,6 @@ after-not-same j k p = ap isEq (order-flip j k ∙ ap flip p)
 pub same-eq : (j k : Key) → same j k ≡ true → j ≡ k
 same-eq j k p = order-eq j k (eq-is (order j k) p)
 
-pub other-key : (j k : Key) → same j k ≡ false → same k j ≡ false
-other-key j k h = split (same k j) (λ g. clash (rw (same-eq k j g) (same-self j)) h) (λ g. g)
-
 -- the order is by uuid, then by tag: `u` and `v` are uuids, of one length, and `s` and `t` the tags, empty where there is none
 pub order-append : (u v s t : List ℕ) → length u ≡ length v → order (u ++ s) (v ++ t) ≡ orElse (order u v) (order s t)
 order-append [] [] s t l = refl

@@ -293,10 +293,6 @@ entry-there tagged s at k is next e =
 
 -- ---- the whole body
 module _ (s : List ℕ) where
-  pub previous-too-long : 65536 < length s → previous s ≡ refuse tooLong
-  unfolding previous
-  previous-too-long h = body-too-long s (andThen (leAt 8 s 0) (entriesAfter s)) h
-
   -- what the answer for the header tells
   header-says : (p : Parse ℕ) → headerRead p .refusal ≡ refusalOf p
   header-says (refuse x) = refl

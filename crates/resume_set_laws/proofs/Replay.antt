@@ -8,16 +8,17 @@ use native.Mathlib.Omega.{arith}
 use lib.Dec.{leb, eqb}
 use lib.ListN.{length}
 use borrow.Author.Tests.{le-leb}
-use Rattle.misc.specs.Refusal.{Refusal, number, full}
+use Rattle.misc.specs.Refusal.{number, full}
 use Rattle.misc.specs.Output.{outputOf}
 use Rattle.previous_gtids_event.specs.Entry.{Entry}
 use Rattle.previous_gtids_event.specs.Rewrite.{bodyBytes}
 use Rattle.gtid_sets.specs.TakeIn.{takeIn}
-use Rattle.gtid_sets.specs.Limits.{longestSet, isFull}
+use Rattle.gtid_sets.specs.Limits.{longestSet}
 use Rattle.gtid_sets.specs.Run as run
 use Rattle.gtid_sets.specs.Run.{Event, Answer, noId, already, taken, answer, after, forFull, NeverFull}
 use Rattle.gtid_sets.specs.Lent.{form, lentSet}
 use Rattle.gtid_sets.specs.Saved.{savedAfter, savedRun, GoodEvent, GoodEvents}
+use Rattle.gtid_sets.proofs.LimitLaws.{isFull-is}
 use Rattle.gtid_sets.proofs.LentLaws.{lent-is, longest}
 use Rattle.gtid_sets.proofs.RunLaws.{limits-after, never-full-front, never-full-again}
 use Rattle.gtid_sets.proofs.SavedLaws.{good-after, saved-after, saved-refused, lent-after, lent-run, saved-replay}
@@ -27,10 +28,6 @@ use Rattle.resume_set_laws.specs.History.{Turn, keptAs, kept, keptAll, O
 use Rattle.resume_set_laws.specs.Ours.{ours}
 use Rattle.resume_set_laws.proofs.OneOffer.{said, good-said, front}
 use Rattle.resume_set_laws.proofs.Members.{starts}
-
-full-is : (r : Refusal) → isFull r ≡ eqb (number r) (number full)
-unfolding isFull
-full-is r = refl
 
 abbrev events : List Turn → List Event
 events [] = []
@@ -53,7 +50,7 @@ module _ (set : List ℕ) (s : List Entry) (t : Turn) (lent : lentSet set ≡ fo
       go already false e = rw e
       go taken true e = rw e
       go taken false e = rw e
-      go (run.refused r) b e = sym (full-is r)
+      go (run.refused r) b e = sym (isFull-is r)
 
   module _ (room : longestSet ≤ length (t .out)) where
     fits : leb (length grown) (length (t .out)) ≡ true
