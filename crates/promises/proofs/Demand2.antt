@@ -1,21 +1,19 @@
 -- Demand 2 holds of the reader and the writers that our functions promise.
-use Prim.Native.Nat.{ℕ, _+_, _≤_}
-use mathlib.Core.Path.{_≡_}
+use Prim.Native.Nat.{ℕ, _+_}
+use mathlib.Core.Path.{_≡_, refl}
 use mathlib.Core.Bool.{true}
 use mathlib.Core.List.{List, [], _∷_, _++_, append-assoc}
 use native.Mathlib.Omega.{arith}
 use lib.ListN.{length, length-append}
 use Rattle.misc.specs.Refusal.{notWritable}
-use Rattle.misc.specs.Parse.{Bytes, parsed}
 use Rattle.misc.specs.Output.{bytes, refused}
+use Rattle.misc.specs.Body.{bodyLimit}
 use Rattle.misc.specs.Varlen.{sizeFrom, varlenSize, varlenBytes}
 use Rattle.misc.proofs.VarlenLaws.{length-varlenBytes}
 use Rattle.packets.proofs.Tests.{split}
 use Rattle.previous_gtids_event.specs.Previous.{previous}
 use Rattle.previous_gtids_event.specs.Rewrite.{bodyBytes}
-use Rattle.previous_gtids_event.proofs.RoundTrip.{BodyLaid, laid-read, read-laid, read-again}
-use Rattle.previous_gtids_event.proofs.Laying.{WellFormed}
-use Rattle.previous_gtids_event.specs.Entry.{Entry}
+use Rattle.previous_gtids_event.proofs.RoundTrip.{laid-read, read-laid, read-again}
 use Rattle.gtid_event.specs.declared.GtidEvent.{GtidEvent}
 use Rattle.gtid_event.specs.Event.{tagged}
 use Rattle.gtid_event_read.specs.Read.{gtid}
@@ -26,7 +24,7 @@ use Rattle.gtid_event_write.specs.Write.{eventBytes, eventOutput}
 use Rattle.gtid_event_write.proofs.SizeLaws.{payload-agrees, payload-least}
 use Rattle.gtid_event_laws.proofs.EventBack.{event-alone}
 use Rattle.gtid_event_laws.proofs.ReadWritable.{read-fits, read-writable}
-use Rattle.promises.specs.Meaning.{RecordsBack, RecordsAgain, Declares, LeastSize, EntriesBack}
+use Rattle.promises.specs.Meaning.{ByLayout, RecordsBack, RecordsAgain, Declares, LeastSize, EntriesBack, EntriesMean}
 
 -- what was written was writable
 written : (e : GtidEvent) (bs : List ℕ) → eventOutput e ≡ bytes bs → (writable e ≡ true) × (eventBytes e ≡ bs)
@@ -35,8 +33,12 @@ written e bs w = split (writable e)
     (λ h. let same : bytes (eventBytes e) ≡ bytes bs = rw h at w in (h, cc))
     (λ h. let no : refused notWritable ≡ bytes bs = rw h at w in absurd (let z : _≡_ {A = ℕ} 0 1 = cc in omega arith))
 
+pub by-layout : ByLayout gtid
+by-layout type body = refl
+
 pub records-back : RecordsBack gtid eventOutput
-records-back e bs fits w = let (can, same) = written e bs w in rw (← same) (event-alone e fits can)
+unfolding eventOutput
+records-back e fits can = (eventBytes e, rw can, event-alone e fits can)
 
 pub records-again : RecordsAgain gtid eventOutput
 unfolding eventOutput
@@ -69,7 +71,6 @@ least-size e bs is w = rw (← (written e bs w .1)) (declares e is)
 pub entries-back : EntriesBack previous bodyBytes
 entries-back body es used are read = read-again body are es used read
 
--- what is accepted is laid out as the format says, and whatever is laid out so is accepted
-pub entries-mean : (s : List ℕ) (es : List Entry) (used : ℕ) → Bytes s → length s ≤ 65536
-    → (previous s ≡ parsed es used → BodyLaid s es used × WellFormed es) × (WellFormed es → BodyLaid s es used → previous s ≡ parsed es used)
+pub entries-mean : EntriesMean previous
+unfolding bodyLimit
 entries-mean s es used are small = (read-laid s es used are, laid-read s es used small)

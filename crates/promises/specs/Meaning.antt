@@ -7,10 +7,15 @@ use mathlib.Core.List.{List, [], _∷_, _++_}
 use lib.ListN.{length}
 use Rattle.misc.specs.Parse.{Bytes, Parse, parsed}
 use Rattle.misc.specs.Output.{Output, bytes}
+use Rattle.misc.specs.Body.{bodyLimit}
 use Rattle.misc.specs.Varlen.{varlenBytes}
 use Rattle.previous_gtids_event.specs.Entry.{Entry}
 use Rattle.gtid_event.specs.Event.{tagged, typeOf}
 use Rattle.gtid_event.specs.declared.GtidEvent.{GtidEvent}
+use Rattle.previous_gtids_event.proofs.Laying.{WellFormed}
+use Rattle.previous_gtids_event.proofs.RoundTrip.{BodyLaid}
+use Rattle.gtid_event_read.specs.Read.{gtid}
+use Rattle.gtid_event_write.specs.Writable.{writable}
 use Rattle.gtid_event_write.specs.Size.{Agrees}
 use Rattle.gtid_event_laws.specs.Fits.{Fits}
 
@@ -23,9 +28,14 @@ EventReader = ℕ → List ℕ → Parse GtidEvent
 abbrev pub EventWriter : Type 0
 EventWriter = GtidEvent → Output
 
--- a record that is written comes back equal, from exactly its bytes
+-- it accepts and reads what the layouts say, and tells the bytes that they take
+abbrev pub ByLayout : EventReader → Type 0
+ByLayout read = (type : ℕ) (body : List ℕ) → read type body ≡ gtid type body
+
+-- a writable record is written, and comes back equal from exactly its bytes
 abbrev pub RecordsBack : EventReader → EventWriter → Type 0
-RecordsBack read write = (e : GtidEvent) (bs : List ℕ) → Fits e → write e ≡ bytes bs → read (typeOf e) bs ≡ parsed e (length bs)
+RecordsBack read write = (e : GtidEvent) → Fits e → writable e ≡ true
+    → (bs : List ℕ) × (write e ≡ bytes bs) × (read (typeOf e) bs ≡ parsed e (length bs))
 
 -- a record that is read can be written
 abbrev pub RecordsAgain : EventReader → EventWriter → Type 0
@@ -54,3 +64,8 @@ EntriesReader = List ℕ → Parse (List Entry)
 abbrev pub EntriesBack : EntriesReader → (List Entry → List ℕ) → Type 0
 EntriesBack read write = (body : List ℕ) (es : List Entry) (used : ℕ) → Bytes body → read body ≡ parsed es used
     → read (write es) ≡ parsed es (length (write es))
+
+-- what is accepted is laid out as the format says, and whatever is laid out so is accepted
+abbrev pub EntriesMean : EntriesReader → Type 0
+EntriesMean read = (s : List ℕ) (es : List Entry) (used : ℕ) → Bytes s → length s ≤ bodyLimit
+    → (read s ≡ parsed es used → BodyLaid s es used × WellFormed es) × (WellFormed es → BodyLaid s es used → read s ≡ parsed es used)

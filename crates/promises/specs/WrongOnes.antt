@@ -3,16 +3,16 @@ use Prim.Native.Nat.{_+_}
 use lib.ListN.{length, replicate}
 use lib.Dec.{eqb}
 use Rattle.misc.specs.Pick.{pick}
-use Rattle.misc.specs.Refusal.{ended}
+use Rattle.misc.specs.Refusal.{ended, notWritable}
 use Rattle.misc.specs.Parse.{Parse, refuse, parsed}
-use Rattle.misc.specs.Output.{bytes, outputOf}
+use Rattle.misc.specs.Output.{refused, bytes, outputOf}
 use Rattle.gtid_event.specs.declared.GtidEvent.{GtidEvent}
 use Rattle.gtid_event.specs.Event.{newUntagged}
 use Rattle.gtid_event_read.specs.Read.{gtid}
 use Rattle.resume_set.specs.declared.Offered.the-variants.{Taken}
 use Rattle.resume_set_laws.specs.History.{Offering}
 use Rattle.resume_set_laws.specs.Ours.{ours}
-use Rattle.promises.specs.Meaning.{EventReader}
+use Rattle.promises.specs.Meaning.{EventReader, EventWriter}
 
 -- refuses whatever comes
 abbrev pub refusesAll : EventReader
@@ -29,6 +29,10 @@ countedUp (parsed e used) = parsed e (used + 1)
 
 abbrev pub madeUpCount : EventReader
 madeUpCount type body = countedUp (gtid type body)
+
+-- writes no record
+abbrev pub writesNothing : EventWriter
+writesNothing e = refused notWritable
 
 -- says "taken", and copies its set
 abbrev pub copiesItsSet : Offering
