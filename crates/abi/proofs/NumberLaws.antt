@@ -3,6 +3,9 @@ use Prim.Native.Nat.{ℕ}
 use mathlib.Core.Path.{_≡_, ap}
 use mathlib.Core.List.{List}
 use Rattle.misc.specs.declared.Wrote.{Wrote}
+use Rattle.misc.specs.declared.ReadUint.{ReadUint}
+use Rattle.previous_gtids_event.specs.declared.PreviousRead.{PreviousRead}
+use Rattle.previous_gtids_event.specs.declared.EntryRead.{EntryRead}
 use Rattle.resume_set.specs.declared.SetRead.{SetRead}
 use Rattle.resume_set.specs.declared.Contained.{Contained}
 use Rattle.resume_set.specs.declared.Offered.{Offered}
@@ -11,6 +14,20 @@ use Rattle.abi.specs.Answers.{numbersOf, bit}
 
 pub wrote-parts : (w v : Wrote) (l m : List ℕ) → (w ≡ v) × (l ≡ m) → (w .refusal ≡ v .refusal) × ((w .len ≡ v .len) × (l ≡ m))
 wrote-parts w v l m e = (ap (λ (x : Wrote). x .refusal) (e .0), (ap (λ (x : Wrote). x .len) (e .0), e .1))
+
+pub uint-parts : (w v : ReadUint) → w ≡ v → (w .refusal ≡ v .refusal) × ((w .value ≡ v .value) × (w .next ≡ v .next))
+uint-parts w v e = (ap (λ (x : ReadUint). x .refusal) e, (ap (λ (x : ReadUint). x .value) e, ap (λ (x : ReadUint). x .next) e))
+
+pub previous-parts : (w v : PreviousRead)
+    → w ≡ v
+    → (w .refusal ≡ v .refusal) × ((w .entries ≡ v .entries) × (w .used ≡ v .used))
+previous-parts w v e =
+    (ap (λ (x : PreviousRead). x .refusal) e, (ap (λ (x : PreviousRead). x .entries) e, ap (λ (x : PreviousRead). x .used) e))
+
+pub entry-parts : (w v : EntryRead)
+    → w ≡ v
+    → (w .refusal ≡ v .refusal) × ((w .«tag_len» ≡ v .«tag_len») × ((w .intervals ≡ v .intervals) × ((w .first ≡ v .first) × (w .next ≡ v .next))))
+entry-parts w v e = (cc, (cc, (cc, (cc, cc))))
 
 pub set-parts : (w v : SetRead)
     → w ≡ v

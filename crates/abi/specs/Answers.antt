@@ -1,6 +1,12 @@
 -- The answers of the library's calls as numbers.
 use Prim.Native.Nat.{ℕ}
 use mathlib.Core.Bool.{Bool, true, false}
+use mathlib.Core.List.{List}
+use Rattle.misc.specs.Parse.{Parse, andThen}
+use Rattle.misc.specs.Body.{ofBody}
+use Rattle.misc.specs.Le.{leAt}
+use Rattle.previous_gtids_event.specs.Entry.{Entry}
+use Rattle.previous_gtids_event.specs.Previous.{saysTagged, entryAt}
 use Rattle.resume_set.specs.declared.Offered.{Offered}
 use Rattle.resume_set.specs.declared.Offered.the-variants as offered-as
 use Rattle.abi.specs.declared.OfferNumbers.{OfferNumbers}
@@ -17,3 +23,7 @@ numbersOf (offered-as.NoId n) = record { refusal = 0; kind = 3; len = n }
 abbrev pub bit : Bool → ℕ
 bit true = 1
 bit false = 0
+
+-- the entry at a place of a Previous-GTIDs body, with a tag if the body's header says so
+unfoldable pub entryIn : List ℕ → ℕ → Parse Entry
+entryIn s at = ofBody s (andThen (leAt 8 s 0) (λ header next. entryAt (saysTagged header) s at))

@@ -7,20 +7,40 @@ use gtid_event_read::read;
 use gtid_event_write::write::write;
 use misc::refusal::NO_ROOM;
 use misc::refusal::NOT_WRITABLE;
+use misc::varlen::read_varlen_uint;
+use previous_gtids_event::EntryRead;
+use previous_gtids_event::read::entry_at;
+use previous_gtids_event::read::header_of;
 use resume_set::Offered;
 ghost use mathlib.Core.Path.{_≡_};
 ghost use lib.ListN.{length};
+ghost use Rattle.misc.specs.Parse.{uintRead};
+ghost use Rattle.misc.specs.Varlen.{varlenAt};
 ghost use Rattle.misc.specs.Output.{bytes, outputOf, answerOf};
 ghost use Rattle.previous_gtids_event.specs.Previous.{previous};
+ghost use Rattle.previous_gtids_event.specs.Answers.{previousRead, entryRead};
 ghost use Rattle.previous_gtids_event.specs.Rewrite.{rewritten};
 ghost use Rattle.gtid_event_read.specs.Read.{gtid};
 ghost use Rattle.gtid_sets.specs.Lent.{lentSet};
 ghost use Rattle.resume_set.specs.Answers.{setRead, contained, takenIn, eventOf, offered, output};
 ghost use Rattle.listing.specs.EventText.{listing};
-ghost use Rattle.abi.specs.Answers.{numbersOf, bit};
+ghost use Rattle.abi.specs.Answers.{numbersOf, bit, entryIn};
 ghost use Rattle.abi.specs.Flat.{readOutput, readUsed, writeOutput};
 
 mod flat;
+
+// Reads the variable-length unsigned integer at the front of some bytes: its value, and how many bytes it takes.
+#[no_mangle]
+pub extern "C" fn gtid_read_varlen_uint(s: &[u8], value: &mut u64, used: &mut usize) -> u8
+    ensures { λ r. ⌜ r ≡ uintRead (varlenAt (now (s .entry)) 0) .refusal ⌝ }
+    ensures { λ _. ⌜ now (value .exit) ≡ uintRead (varlenAt (now (s .entry)) 0) .value ⌝ }
+    ensures { λ _. ⌜ now (used .exit) ≡ uintRead (varlenAt (now (s .entry)) 0) .next ⌝ }
+{
+    let said = read_varlen_uint(s, 0);
+    *value = said.value;
+    *used = said.next;
+    said.refusal
+}
 
 // Whether bytes are a set (0, else 14), and how many entries and intervals it has.
 #[no_mangle]
@@ -62,6 +82,64 @@ pub extern "C" fn gtid_take_in(body: &[u8], out: &mut [u8], len: &mut usize) -> 
     let wrote = resume_set::take_in::take_in(body, out);
     *len = wrote.len;
     wrote.refusal
+}
+
+// Reads the body of a Previous-GTIDs event: how many entries it has, and how many bytes its header and they take.
+#[no_mangle]
+pub extern "C" fn gtid_read_previous(body: &[u8], entries: &mut u64, used: &mut usize) -> u8
+    ensures { λ r. ⌜ r ≡ previousRead (previous (now (body .entry))) .refusal ⌝ }
+    ensures { λ _. ⌜ now (entries .exit) ≡ previousRead (previous (now (body .entry))) .entries ⌝ }
+    ensures { λ _. ⌜ now (used .exit) ≡ previousRead (previous (now (body .entry))) .used ⌝ }
+{
+    let said = previous_gtids_event::read::read(body);
+    *entries = said.entries;
+    *used = said.used;
+    said.refusal
+}
+
+// The entry at a place of a body, with a tag if the body's header says so.
+fn entry_in(body: &[u8], at: usize) -> EntryRead
+    ensures { λ r. ⌜ r ≡ entryRead (entryIn (now (body .entry)) at) ⌝ }
+{
+    let header = header_of(body);
+    let refusal = header.refusal;
+    if refusal != 0 {
+        return EntryRead {
+            refusal,
+            uuid: [0u8; 16],
+            tag: [0u8; 32],
+            tag_len: 0,
+            intervals: 0,
+            first: 0,
+            next: 0,
+        };
+    }
+    entry_at(body, at, header.tagged)
+}
+
+// Reads the entry at a place of such a body: how many bytes its tag has and how many intervals there are, where the first of them
+// is, and where the entry ends. Its uuid is the 16 bytes at the place, and its tag ends eight bytes before the first interval.
+#[no_mangle]
+pub extern "C" fn gtid_read_entry(
+    body: &[u8],
+    at: usize,
+    tag_len: &mut usize,
+    intervals: &mut u64,
+    first: &mut usize,
+    next: &mut usize,
+) -> u8
+    ensures { λ r. ⌜ r ≡ entryRead (entryIn (now (body .entry)) at) .refusal ⌝ }
+    ensures { λ _. ⌜ now («tag_len» .exit) ≡ entryRead (entryIn (now (body .entry)) at) .«tag_len» ⌝ }
+    ensures { λ _. ⌜ now (intervals .exit) ≡ entryRead (entryIn (now (body .entry)) at) .intervals ⌝ }
+    ensures { λ _. ⌜ now (first .exit) ≡ entryRead (entryIn (now (body .entry)) at) .first ⌝ }
+    ensures { λ _. ⌜ now (next .exit) ≡ entryRead (entryIn (now (body .entry)) at) .next ⌝ }
+{
+    let said = entry_in(body, at);
+    *tag_len = said.tag_len;
+    *intervals = said.intervals;
+    *first = said.first;
+    *next = said.next;
+    said.refusal
 }
 
 // Writes the entries that the body of a Previous-GTIDs event holds anew.

@@ -1,12 +1,14 @@
 -- Laws of the little-endian definitions (`specs/Le.antt`).
 use mathlib.Core.Path.{_≡_, refl, sym, ap, _∙_}
-use mathlib.Core.List.{List, _++_, append-assoc}
+use mathlib.Core.List.{List, [], _∷_, _++_, append-assoc}
 use Prim.Native.Nat.{ℕ, zero, suc, _+_, _-_, _*_, _/_, _%_, _^_, _≤_, _<_}
-use native.Mathlib.Nat.{pow-suc, sub-self, pow-le-pow-right}
+use native.Mathlib.Numerals.{add-one}
+use native.Mathlib.Nat.{pow-suc, pow-le-pow-right, mul-assoc, mul-le-mul-right, mod-eq-of-lt}
 use native.Mathlib.Omega.{arith}
-use lib.ListN.{length, getD, set}
+use lib.ListN.{length, drop, length-drop, getD, set}
+use lib.Bits.{bitOr, or-shifted-r}
 use lib.Pow.{pow-add, pow-pos}
-use lib.Seq.{drop-append-seam, take-append-seam, drop-cons}
+use lib.Seq.{drop-append-seam, take-append-seam, take-suc, getD-drop, length-take-le}
 use Rattle.misc.specs.Refusal.{number, ended}
 use Rattle.misc.specs.Parse.{refuse, parsed, part, refusedUint, uintRead}
 use Rattle.misc.specs.declared.ReadUint.{ReadUint}
@@ -74,27 +76,31 @@ pub nothing-left : (l : List ℕ) (at v : ℕ) → l ≡ written l at (leBytes 0
 unfolding written leBytes
 nothing-left l at v = refl
 
--- a turn of the reading loop: one byte below those that were read
-pub gather-step : (s : List ℕ) (at i n : ℕ) → 0 < i → i ≤ n → at + n ≤ length s
-    → leOf (part s (at + (i - 1)) (n - (i - 1))) ≡ leOf (part s (at + i) (n - i)) * 256 + getD s (at + (i - 1)) 0
+-- a byte above those that were read counts for the power of their number
+leOf-snoc : (xs : List ℕ) (b : ℕ) → leOf (xs ++ (b ∷ [])) ≡ leOf xs + b * 2 ^ (8 * length xs)
 unfolding leOf
-gather-step s at i n p h room =
-    let e : n - (i - 1) ≡ suc (n - i) = omega arith in
-    let q : suc (at + (i - 1)) ≡ at + i = omega arith in
-    let lt : at + (i - 1) < length s = omega arith in
-    rw (e, drop-cons s (at + (i - 1)) 0 lt, q) (omega arith)
+leOf-snoc [] b = omega arith
+leOf-snoc (x ∷ xs) b =
+    let e : 8 * suc (length xs) ≡ 8 * length xs + 8 = omega arith in
+    let p : 2 ^ (8 * suc (length xs)) ≡ 2 ^ (8 * length xs) * 256 = rw e (pow-add 2 (8 * length xs) 8) in
+    let q : b * (2 ^ (8 * length xs) * 256) ≡ b * 2 ^ (8 * length xs) * 256 = sym (mul-assoc b (2 ^ (8 * length xs)) 256) in
+    rw (leOf-snoc xs b, p) (omega (arith, q))
 
--- no byte
-pub gather-none : (s : List ℕ) (at n : ℕ) → (0 ≡ leOf (part s at (n - n))) × (0 < 256 ^ (n - n))
-unfolding leOf
-gather-none s at n = rw sub-self (refl, omega arith)
-
--- seven bytes leave room for one more
-pub gather-room : (v k : ℕ) → k ≤ 7 → v < 256 ^ k → v < 2 ^ 56
-gather-room v k h l =
-    let p : 256 ^ k ≤ 256 ^ 7 = pow-le-pow-right (omega arith) h in
-    omega arith
-
--- one byte more keeps the number below the power of its length
-pub gather-bound : (v b k : ℕ) → v < 256 ^ k → b < 256 → v * 256 + b < 256 ^ (suc k)
-gather-bound v b k h g = rw pow-suc (omega arith)
+-- a turn of the reading loop
+pub gather-more : (s : List ℕ) (at i v b : ℕ) → i ≤ 7 → at + i < length s → b ≡ getD s (at + i) 0 → b < 256 → v ≡ leOf (part s at i) → v < 256 ^ i
+    → (bitOr v (b * 2 ^ (8 * i) % 2 ^ 64) ≡ leOf (part s at (i + 1))) × (bitOr v (b * 2 ^ (8 * i) % 2 ^ 64) < 256 ^ (i + 1))
+gather-more s at i v b few lt is byte spelt small =
+    let P = 2 ^ (8 * i) in
+    let low : v < P = rw (pow-bytes i) at small in
+    let places : 8 * i ≤ 56 = omega arith in
+    let top : P ≤ 2 ^ 56 = pow-le-pow-right (omega arith) places in
+    let most : b * P ≤ 255 * P = mul-le-mul-right P (omega arith) in
+    let kept : b * P % 2 ^ 64 ≡ b * P = mod-eq-of-lt (omega (arith, most, top)) in
+    let sum : bitOr v (b * P) ≡ b * P + v = or-shifted-r b (8 * i) v low in
+    let here : i < length (drop at s) = rw length-drop (omega arith) in
+    let one : part s at (i + 1) ≡ part s at i ++ (b ∷ []) =
+    rw (add-one, take-suc (drop at s) i 0 here, getD-drop at s i 0, is) in
+    let size : length (part s at i) ≡ i = length-take-le i (drop at s) (omega (arith, here)) in
+    let all : leOf (part s at (i + 1)) ≡ leOf (part s at i) + b * P = rw (one, leOf-snoc (part s at i) b, size) in
+    let power : 256 ^ (i + 1) ≡ P * 256 = rw (add-one, pow-suc, pow-bytes i) in
+    rw (kept, sum, all, power) (omega arith, omega (arith, most, low))

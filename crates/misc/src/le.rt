@@ -23,10 +23,10 @@ pub(crate) fn gather(s: &[u8], at: usize, n: usize) -> u64
     ensures { λ r. ⌜ (r ≡ leOf (part (now (s .entry)) at n)) × (r < 256 ^ n) ⌝ }
 {
     let mut value: u64 = 0;
-    let mut i = n;
-    while 0 < i {
-        i -= 1;
-        value = value * 256 + wide(s[at + i]);
+    let mut i = 0;
+    while i < n {
+        value = value | (wide(s[at + i]) << (8 * i));
+        i += 1;
     }
     value
 }

@@ -16,7 +16,7 @@ use Rattle.misc.specs.Body.{bodyLimit, ofBody}
 use Rattle.misc.specs.Le.{leOf, leAt}
 use Rattle.misc.specs.Varlen.{varlenAt}
 use Rattle.misc.proofs.ParseLaws.{split, never, was-parsed, was-refused, then-parsed, mapped-parsed, judged-parsed, pick-parsed, bytes-here, bytes-gone, bytes-parsed, part-length}
-use Rattle.misc.proofs.BodyLaws.{body-fits, body-too-long}
+use Rattle.misc.proofs.BodyLaws.{body-fits, body-too-long, body-then}
 use Rattle.misc.proofs.LeLaws.{le-here, le-gone}
 use Rattle.misc.proofs.Forward.{le-forward, varlen-forward}
 use Rattle.packets.specs.Gno.{Interval, interval}
@@ -294,22 +294,16 @@ entry-there tagged s at k is next e =
 -- ---- the whole body
 module _ (s : List ℕ) where
   -- what the answer for the header tells
-  header-says : (p : Parse ℕ) → headerRead p .refusal ≡ refusalOf p
+  pub header-says : (p : Parse ℕ) → headerRead p .refusal ≡ refusalOf p
   header-says (refuse x) = refl
   header-says (parsed h next) = refl
-
-  then-says : (p : Parse ℕ) → ofBody s (andThen p (entriesAfter s)) ≡ andThen (ofBody s p) (entriesAfter s)
-  then-says p =
-      split (length s) 65536
-      (λ h. body-fits s (andThen p (entriesAfter s)) h ∙ ap (λ (q : Parse ℕ). andThen q (entriesAfter s)) (sym (body-fits s p h)))
-      (λ h. body-too-long s (andThen p (entriesAfter s)) h ∙ ap (λ (q : Parse ℕ). andThen q (entriesAfter s)) (sym (body-too-long s p h)))
 
   module _ (r : HeaderRead) (is : r ≡ headerRead (ofBody s (leAt 8 s 0))) where
     pub headless : (r .refusal ≡ 0 → ⊥) → (x : Refusal) × (previous s ≡ refuse x) × (r .refusal ≡ number x)
     unfolding previous
     headless z =
         let (x, e, told) = was-not-read headerRead (λ y. y .refusal) header-says (ofBody s (leAt 8 s 0)) r is z in
-        (x, then-says (leAt 8 s 0) ∙ ap (λ (q : Parse ℕ). andThen q (entriesAfter s)) e, ap (λ (y : HeaderRead). y .refusal) told)
+        (x, body-then s (leAt 8 s 0) (entriesAfter s) ∙ ap (λ (q : Parse ℕ). andThen q (entriesAfter s)) e, ap (λ (y : HeaderRead). y .refusal) told)
 
     pub headed : r .refusal ≡ 0 → (previous s ≡ many (entryAt (r .tagged) s) (r .entries) 8) × (8 ≤ length s) × (length s ≤ 65536)
     unfolding previous
@@ -319,7 +313,7 @@ module _ (s : List ℕ) where
         split (length s) 65536 (λ k. k) (λ k. never (sym (body-too-long s (leAt 8 s 0) k) ∙ e)) in
         let f = le-forward s 0 8 (sym (body-fits s (leAt 8 s 0) small) ∙ e) in
         let eight : next ≡ 8 = omega arith in (
-          then-says (leAt 8 s 0)
+          body-then s (leAt 8 s 0) (entriesAfter s)
               ∙ ap (λ (q : Parse ℕ). andThen q (entriesAfter s)) e
               ∙ ap (λ (n : ℕ). many (entryAt (saysTagged h) s) (saysCount h) n) eight
               ∙ sym (ap (λ (y : HeaderRead). many (entryAt (y .tagged) s) (y .entries) 8) told),
