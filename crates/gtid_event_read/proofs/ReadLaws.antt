@@ -3,6 +3,7 @@ use mathlib.Core.Path.{_≡_}
 use mathlib.Core.Bool.{_||_}
 use mathlib.Core.List.{List}
 use Prim.Native.Nat.{ℕ, _+_, _-_, _*_, _≤_, _<_}
+use native.Mathlib.Omega.{arith}
 use lib.Dec.{leb, eqb}
 use lib.ListN.{length}
 use borrow.Author.Tests.{ne-eqb}
@@ -12,7 +13,7 @@ use Rattle.misc.specs.Body.{bodyLimit}
 use Rattle.misc.specs.Le.{leAt}
 use Rattle.misc.specs.Lenenc.{lenencAt}
 use Rattle.misc.specs.Mark.{hasBit, clearBit}
-use Rattle.misc.proofs.ParseLaws.{never, then-parsed, mapped-parsed, pick-either, pick-parsed}
+use Rattle.misc.proofs.ParseLaws.{split, never, then-parsed, mapped-parsed, pick-either, pick-parsed}
 use Rattle.misc.proofs.BodyLaws.{body-fits, body-too-long}
 use Rattle.misc.proofs.Forward.{le-forward, lenenc-forward}
 use Rattle.gtid_event.specs.Event.{undefinedVersion}
@@ -30,21 +31,22 @@ module _ (type : ℕ) (s : List ℕ) where
   gtid-too-long h = body-too-long s _ h
 
   module _ (fits : length s ≤ 65536) where
-    pub gtid-33 : type ≡ 33 → gtid type s ≡ untagged s
+    pub gtid-untagged : 33 ≤ type → type < 35 → gtid type s ≡ untagged s
     unfolding gtid
-    gtid-33 e = rw e (body-fits s (untagged s) fits)
-
-    pub gtid-34 : type ≡ 34 → gtid type s ≡ untagged s
-    unfolding gtid
-    gtid-34 e = rw e (body-fits s (untagged s) fits)
+    gtid-untagged l h =
+        split type 33
+        (λ k. let e : type ≡ 33 = omega arith in rw e (body-fits s (untagged s) fits))
+        (λ k. let e : type ≡ 34 = omega arith in rw e (body-fits s (untagged s) fits))
 
     pub gtid-42 : type ≡ 42 → gtid type s ≡ tagged s
     unfolding gtid
     gtid-42 e = rw e (body-fits s (tagged s) fits)
 
-    pub gtid-other : (type ≡ 33 → ⊥) → (type ≡ 34 → ⊥) → (type ≡ 42 → ⊥) → gtid type s ≡ refuse wrongType
+    pub gtid-other : (33 ≤ type → type < 35 → ⊥) → (type ≡ 42 → ⊥) → gtid type s ≡ refuse wrongType
     unfolding gtid
-    gtid-other a b c = rw (ne-eqb type 33 a, ne-eqb type 34 b, ne-eqb type 42 c) (body-fits s (refuse wrongType) fits)
+    gtid-other out c =
+        rw (ne-eqb type 33 (λ e. out (omega arith) (omega arith)), ne-eqb type 34 (λ e. out (omega arith) (omega arith)), ne-eqb type 42 c)
+        (body-fits s (refuse wrongType) fits)
 
 -- ---- what is used lies in the body
 module _ (s : List ℕ) where

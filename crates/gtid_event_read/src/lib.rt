@@ -52,8 +52,7 @@ pub fn read(event_type: u8, body: &[u8]) -> GtidRead
         return GtidRead::refused(TOO_LONG);
     }
     match event_type {
-        GTID_EVENT => untagged::deserialize_untagged(body),
-        ANONYMOUS_GTID_EVENT => untagged::deserialize_untagged(body),
+        GTID_EVENT | ANONYMOUS_GTID_EVENT => untagged::deserialize_untagged(body),
         GTID_TAGGED_LOG_EVENT => tagged::deserialize_tagged(body),
         _ => GtidRead::refused(WRONG_TYPE),
     }

@@ -1,14 +1,18 @@
 -- What it says of a record that it can be written.
-use mathlib.Core.Path.{_≡_, sym, _∙_}
+use mathlib.Core.Path.{_≡_, refl, sym, ap, _∙_}
 use mathlib.Core.Bool.{true, false, _&&_, _||_}
-use mathlib.Core.List.{List}
-use Prim.Native.Nat.{ℕ, _+_, _^_, _≤_, _<_}
+use mathlib.Core.List.{List, [], _∷_}
+use Prim.Native.Nat.{ℕ, zero, suc, _+_, _^_, _≤_, _<_}
 use native.Mathlib.Numerals.{add-one}
-use lib.ListN.{length, getD, drop, drop-of-length-le}
-use lib.Seq.{drop-cons}
+use native.Mathlib.Omega.{arith}
+use lib.ListN.{length, getD, take, drop, drop-of-length-le}
+use lib.Seq.{drop-cons, drop-drop}
 use lib.Dec.{eqb}
 use borrow.Author.Tests.{leb-true, ltb-true, eqb-true, eq-eqb, ne-eqb}
 use Rattle.misc.specs.Pick.{pick}
+use Rattle.misc.specs.Parse.{Parse, part, uintRead}
+use Rattle.misc.specs.Le.{leOf, leAt}
+use Rattle.misc.proofs.LeLaws.{le-here}
 use Rattle.packets.specs.Tag.{isTag}
 use Rattle.packets.proofs.Tests.{and-true}
 use Rattle.gtid_event.specs.Event.{tagged}
@@ -27,6 +31,21 @@ module _ (s : List ℕ) (i : ℕ) (inside : i < length s) where
 
   pub zero-missed : (getD s i 0 ≡ 0 → ⊥) → false ≡ allZero (drop i s)
   zero-missed ne = sym (zeros-next s i inside ∙ rw (ne-eqb (getD s i 0) 0 ne))
+
+-- all of the first n bytes spell 0
+zeros-passed : (n : ℕ) (s : List ℕ) → leOf (take n s) ≡ 0 → allZero (drop n s) ≡ allZero s
+unfolding leOf allZero
+zeros-passed zero s e = refl
+zeros-passed (suc n) [] e = refl
+zeros-passed (suc n) (b ∷ bs) e =
+    let z : b ≡ 0 = omega arith in
+    let more : leOf (take n bs) ≡ 0 = omega arith in
+    rw z (zeros-passed n bs more)
+
+pub word-passed : (s : List ℕ) (at : ℕ) → at + 8 ≤ length s → uintRead (leAt 8 s at) .value ≡ 0 → allZero (drop (at + 8) s) ≡ allZero (drop at s)
+word-passed s at h e =
+    let v : leOf (part s at 8) ≡ 0 = sym (ap (λ (p : Parse ℕ). uintRead p .value) (le-here 8 s at h)) ∙ e in
+    rw (← drop-drop 8 at s) (zeros-passed 8 (drop at s) v)
 
 pub zeros-end : (s : List ℕ) (i : ℕ) → length s ≤ i → true ≡ allZero (drop i s)
 unfolding allZero

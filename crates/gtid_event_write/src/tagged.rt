@@ -185,11 +185,10 @@ pub(crate) fn len_tagged_v2(event: GtidEvent) -> u64
     payload_size(tagged_fields_len(event))
 }
 
-pub(crate) fn serialize_tagged_v2(event: GtidEvent, out: &mut [u8], at: usize) -> usize
-    requires { ⌜ writableTagged event ≡ true ⌝ }
+pub(crate) fn serialize_tagged_v2(event: GtidEvent, size: u64, out: &mut [u8], at: usize) -> usize
+    requires { ⌜ (writableTagged event ≡ true) × (size ≡ payloadSize (length (fieldBytes event))) ⌝ }
     ensures { λ r. ⌜ WhereFits (now (out .entry)) at (taggedBytes event) (now (out .exit)) r ⌝ }
 {
-    let size = len_tagged_v2(event);
     let after_version = put_byte(TAGGED_SERIALIZATION_VERSION_V2, out, at);
     let after_size = put_varlen_uint(size, out, after_version);
     let after_last = put_varlen_uint(LAST_NON_IGNORABLE_FIELD_ID, out, after_size);

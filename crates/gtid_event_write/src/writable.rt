@@ -8,6 +8,7 @@ ghost use Rattle.gtid_event_write.specs.Writable.{allZero, writable, wri
 use gtid_event::GtidEvent;
 use gtid_event::LOGICAL_TIMESTAMP_TYPECODE;
 use gtid_event::UNDEFINED_SERVER_VERSION;
+use misc::le::read_u64_le;
 use packets::is_tag;
 
 // The first number that is too great for the tagged layout's signed integers.
@@ -21,11 +22,25 @@ const VERSION_FLAG: u32 = 1 << 31;
 // The first number that is too great for a timestamp's seven bytes.
 const TIMESTAMP_TOP: u64 = 1 << 56;
 
+// The place behind all whole words of eight bytes, from a place on, that are zero.
+fn past_zero_words(tag: [u8; 32], from: usize) -> usize
+    ensures { λ r. ⌜ allZero (drop from tag) ≡ allZero (drop r tag) ⌝ }
+{
+    let mut at = from;
+    while at <= 24 {
+        if read_u64_le(&tag, at).value != 0 {
+            return at;
+        }
+        at += 8;
+    }
+    at
+}
+
 // Whether the tag's bytes beyond its length are zero.
 fn cleared_beyond(tag: [u8; 32], tag_len: u8) -> bool
     ensures { λ r. ⌜ r ≡ allZero (drop «tag_len» tag) ⌝ }
 {
-    let mut i = tag_len as usize;
+    let mut i = past_zero_words(tag, tag_len as usize);
     while i < 32 {
         if tag[i] != 0 {
             return false;

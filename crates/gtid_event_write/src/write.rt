@@ -20,12 +20,12 @@ use misc::refusal::NOT_WRITABLE;
 // What an event's header leaves of 2 ^ 32 - 1 bytes.
 const LENGTH_CAP: usize = 4_294_967_276;
 
-fn serialize(event: GtidEvent, out: &mut [u8], at: usize) -> usize
-    requires { ⌜ writable event ≡ true ⌝ }
+fn serialize(event: GtidEvent, len: usize, out: &mut [u8], at: usize) -> usize
+    requires { ⌜ (writable event ≡ true) × (len ≡ length (eventBytes event)) ⌝ }
     ensures { λ r. ⌜ WhereFits (now (out .entry)) at (eventBytes event) (now (out .exit)) r ⌝ }
 {
     if 0 < event.tag_len {
-        return serialize_tagged_v2(event, out, at);
+        return serialize_tagged_v2(event, len as u64, out, at);
     }
     serialize_untagged(event, out, at)
 }
@@ -64,7 +64,7 @@ pub fn write(event: GtidEvent, out: &mut [u8]) -> Wrote
         }
         return Wrote {
             refusal: 0,
-            len: serialize(event, out, 0),
+            len: serialize(event, needed, out, 0),
         };
     }
     Wrote {

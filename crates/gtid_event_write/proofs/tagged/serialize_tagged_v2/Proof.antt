@@ -8,9 +8,6 @@ use Rattle.gtid_event_write.proofs.PutLaws.{with-bytes}
 use Rattle.gtid_event_write.proofs.tagged.serialize_tagged_v2.Statement.{statement}
 use Rattle.gtid_event_write.proofs.tagged.serialize_tagged_v2.Tie as tie
 
-len-tagged-v2-requires : tie.Need-len-tagged-v2-requires
-len-tagged-v2-requires c κs = search needs
-
 put-byte-requires : tie.Need-put-byte-requires
 put-byte-requires c κs = search needs
 
@@ -29,14 +26,13 @@ same-length c = search needs
 returns : tie.Need-returns
 unfolding taggedBytes
 returns c =
-    let size = with-bytes (ap varlenBytes (c .before .before .before .before .before .before .before .before .before .before .before .before .before .before .before .before .len-tagged-v2 .ensures .0)) (put-placed (c .before .before .before .before .before .before .before .before .before .before .put-varlen-uint .ensures)) in
+    let size = with-bytes (ap varlenBytes (c .before .before .before .before .before .before .before .before .before .before .before .before .before .before .before .before .before .pre .1)) (put-placed (c .before .before .before .before .before .before .before .before .before .before .put-varlen-uint .ensures)) in
     put-placed (c .before .before .before .before .before .before .before .before .before .before .before .before .before .before .put-byte .ensures) also size also put-placed (c .before .before .before .before .before .before .put-varlen-uint2 .ensures) also c .before .before .write-tagged-fields-v2 .ensures
 
 pub serialize-tagged-v2-spec : {M : Type 1} → statement M
 serialize-tagged-v2-spec =
     tie.close
     (tie.spec
-    len-tagged-v2-requires
     put-byte-requires
     put-varlen-uint-requires
     put-varlen-uint-requires-2

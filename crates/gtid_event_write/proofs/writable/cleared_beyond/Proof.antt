@@ -1,5 +1,5 @@
 -- `gtid_event_write::writable::cleared_beyond` meets its contract. The invariant: the bytes beyond the tag are zero just if those from `i` on are.
-use mathlib.Core.Path.{_≡_, _∙_}
+use mathlib.Core.Path.{_≡_, sym, _∙_}
 use Prim.Native.Nat.{_-_}
 use lib.ListN.{drop}
 use borrow.Author.Needs.{needs}
@@ -14,6 +14,9 @@ Inv-loop tag-len tag i₀ i = allZero (drop i tag) ≡ allZero (drop i₀ tag)
 abbrev μ-loop : tie.MeasureT-loop
 μ-loop tag-len tag i₀ i = 32 - i
 
+past-zero-words-requires : tie.Need-past-zero-words-requires Inv-loop μ-loop
+past-zero-words-requires c κs = search needs
+
 loop-holds : tie.Need-loop-holds Inv-loop μ-loop
 loop-holds c = search needs
 
@@ -23,7 +26,7 @@ array-read-if1 c = search needs
 returns : tie.Need-returns Inv-loop μ-loop
 returns c =
     let w = c .before .before .loop in
-    zero-missed _ (w .i) (search needs) (c .if1 .taken) ∙ w .inv
+    zero-missed _ (w .i) (search needs) (c .if1 .taken) ∙ w .inv ∙ sym (c .before .before .before .past-zero-words .ensures)
 
 add-i : tie.Need-add-i Inv-loop μ-loop
 add-i c = search needs
@@ -39,7 +42,7 @@ loop-again c =
 returns-2 : tie.Need-returns-2 Inv-loop μ-loop
 returns-2 c =
     let w = c .before .loop in
-    zeros-end _ (w .i) (search needs) ∙ w .inv
+    zeros-end _ (w .i) (search needs) ∙ w .inv ∙ sym (c .before .before .past-zero-words .ensures)
 
 pub cleared-beyond-spec : {M : Type 1} → statement M
 cleared-beyond-spec =
@@ -47,6 +50,7 @@ cleared-beyond-spec =
     (tie.spec
     Inv-loop
     μ-loop
+    past-zero-words-requires
     loop-holds
     array-read-if1
     returns

@@ -16,7 +16,7 @@ returns : tie.Need-returns
 returns c = write-short _ (sym (c .before .before .before .is-writable .ensures) ∙ c .before .before .if1 .taken) _ _ (c .before .event-len .ensures) (c .if2 .taken)
 
 serialize-requires : tie.Need-serialize-requires
-serialize-requires c κs = sym (c .before .before .before .before .is-writable .ensures) ∙ c .before .before .before .if1 .taken
+serialize-requires c κs = (sym (c .before .before .before .before .is-writable .ensures) ∙ c .before .before .before .if1 .taken, c .before .before .event-len .ensures)
 
 same-length : tie.Need-same-length
 same-length c = search needs
