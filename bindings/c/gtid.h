@@ -46,6 +46,22 @@ uint8_t gtid_take_in(const uint8_t *body, size_t body_len, uint8_t *out, size_t 
  * one, and every length in its shortest form. Refuses with 11, 1, 6 and 13. */
 uint8_t gtid_rewrite(const uint8_t *body, size_t body_len, uint8_t *out, size_t out_len, size_t *len);
 
+/* Reads the body of a Previous-GTIDs event (type 35): how many entries it has, and how many of its bytes the header and they
+ * take. Refuses with 11, 1 and 6; then both numbers are 0. */
+uint8_t gtid_read_previous(const uint8_t *body, size_t body_len, uint64_t *entries, size_t *used);
+
+/* Reads the entry at a place of such a body: the first entry is at place 8, each other one where the one before it ends, at
+ * `*next`. Its uuid is the 16 bytes at `at`, and its tag the `*tag_len` bytes that end at `*first - 8`; whether entries have
+ * tags is said by the body's header. Its `*intervals` intervals, from `*first` to `*next`, are pairs of 8-byte numbers, lowest
+ * byte first: the start, and the end that isn't reached. Refuses with 11, 1 and 6, also a place behind the body's end; then
+ * all four numbers are 0. */
+uint8_t gtid_read_entry(const uint8_t *body, size_t body_len, size_t at, size_t *tag_len, uint64_t *intervals,
+                        size_t *first, size_t *next);
+
+/* Reads the variable-length unsigned integer at the front of some bytes: its value, and how many bytes it takes. Refuses with
+ * 1; then both numbers are 0. */
+uint8_t gtid_read_varlen_uint(const uint8_t *s, size_t s_len, uint64_t *value, size_t *used);
+
 /* What `*kind` says of an offer. */
 #define GTID_REFUSED 0
 #define GTID_TAKEN 1

@@ -149,6 +149,42 @@ fn answers_of(side: &dyn Ours, batch: &[Case]) -> io::Result<Vec<(usize, String)
     Ok(places.into_iter().zip(lines).collect())
 }
 
+/// Asks the archive and the crate for call 1 with every input of three bytes, and prints what was found; how many are
+/// unequal.
+#[cfg(archive)]
+fn every_three_bytes() -> u64 {
+    let (mut equal, mut refused, mut unequal) = (0u64, 0u64, 0u64);
+    for number in 0..1u32 << 24 {
+        let [bytes @ .., _] = number.to_le_bytes();
+        let lent = bytes;
+        let ours = ours::Archive::read_uint(&lent);
+        let mark = ours::changed(&lent, &bytes);
+        let theirs = theirs::answers::read_uint(&bytes);
+        let same = match &theirs {
+            Told::Ok((value, used)) => ours == (0, *value, *used),
+            Told::Refused(refusal) => ours == (1, 0, 0) && refusal.number == Some(1),
+            _ => false,
+        };
+        if same && mark.is_empty() {
+            equal += 1;
+            refused += u64::from(ours.0 != 0);
+            continue;
+        }
+        unequal += 1;
+        if unequal <= PRINTED {
+            let case = Case::bytes(case::Kind::ReadUint, 0, bytes.to_vec(), 0);
+            let ours = ours::Archive::uint_line(ours) + mark;
+            let theirs = theirs.map(words::value_and_used);
+            println!("{}", described(&case, &ours, &theirs));
+        }
+    }
+    let cases = equal + unequal;
+    println!(
+        "The archive, call 1, every input of 3 bytes: {cases} cases, {equal} equal, {refused} of these refused, {unequal} different."
+    );
+    unequal
+}
+
 fn described(case: &Case, ours: &str, theirs: &Told<String>) -> String {
     let input = match &case.input {
         Input::Bytes(_) => String::new(),
@@ -217,6 +253,8 @@ fn main() -> ExitCode {
     );
     println!();
     let unsorted: u64 = comparison.sides.iter().map(Side::print).sum();
+    #[cfg(archive)]
+    let unsorted = unsorted + every_three_bytes();
     if unsorted == 0 {
         ExitCode::SUCCESS
     } else {

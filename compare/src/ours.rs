@@ -8,6 +8,11 @@ use std::{
     process::{Command, Stdio},
     thread,
 };
+#[cfg(archive)]
+use {
+    std::hint::black_box,
+    theirs::answers::{Entry, Previous},
+};
 
 /// Something that answers requests with the lines of docs/VECTORS.md.
 pub trait Ours {
@@ -92,6 +97,27 @@ mod linked {
             out_len: usize,
             len: *mut usize,
         ) -> u8;
+        pub fn gtid_read_varlen_uint(
+            s: *const u8,
+            s_len: usize,
+            value: *mut u64,
+            used: *mut usize,
+        ) -> u8;
+        pub fn gtid_read_previous(
+            body: *const u8,
+            body_len: usize,
+            entries: *mut u64,
+            used: *mut usize,
+        ) -> u8;
+        pub fn gtid_read_entry(
+            body: *const u8,
+            body_len: usize,
+            at: usize,
+            tag_len: *mut usize,
+            intervals: *mut u64,
+            first: *mut usize,
+            next: *mut usize,
+        ) -> u8;
     }
 }
 
@@ -147,8 +173,8 @@ impl Archive {
         }
     }
 
-    // SAFETY, for the three calls: both pieces are alive, as long as told, and apart, and so is the number; no pointer
-    // of a Vec is null. gtid.h asks no more.
+    // SAFETY, for all calls: the pieces are alive, as long as told, and apart, and so are the numbers; no pointer of a Vec
+    // or a slice is null. gtid.h asks no more.
 
     fn read(event_type: u8, body: &[u8]) -> Left {
         Self::call(
@@ -183,10 +209,123 @@ impl Archive {
         )
     }
 
+    /// The refusal, the value and the bytes used of a variable-length unsigned integer.
+    pub fn read_uint(bytes: &[u8]) -> (u8, u64, usize) {
+        let (mut value, mut used) = (u64::MAX, usize::MAX);
+        let refusal = unsafe {
+            linked::gtid_read_varlen_uint(
+                bytes.as_ptr(),
+                bytes.len(),
+                &raw mut value,
+                &raw mut used,
+            )
+        };
+        (refusal, value, used)
+    }
+
+    /// The words for the above.
+    pub fn uint_line(answer: (u8, u64, usize)) -> String {
+        match answer {
+            (0, value, used) => words::value_and_used((value, used)),
+            (refusal, 0, 0) => format!("refused {refusal}"),
+            (refusal, _, _) => format!("refused {refusal} nonzero"),
+        }
+    }
+
+    /// The refusal, the number of entries and the bytes used of a Previous-GTIDs body.
+    fn read_previous(body: &[u8]) -> (u8, u64, usize) {
+        let (mut entries, mut used) = (u64::MAX, usize::MAX);
+        let refusal = unsafe {
+            linked::gtid_read_previous(body.as_ptr(), body.len(), &raw mut entries, &raw mut used)
+        };
+        (refusal, entries, used)
+    }
+
+    /// The entry at a place of such a body, and where it ends; else the words for its refusal.
+    fn read_entry(body: &[u8], at: usize) -> Result<(Entry, usize), String> {
+        let (mut tag_len, mut intervals) = (usize::MAX, u64::MAX);
+        let (mut first, mut next) = (usize::MAX, usize::MAX);
+        let refusal = unsafe {
+            linked::gtid_read_entry(
+                body.as_ptr(),
+                body.len(),
+                at,
+                &raw mut tag_len,
+                &raw mut intervals,
+                &raw mut first,
+                &raw mut next,
+            )
+        };
+        if refusal != 0 {
+            let zeros = (tag_len, intervals, first, next) == (0, 0, 0, 0);
+            let mark = if zeros { "" } else { " nonzero" };
+            return Err(format!("refused {refusal}{mark}"));
+        }
+        let tag_end = first.wrapping_sub(8);
+        let uuid = body.get(at..).and_then(|rest| rest.first_chunk());
+        let tag = body.get(tag_end.wrapping_sub(tag_len)..tag_end);
+        let pairs = body.get(first..next).map(|bytes| bytes.as_chunks().0);
+        let (Some(uuid), Some(tag), Some(pairs)) = (uuid, tag, pairs) else {
+            return Err("misplaced".to_owned());
+        };
+        if first < at + 24 || next - first != 16 * pairs.len() || pairs.len() as u64 != intervals {
+            return Err("miscounted".to_owned());
+        }
+        let entry = Entry {
+            uuid: *uuid,
+            tag: tag.to_vec(),
+            intervals: pairs.iter().map(pair).collect(),
+        };
+        Ok((entry, next))
+    }
+
+    /// The words for a Previous-GTIDs body: the entries are taken out one by one, until there are as many as were said.
+    /// In a body that is refused an entry must be refused, and for the same reason.
+    fn previous_line(body: &[u8]) -> String {
+        let lent = body.to_vec();
+        let (refusal, count, used) = Self::read_previous(&lent);
+        let mut entries = Vec::new();
+        let mut at = 8;
+        let mut refused = None;
+        while refused.is_none() && (refusal != 0 || (entries.len() as u64) < count) {
+            match Self::read_entry(&lent, at) {
+                Ok((entry, next)) => {
+                    entries.push(entry);
+                    at = next;
+                }
+                Err(words) => refused = Some(words),
+            }
+        }
+        let line = match refused {
+            Some(words) => words,
+            None => words::previous(Previous {
+                used,
+                rest: body.len().wrapping_sub(used),
+                entries,
+            }),
+        };
+        let mark = if refusal != 0 && line != format!("refused {refusal}") {
+            " otherwise"
+        } else if refusal != 0 && (count, used) != (0, 0) {
+            " nonzero"
+        } else if refusal == 0 && at != used {
+            " elsewhere"
+        } else {
+            changed(&lent, body)
+        };
+        line + mark
+    }
+
     /// The line that the program would answer with.
     fn line(case: &Case) -> String {
         let body = case.body();
         match case.kind {
+            Kind::ReadUint => {
+                let lent = body.to_vec();
+                let line = Self::uint_line(Self::read_uint(&lent));
+                line + changed(&lent, body)
+            }
+            Kind::ReadPrevious => Self::previous_line(body),
             Kind::ReadRecord => {
                 let left = Self::read(case.event_type, body);
                 if left.refusal != 0 || left.out.len() != RECORD_LEN {
@@ -211,6 +350,24 @@ impl Archive {
 
 #[cfg(archive)]
 const RECORD_LEN: usize = 116;
+
+/// A mark if bytes that were lent aren't as before. They are looked at anew: the compiler takes it that they are.
+#[cfg(archive)]
+pub fn changed(lent: &[u8], before: &[u8]) -> &'static str {
+    if black_box(lent) == before {
+        ""
+    } else {
+        " changed"
+    }
+}
+
+/// The start and the end of an interval.
+#[cfg(archive)]
+fn pair(bytes: &[u8; 16]) -> (u64, u64) {
+    let (start, end) = bytes.split_at(8);
+    let number = |bytes: &[u8]| u64::from_le_bytes(bytes.try_into().unwrap());
+    (number(start), number(end))
+}
 
 #[cfg(archive)]
 fn refused_or_bytes(left: Left) -> String {
@@ -253,7 +410,7 @@ impl Ours for Archive {
         use Kind::*;
         matches!(
             case.kind,
-            ReadRecord | RewriteRecord | WriteRecord | RewritePrevious
+            ReadUint | ReadRecord | RewriteRecord | WriteRecord | ReadPrevious | RewritePrevious
         )
     }
 

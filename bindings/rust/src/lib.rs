@@ -28,11 +28,13 @@
 #![deny(missing_docs)]
 
 mod event;
+mod previous;
 mod refusal;
 mod set;
 mod sys;
 
 pub use event::GtidEvent;
+pub use previous::{Entry, PreviousGtids};
 pub use refusal::Refusal;
 pub use set::{Offered, ResumeSet, LONGEST_SET};
 
@@ -52,6 +54,20 @@ pub fn rewrite(body: &[u8]) -> Result<Vec<u8>, Refusal> {
     sys::written(body.len(), |out, len| unsafe {
         sys::gtid_rewrite(body.as_ptr(), body.len(), out.as_mut_ptr(), out.len(), len)
     })
+}
+
+/// The variable-length unsigned integer at the front of some bytes: its value, and how many bytes were used. Refused with 1.
+///
+/// ```
+/// assert_eq!(gtid_resume::read_varlen_uint(&[5, 0, 9])?, (1, 2));
+/// assert_eq!(gtid_resume::read_varlen_uint(&[5]).unwrap_err().number(), 1);
+/// # Ok::<(), gtid_resume::Refusal>(())
+/// ```
+pub fn read_varlen_uint(bytes: &[u8]) -> Result<(u64, usize), Refusal> {
+    let (mut value, mut used) = (0, 0);
+    let number = unsafe { sys::gtid_read_varlen_uint(bytes.as_ptr(), bytes.len(), &mut value, &mut used) };
+    Refusal::unless_zero(number, 0)?;
+    Ok((value, used))
 }
 
 /// The text of an event, one line or more; what is refused is said in the text.

@@ -15,6 +15,17 @@ extern "C" {
     ) -> u8;
     pub fn gtid_take_in(body: *const u8, body_len: usize, out: *mut u8, out_len: usize, len: *mut usize) -> u8;
     pub fn gtid_rewrite(body: *const u8, body_len: usize, out: *mut u8, out_len: usize, len: *mut usize) -> u8;
+    pub fn gtid_read_previous(body: *const u8, body_len: usize, entries: *mut u64, used: *mut usize) -> u8;
+    pub fn gtid_read_entry(
+        body: *const u8,
+        body_len: usize,
+        at: usize,
+        tag_len: *mut usize,
+        intervals: *mut u64,
+        first: *mut usize,
+        next: *mut usize,
+    ) -> u8;
+    pub fn gtid_read_varlen_uint(s: *const u8, s_len: usize, value: *mut u64, used: *mut usize) -> u8;
     pub fn gtid_offer(
         set: *const u8,
         set_len: usize,

@@ -22,6 +22,7 @@ use theirs::{
         events::{gtid_event::GtidEvent, previous_gtids_event::PreviousGtidsEvent},
     },
     io::ParseBuf,
+    misc::{read_varlen_uint, write_varlen_uint},
     proto::{MyDeserialize, MySerialize},
 };
 
@@ -51,6 +52,27 @@ mod linked {
             out: *mut u8,
             out_len: usize,
             len: *mut usize,
+        ) -> u8;
+        pub fn gtid_read_varlen_uint(
+            s: *const u8,
+            s_len: usize,
+            value: *mut u64,
+            used: *mut usize,
+        ) -> u8;
+        pub fn gtid_read_previous(
+            body: *const u8,
+            body_len: usize,
+            entries: *mut u64,
+            used: *mut usize,
+        ) -> u8;
+        pub fn gtid_read_entry(
+            body: *const u8,
+            body_len: usize,
+            at: usize,
+            tag_len: *mut usize,
+            intervals: *mut u64,
+            first: *mut usize,
+            next: *mut usize,
         ) -> u8;
         pub fn gtid_offer(
             set: *const u8,
@@ -147,6 +169,49 @@ mod ours {
         }
     }
 
+    /// The refusal, the value, and the bytes used.
+    #[inline(always)]
+    pub fn read_uint(bytes: &[u8]) -> (u8, u64, usize) {
+        let (mut value, mut used) = (0, 0);
+        let refusal = unsafe {
+            linked::gtid_read_varlen_uint(
+                bytes.as_ptr(),
+                bytes.len(),
+                &raw mut value,
+                &raw mut used,
+            )
+        };
+        (refusal, value, used)
+    }
+
+    /// The refusal, the number of entries, and the bytes used.
+    #[inline(always)]
+    pub fn read_previous(body: &[u8]) -> (u8, u64, usize) {
+        let (mut entries, mut used) = (0, 0);
+        let refusal = unsafe {
+            linked::gtid_read_previous(body.as_ptr(), body.len(), &raw mut entries, &raw mut used)
+        };
+        (refusal, entries, used)
+    }
+
+    /// The refusal, where the intervals begin, and where the entry ends.
+    #[inline(always)]
+    pub fn read_entry(body: &[u8], at: usize) -> (u8, usize, usize) {
+        let (mut tag_len, mut intervals, mut first, mut next) = (0, 0, 0, 0);
+        let refusal = unsafe {
+            linked::gtid_read_entry(
+                body.as_ptr(),
+                body.len(),
+                at,
+                &raw mut tag_len,
+                &raw mut intervals,
+                &raw mut first,
+                &raw mut next,
+            )
+        };
+        (refusal, first, next)
+    }
+
     #[inline(always)]
     pub fn offer(set: &[u8], event_type: u8, body: &[u8], out: &mut [u8]) -> Answer {
         let (mut kind, mut number) = (0, 0);
@@ -207,7 +272,16 @@ mod ours {
 
 /// A word for it, what it is, and the smaller number of turns; the other is twice that.
 #[rustfmt::skip]
-const TABLE: [(&str, &str, u64); 33] = [
+const TABLE: [(&str, &str, u64); 47] = [
+    ("varint-1", "read 64 variable-length integers of 1 byte", 1000),
+    ("varint-2", "read 64 variable-length integers of 2 bytes", 1000),
+    ("varint-3", "read 64 variable-length integers of 3 bytes", 1000),
+    ("varint-4", "read 64 variable-length integers of 4 bytes", 1000),
+    ("varint-5", "read 64 variable-length integers of 5 bytes", 1000),
+    ("varint-6", "read 64 variable-length integers of 6 bytes", 1000),
+    ("varint-7", "read 64 variable-length integers of 7 bytes", 1000),
+    ("varint-8", "read 64 variable-length integers of 8 bytes", 1000),
+    ("varint-9", "read 64 variable-length integers of 9 bytes", 1000),
     ("read-untagged", "read an untagged record (type 33), all fields", 1000),
     ("read-short", "read an untagged record of 25 bytes", 1000),
     ("read-tagged", "read a tagged record (type 42), all fields, tag of 10 bytes", 1000),
@@ -216,6 +290,11 @@ const TABLE: [(&str, &str, u64); 33] = [
     ("write-short", "write the untagged record of 25 bytes", 1000),
     ("write-tagged", "write the tagged record, tag of 10 bytes", 1000),
     ("write-tagged-32", "the same, tag of 32 bytes", 1000),
+    ("previous-1", "read Previous-GTIDs, 1 interval", 1000),
+    ("previous-64", "read Previous-GTIDs, 64 intervals of one uuid", 100),
+    ("previous-2048", "read Previous-GTIDs, 2,048 intervals of one uuid", 10),
+    ("previous-uuids", "read Previous-GTIDs, 256 uuids, 1 interval each", 10),
+    ("previous-tags", "read Previous-GTIDs, 256 tags of 32 bytes, 1 interval each", 10),
     ("rewrite-1", "rewrite Previous-GTIDs, 1 interval", 1000),
     ("rewrite-64", "rewrite Previous-GTIDs, 64 intervals of one uuid", 100),
     ("rewrite-2048", "rewrite Previous-GTIDs, 2,048 intervals of one uuid", 10),
@@ -263,6 +342,15 @@ fn turns(mut once: impl FnMut() + 'static) -> Turns {
 
 fn made(what: &str) -> Option<Made> {
     Some(match what {
+        "varint-1" => integers(1),
+        "varint-2" => integers(2),
+        "varint-3" => integers(3),
+        "varint-4" => integers(4),
+        "varint-5" => integers(5),
+        "varint-6" => integers(6),
+        "varint-7" => integers(7),
+        "varint-8" => integers(8),
+        "varint-9" => integers(9),
         "read-untagged" => reading(33, untagged()),
         "read-short" => reading(33, short()),
         "read-tagged" => reading(42, tagged(b"billing_eu")),
@@ -271,6 +359,16 @@ fn made(what: &str) -> Option<Made> {
         "write-short" => writing(33, short()),
         "write-tagged" => writing(42, tagged(b"billing_eu")),
         "write-tagged-32" => writing(42, tagged(&long_tag(7))),
+        "previous-1" => previous(one_uuid(1)),
+        "previous-64" => previous(one_uuid(64)),
+        "previous-2048" => previous(one_uuid(2048)),
+        "previous-uuids" => previous(uuids(256, false)),
+        "previous-tags" => previous(tags(256, 1)),
+        "body-2048" => whole_body(&one_uuid(2048)),
+        "body-uuids" => whole_body(&uuids(256, false)),
+        "body-tags" => whole_body(&tags(256, 1)),
+        "entry-2048" => first_entry(&one_uuid(2048)),
+        "entry-tags" => first_entry(&tags(256, 1)),
         "rewrite-1" => rewriting(one_uuid(1)),
         "rewrite-64" => rewriting(one_uuid(64)),
         "rewrite-2048" => rewriting(one_uuid(2048)),
@@ -311,6 +409,60 @@ fn made(what: &str) -> Option<Made> {
         ),
         _ => return None,
     })
+}
+
+/// 64 integers of so many bytes each, one after another. They are read until no bytes are left.
+fn integers(len: u32) -> Made {
+    // From the least that needs so many bytes on, all over the range.
+    let least = if len == 1 { 0 } else { 1 << (7 * (len - 1)) };
+    let greatest = if len == 9 {
+        u64::MAX
+    } else {
+        (1 << (7 * len)) - 1
+    };
+    let values: Vec<u64> = (0..64)
+        .map(|place| least + place * ((greatest - least) / 63))
+        .collect();
+    let mut bytes = Vec::new();
+    values
+        .iter()
+        .for_each(|value| write_varlen_uint(&mut bytes, *value));
+    assert_eq!(bytes.len(), 64 * len as usize);
+    let mut buf = ParseBuf(&bytes);
+    for (place, value) in values.iter().enumerate() {
+        let rest = &bytes[place * len as usize..];
+        assert_eq!(ours::read_uint(rest), (0, *value, len as usize));
+        assert_eq!(read_varlen_uint(&mut buf).expect("an integer"), *value);
+    }
+
+    let again = bytes.clone();
+    Made {
+        bytes: bytes.len(),
+        ours: turns(move || {
+            let mut rest = &black_box(&bytes)[..];
+            let mut sum = 0;
+            while !rest.is_empty() {
+                let (refusal, value, used) = ours::read_uint(rest);
+                if refusal != 0 {
+                    break;
+                }
+                sum ^= value;
+                rest = &rest[used..];
+            }
+            black_box(sum);
+        }),
+        theirs: Some(turns(move || {
+            let mut buf = ParseBuf(black_box(&again));
+            let mut sum = 0;
+            while !buf.is_empty() {
+                let Ok(value) = read_varlen_uint(&mut buf) else {
+                    break;
+                };
+                sum ^= value;
+            }
+            black_box(sum);
+        })),
+    }
 }
 
 fn reading(event_type: u8, body: Vec<u8>) -> Made {
@@ -359,6 +511,88 @@ fn writing(event_type: u8, body: Vec<u8>) -> Made {
             theirs.clear();
             black_box(&event).serialize(black_box(&mut theirs));
         })),
+    }
+}
+
+/// The sum of all starts and ends of a Previous-GTIDs body, which is read entry by entry.
+fn sum_by_ours(body: &[u8]) -> Option<u64> {
+    let (refusal, entries, _) = ours::read_previous(body);
+    if refusal != 0 {
+        return None;
+    }
+    let (mut at, mut sum) = (8, 0_u64);
+    for _ in 0..entries {
+        let (refusal, first, next) = ours::read_entry(body, at);
+        if refusal != 0 {
+            return None;
+        }
+        for number in body[first..next].as_chunks().0 {
+            sum = sum.wrapping_add(u64::from_le_bytes(*number));
+        }
+        at = next;
+    }
+    Some(sum)
+}
+
+fn sum_by_theirs(body: &[u8]) -> Option<u64> {
+    let mut buf = ParseBuf(body);
+    let event = PreviousGtidsEvent::deserialize(BinlogCtx::new(35), &mut buf).ok()?;
+    let mut sum = 0_u64;
+    for sid in event.sids() {
+        for interval in sid.intervals() {
+            sum = sum.wrapping_add(interval.start).wrapping_add(interval.end);
+        }
+    }
+    Some(sum)
+}
+
+fn previous(entries: Vec<Entry>) -> Made {
+    let body = body(&entries);
+    let all = entries.iter().flat_map(|entry| &entry.intervals);
+    let sum = Some(all.map(|(start, end)| start + end).sum());
+    assert_eq!(sum_by_ours(&body), sum);
+    assert_eq!(sum_by_theirs(&body), sum);
+
+    let again = body.clone();
+    Made {
+        bytes: body.len(),
+        ours: turns(move || {
+            black_box(sum_by_ours(black_box(&body)));
+        }),
+        theirs: Some(turns(move || {
+            black_box(sum_by_theirs(black_box(&again)));
+        })),
+    }
+}
+
+/// One call for a whole body, for the stack.
+fn whole_body(entries: &[Entry]) -> Made {
+    let body = body(entries);
+    let expected = (0, entries.len() as u64, body.len());
+    assert_eq!(ours::read_previous(&body), expected);
+
+    Made {
+        bytes: body.len(),
+        ours: turns(move || {
+            black_box(ours::read_previous(black_box(&body)));
+        }),
+        theirs: None,
+    }
+}
+
+/// One call for the first entry, for the stack.
+fn first_entry(entries: &[Entry]) -> Made {
+    let next = body(&entries[..1]).len();
+    let first = next - 16 * entries[0].intervals.len();
+    let body = body(entries);
+    assert_eq!(ours::read_entry(&body, 8), (0, first, next));
+
+    Made {
+        bytes: body.len(),
+        ours: turns(move || {
+            black_box(ours::read_entry(black_box(&body), black_box(8)));
+        }),
+        theirs: None,
     }
 }
 
@@ -843,9 +1077,12 @@ impl Sent {
 
 #[rustfmt::skip]
 fn stack() {
-    let rows: [(&str, &[&str]); 8] = [
+    let rows: [(&str, &[&str]); 11] = [
+        ("gtid_read_varlen_uint", &["varint-1", "varint-7", "varint-9"]),
         ("gtid_read", &["read-untagged", "read-short", "read-tagged", "read-tagged-32"]),
         ("gtid_write", &["write-untagged", "write-short", "write-tagged", "write-tagged-32"]),
+        ("gtid_read_previous", &["body-2048", "body-uuids", "body-tags"]),
+        ("gtid_read_entry", &["entry-2048", "entry-tags"]),
         ("gtid_rewrite", &["rewrite-1", "rewrite-2048", "rewrite-uuids", "rewrite-tags"]),
         ("gtid_check_set", &["check-set"]),
         ("gtid_contains", &["contains"]),

@@ -1,0 +1,182 @@
+use crate::sys;
+use crate::Refusal;
+
+/// The entries of a Previous-GTIDs event, the opening event of a binlog. They stay in the event's body, and nothing is copied.
+#[derive(Clone, Copy, Debug)]
+pub struct PreviousGtids<'a> {
+    /// The header and the entries, and nothing behind them.
+    body: &'a [u8],
+    len: usize,
+}
+
+/// An entry: a uuid with a tag or without, and the intervals of its transaction numbers, as they stand in the body.
+#[derive(Clone, Copy, Debug, PartialEq, Eq, Hash)]
+pub struct Entry<'a> {
+    uuid: &'a [u8; 16],
+    tag: &'a [u8],
+    /// Sixteen bytes each.
+    intervals: &'a [u8],
+}
+
+impl<'a> PreviousGtids<'a> {
+    /// Reads the body of a Previous-GTIDs event (type 35), without header and checksum: its entries, and how many bytes were used. Refused
+    /// with 11, 1 or 6.
+    ///
+    /// ```
+    /// use gtid_resume::PreviousGtids;
+    ///
+    /// // one uuid with the transactions 1 to 5
+    /// let mut body = vec![1, 0, 0, 0, 0, 0, 0, 0];
+    /// body.extend([7; 16]);
+    /// for number in [1u64, 1, 6] {
+    ///     body.extend(number.to_le_bytes());
+    /// }
+    /// let (previous, used) = PreviousGtids::read(&body)?;
+    /// assert_eq!(used, 48);
+    /// for entry in previous.entries() {
+    ///     assert_eq!((entry.uuid(), entry.tag()), (&[7; 16], &b""[..]));
+    ///     assert!(entry.intervals().eq([(1, 6)]));
+    /// }
+    /// assert_eq!(PreviousGtids::read(&body[..47]).unwrap_err().number(), 1);
+    /// # Ok::<(), gtid_resume::Refusal>(())
+    /// ```
+    pub fn read(body: &'a [u8]) -> Result<(PreviousGtids<'a>, usize), Refusal> {
+        let (mut entries, mut used) = (0, 0);
+        let number = unsafe { sys::gtid_read_previous(body.as_ptr(), body.len(), &mut entries, &mut used) };
+        Refusal::unless_zero(number, 0)?;
+        // each entry has bytes of its own, so that their number is a usize
+        let previous = PreviousGtids {
+            body: &body[..used],
+            len: entries as usize,
+        };
+        Ok((previous, used))
+    }
+
+    /// How many entries there are.
+    ///
+    /// ```
+    /// assert_eq!(gtid_resume::PreviousGtids::read(&[0; 8])?.0.len(), 0);
+    /// # Ok::<(), gtid_resume::Refusal>(())
+    /// ```
+    pub fn len(&self) -> usize {
+        self.len
+    }
+
+    /// Whether there are none.
+    ///
+    /// ```
+    /// assert!(gtid_resume::PreviousGtids::read(&[0; 8])?.0.is_empty());
+    /// # Ok::<(), gtid_resume::Refusal>(())
+    /// ```
+    pub fn is_empty(&self) -> bool {
+        self.len == 0
+    }
+
+    /// The entries, in the body's order.
+    ///
+    /// ```
+    /// let mut body = vec![2, 0, 0, 0, 0, 0, 0, 0];
+    /// for uuid in [9, 4] {
+    ///     body.extend([uuid; 16]);
+    ///     body.extend([0; 8]); // no intervals
+    /// }
+    /// let (previous, _) = gtid_resume::PreviousGtids::read(&body)?;
+    /// assert!(previous.entries().map(|entry| entry.uuid()[0]).eq([9, 4]));
+    /// # Ok::<(), gtid_resume::Refusal>(())
+    /// ```
+    pub fn entries(&self) -> impl ExactSizeIterator<Item = Entry<'a>> {
+        Entries {
+            body: self.body,
+            at: 8,
+            left: self.len,
+        }
+    }
+}
+
+impl<'a> Entry<'a> {
+    /// The uuid.
+    ///
+    /// ```
+    /// # let mut body = vec![1, 0, 0, 0, 0, 0, 0, 0];
+    /// # body.extend([7; 16]);
+    /// # body.extend([0; 8]);
+    /// let (previous, _) = gtid_resume::PreviousGtids::read(&body)?;
+    /// assert_eq!(previous.entries().next().unwrap().uuid(), &body[8..24]);
+    /// # Ok::<(), gtid_resume::Refusal>(())
+    /// ```
+    pub fn uuid(&self) -> &'a [u8; 16] {
+        self.uuid
+    }
+
+    /// The tag's bytes, none where there is no tag.
+    ///
+    /// ```
+    /// let mut body = vec![1, 1, 0, 0, 0, 0, 0, 1]; // one entry, with tags
+    /// body.extend([7; 16]);
+    /// body.push(10); // twice its length
+    /// body.extend(b"depot");
+    /// body.extend([0; 8]);
+    /// let (previous, _) = gtid_resume::PreviousGtids::read(&body)?;
+    /// assert_eq!(previous.entries().next().unwrap().tag(), b"depot");
+    /// # Ok::<(), gtid_resume::Refusal>(())
+    /// ```
+    pub fn tag(&self) -> &'a [u8] {
+        self.tag
+    }
+
+    /// The intervals, in the body's order: where each starts, and the end that isn't reached. They are not judged; [`ResumeSet::take_in`]
+    /// does that.
+    ///
+    /// [`ResumeSet::take_in`]: crate::ResumeSet::take_in
+    ///
+    /// ```
+    /// # let mut body = vec![1, 0, 0, 0, 0, 0, 0, 0];
+    /// # body.extend([7; 16]);
+    /// # for number in [2u64, 1, 6, 9, 10] {
+    /// #     body.extend(number.to_le_bytes());
+    /// # }
+    /// let (previous, _) = gtid_resume::PreviousGtids::read(&body)?;
+    /// let intervals = previous.entries().next().unwrap().intervals();
+    /// assert_eq!(intervals.len(), 2);
+    /// assert_eq!(intervals.map(|(start, end)| end - start).sum::<u64>(), 6);
+    /// # Ok::<(), gtid_resume::Refusal>(())
+    /// ```
+    pub fn intervals(&self) -> impl ExactSizeIterator<Item = (u64, u64)> + 'a {
+        let number = |bytes: &[u8]| u64::from_le_bytes(bytes.try_into().expect("eight bytes"));
+        self.intervals
+            .chunks_exact(16)
+            .map(move |pair| (number(&pair[..8]), number(&pair[8..])))
+    }
+}
+
+/// The entries from a place on.
+struct Entries<'a> {
+    body: &'a [u8],
+    at: usize,
+    left: usize,
+}
+
+impl<'a> Iterator for Entries<'a> {
+    type Item = Entry<'a>;
+
+    fn next(&mut self) -> Option<Entry<'a>> {
+        let (body, at) = (self.body, self.at);
+        self.left = self.left.checked_sub(1)?;
+        let (mut tag_len, mut intervals, mut first, mut next) = (0, 0, 0, 0);
+        let number = unsafe { sys::gtid_read_entry(body.as_ptr(), body.len(), at, &mut tag_len, &mut intervals, &mut first, &mut next) };
+        assert_eq!(number, 0, "the whole body was read before");
+        self.at = next;
+        let (uuid, _) = body[at..].split_first_chunk().expect("sixteen bytes");
+        Some(Entry {
+            uuid,
+            tag: &body[first - 8 - tag_len..first - 8],
+            intervals: &body[first..next],
+        })
+    }
+
+    fn size_hint(&self) -> (usize, Option<usize>) {
+        (self.left, Some(self.left))
+    }
+}
+
+impl ExactSizeIterator for Entries<'_> {}
