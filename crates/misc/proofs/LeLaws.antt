@@ -86,21 +86,31 @@ leOf-snoc (x ∷ xs) b =
     let q : b * (2 ^ (8 * length xs) * 256) ≡ b * 2 ^ (8 * length xs) * 256 = sym (mul-assoc b (2 ^ (8 * length xs)) 256) in
     rw (leOf-snoc xs b, p) (omega (arith, q))
 
--- a turn of the reading loop
-pub gather-more : (s : List ℕ) (at i v b : ℕ) → i ≤ 7 → at + i < length s → b ≡ getD s (at + i) 0 → b < 256 → v ≡ leOf (part s at i) → v < 256 ^ i
-    → (bitOr v (b * 2 ^ (8 * i) % 2 ^ 64) ≡ leOf (part s at (i + 1))) × (bitOr v (b * 2 ^ (8 * i) % 2 ^ 64) < 256 ^ (i + 1))
-gather-more s at i v b few lt is byte spelt small =
-    let P = 2 ^ (8 * i) in
-    let low : v < P = rw (pow-bytes i) at small in
-    let places : 8 * i ≤ 56 = omega arith in
-    let top : P ≤ 2 ^ 56 = pow-le-pow-right (omega arith) places in
-    let most : b * P ≤ 255 * P = mul-le-mul-right P (omega arith) in
-    let kept : b * P % 2 ^ 64 ≡ b * P = mod-eq-of-lt (omega (arith, most, top)) in
-    let sum : bitOr v (b * P) ≡ b * P + v = or-shifted-r b (8 * i) v low in
-    let here : i < length (drop at s) = rw length-drop (omega arith) in
-    let one : part s at (i + 1) ≡ part s at i ++ (b ∷ []) =
-    rw (add-one, take-suc (drop at s) i 0 here, getD-drop at s i 0, is) in
-    let size : length (part s at i) ≡ i = length-take-le i (drop at s) (omega (arith, here)) in
-    let all : leOf (part s at (i + 1)) ≡ leOf (part s at i) + b * P = rw (one, leOf-snoc (part s at i) b, size) in
-    let power : 256 ^ (i + 1) ≡ P * 256 = rw (add-one, pow-suc, pow-bytes i) in
-    rw (kept, sum, all, power) (omega arith, omega (arith, most, low))
+-- what the byte above i others counts for: a machine number holds it up to the eighth byte
+module _ (i scale : ℕ) (few : i ≤ 7) (is : scale ≡ 2 ^ (8 * i) % 2 ^ 64) where
+  pub scale-held : (scale ≡ 2 ^ (8 * i)) × (scale ≤ 2 ^ 56)
+  scale-held =
+      let places : 8 * i ≤ 56 = omega arith in
+      let top : 2 ^ (8 * i) ≤ 2 ^ 56 = pow-le-pow-right (omega arith) places in
+      let same : scale ≡ 2 ^ (8 * i) = is ∙ mod-eq-of-lt (omega (arith, top)) in
+      (same, omega (arith, top))
+
+  pub scale-next : scale * 256 % 2 ^ 64 ≡ 2 ^ (8 * (i + 1)) % 2 ^ 64
+  scale-next =
+      let e : 8 * (i + 1) ≡ 8 * i + 8 = omega arith in
+      rw (e, pow-add 2 (8 * i) 8, scale-held .0)
+
+  -- a turn of the reading loop
+  pub gather-more : (s : List ℕ) (at v b : ℕ) → at + i < length s → b ≡ getD s (at + i) 0 → b < 256 → v ≡ leOf (part s at i) → v < 256 ^ i
+      → (bitOr v (b * scale) ≡ leOf (part s at (i + 1))) × (bitOr v (b * scale) < 256 ^ (i + 1))
+  gather-more s at v b lt byte small spelt low =
+      let P = 2 ^ (8 * i) in
+      let below : v < P = rw (pow-bytes i) at low in
+      let most : b * P ≤ 255 * P = mul-le-mul-right P (omega arith) in
+      let sum : bitOr v (b * P) ≡ b * P + v = or-shifted-r b (8 * i) v below in
+      let here : i < length (drop at s) = rw length-drop (omega arith) in
+      let one : part s at (i + 1) ≡ part s at i ++ (b ∷ []) = rw (add-one, take-suc (drop at s) i 0 here, getD-drop at s i 0, byte) in
+      let size : length (part s at i) ≡ i = length-take-le i (drop at s) (omega (arith, here)) in
+      let all : leOf (part s at (i + 1)) ≡ leOf (part s at i) + b * P = rw (one, leOf-snoc (part s at i) b, size) in
+      let power : 256 ^ (i + 1) ≡ P * 256 = rw (add-one, pow-suc, pow-bytes i) in
+      rw (scale-held .0, sum, all, power) (omega arith, omega (arith, most, below))

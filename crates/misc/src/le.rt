@@ -23,9 +23,11 @@ pub(crate) fn gather(s: &[u8], at: usize, n: usize) -> u64
     ensures { λ r. ⌜ (r ≡ leOf (part (now (s .entry)) at n)) × (r < 256 ^ n) ⌝ }
 {
     let mut value: u64 = 0;
+    let mut scale: u64 = 1;
     let mut i = 0;
     while i < n {
-        value = value | (wide(s[at + i]) << (8 * i));
+        value = value | (wide(s[at + i]) * scale);
+        scale = scale << 8;
         i += 1;
     }
     value
