@@ -62,7 +62,7 @@ fn examples_list_as_they_say() {
     let mut seen = 0;
     for entry in fs::read_dir(folder).unwrap() {
         let path = entry.unwrap().path();
-        if path.extension().is_some_and(|extension| extension == "bin") {
+        if path.extension() == Some("bin".as_ref()) {
             let event = fs::read(&path).unwrap();
             let text = fs::read_to_string(path.with_extension("txt")).unwrap();
             assert_eq!(list(event[0], &event[1..]), text, "{}", path.display());
