@@ -166,9 +166,8 @@ impl<'a> Iterator for Entries<'a> {
         let number = unsafe { sys::gtid_read_entry(body.as_ptr(), body.len(), at, &mut tag_len, &mut intervals, &mut first, &mut next) };
         assert_eq!(number, 0, "the whole body was read before");
         self.at = next;
-        let (uuid, _) = body[at..].split_first_chunk().expect("sixteen bytes");
         Some(Entry {
-            uuid,
+            uuid: body[at..at + 16].try_into().expect("sixteen bytes"),
             tag: &body[first - 8 - tag_len..first - 8],
             intervals: &body[first..next],
         })
