@@ -8,7 +8,6 @@ use gtid_event_write::write::write;
 use misc::refusal::NO_ROOM;
 use misc::refusal::NOT_WRITABLE;
 use misc::varlen::read_varlen_uint;
-use previous_gtids_event::EntryRead;
 use previous_gtids_event::read::entry_at;
 use previous_gtids_event::read::header_of;
 use resume_set::Offered;
@@ -97,28 +96,9 @@ pub extern "C" fn gtid_read_previous(body: &[u8], entries: &mut u64, used: &mut 
     said.refusal
 }
 
-// The entry at a place of a body, with a tag if the body's header says so.
-fn entry_in(body: &[u8], at: usize) -> EntryRead
-    ensures { λ r. ⌜ r ≡ entryRead (entryIn (now (body .entry)) at) ⌝ }
-{
-    let header = header_of(body);
-    let refusal = header.refusal;
-    if refusal != 0 {
-        return EntryRead {
-            refusal,
-            uuid: [0u8; 16],
-            tag: [0u8; 32],
-            tag_len: 0,
-            intervals: 0,
-            first: 0,
-            next: 0,
-        };
-    }
-    entry_at(body, at, header.tagged)
-}
-
 // Reads the entry at a place of such a body: how many bytes its tag has and how many intervals there are, where the first of them
-// is, and where the entry ends. Its uuid is the 16 bytes at the place, and its tag ends eight bytes before the first interval.
+// is, and where the entry ends. Its uuid is the 16 bytes at the place, and its tag ends eight bytes before the first interval. A body whose
+// header is refused has no room for an entry either, so no other answer is needed for it.
 #[no_mangle]
 pub extern "C" fn gtid_read_entry(
     body: &[u8],
@@ -134,7 +114,8 @@ pub extern "C" fn gtid_read_entry(
     ensures { λ _. ⌜ now (first .exit) ≡ entryRead (entryIn (now (body .entry)) at) .first ⌝ }
     ensures { λ _. ⌜ now (next .exit) ≡ entryRead (entryIn (now (body .entry)) at) .next ⌝ }
 {
-    let said = entry_in(body, at);
+    let header = header_of(body);
+    let said = entry_at(body, at, header.tagged);
     *tag_len = said.tag_len;
     *intervals = said.intervals;
     *first = said.first;
