@@ -294,7 +294,7 @@ entry-there tagged s at k is next e =
 -- ---- the whole body
 module _ (s : List ℕ) where
   -- what the answer for the header tells
-  pub header-says : (p : Parse ℕ) → headerRead p .refusal ≡ refusalOf p
+  header-says : (p : Parse ℕ) → headerRead p .refusal ≡ refusalOf p
   header-says (refuse x) = refl
   header-says (parsed h next) = refl
 
