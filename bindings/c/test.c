@@ -1,0 +1,77 @@
+/* Calls every function of gtid.h once or more, from C. Run by bindings/test; says what went wrong and ends with 1, or says nothing. */
+#include "gtid.h"
+
+#include <stdio.h>
+#include <string.h>
+
+static int faults;
+
+#define EXPECT(what) ((what) ? (void)0 : (void)(faults++, printf("test.c:%d: not so: %s\n", __LINE__, #what)))
+
+/* A number, lowest byte first. */
+static void put(uint8_t *at, uint64_t number)
+{
+    for (int i = 0; i < 8; i++)
+        at[i] = (uint8_t)(number >> (8 * i));
+}
+
+/* The longest set. */
+static uint8_t set[47368], next[47368];
+
+int main(void)
+{
+    size_t len = 9, used = 9, tag_len = 9, first = 9, end = 9;
+    uint64_t entries = 9, intervals = 9, value = 9;
+    uint8_t kind = 9, present = 9;
+
+    /* one entry, the uuid 07 07 .., with the transactions 1 to 5 */
+    uint8_t opening[48];
+    put(opening, 1);
+    memset(opening + 8, 7, 16);
+    put(opening + 24, 1);
+    put(opening + 32, 1);
+    put(opening + 40, 6);
+
+    EXPECT(gtid_read_previous(opening, sizeof opening, &entries, &used) == 0);
+    EXPECT(entries == 1 && used == 48);
+    EXPECT(gtid_read_entry(opening, sizeof opening, 8, &tag_len, &intervals, &first, &end) == 0);
+    EXPECT(tag_len == 0 && intervals == 1 && first == 32 && end == 48);
+    EXPECT(gtid_read_entry(opening, 47, 8, &tag_len, &intervals, &first, &end) == 1);
+    EXPECT(tag_len == 0 && intervals == 0 && first == 0 && end == 0);
+
+    EXPECT(gtid_take_in(opening, sizeof opening, set, sizeof set, &len) == 0);
+    EXPECT(len == 48 && memcmp(set, opening, len) == 0);
+    EXPECT(gtid_check_set(set, len, &entries, &intervals) == 0);
+    EXPECT(entries == 1 && intervals == 1);
+    EXPECT(gtid_rewrite(opening, sizeof opening, next, 47, &used) == 13 && used == 48);
+    EXPECT(gtid_rewrite(opening, sizeof opening, next, sizeof next, &used) == 0);
+    EXPECT(used == 48 && memcmp(next, opening, used) == 0);
+
+    /* transaction 6 of the same uuid: flags, uuid, number */
+    uint8_t event[25];
+    event[0] = 0;
+    memset(event + 1, 7, 16);
+    put(event + 17, 6);
+    EXPECT(gtid_contains(set, len, event + 1, 16, event, 0, 6, &present) == 0 && present == 0);
+    EXPECT(gtid_offer(set, len, 33, event, sizeof event, next, sizeof next, &kind, &len) == 0);
+    EXPECT(kind == GTID_TAKEN && len == 48);
+    EXPECT(gtid_contains(next, len, event + 1, 16, event, 0, 6, &present) == 0 && present == 1);
+    EXPECT(gtid_offer(next, len, 33, event, sizeof event, set, sizeof set, &kind, &len) == 0);
+    EXPECT(kind == GTID_ALREADY_THERE && memcmp(next, set, len) == 0);
+    EXPECT(gtid_offer(next, len, 33, event, 24, set, sizeof set, &kind, &len) == 1);
+    EXPECT(kind == GTID_REFUSED && len == 0);
+
+    uint8_t record[GTID_RECORD_LEN], written[25];
+    EXPECT(gtid_read(33, event, sizeof event, record, sizeof record, &used) == 0 && used == 25);
+    EXPECT(memcmp(record, event, 25) == 0);
+    EXPECT(gtid_write(record, sizeof record, written, sizeof written, &len) == 0 && len == 25);
+    EXPECT(memcmp(written, event, 25) == 0);
+
+    const uint8_t input[] = {7}, item[] = {5, 0};
+    uint8_t text[16];
+    EXPECT(gtid_list(input, sizeof input, text, sizeof text, &len) == 0);
+    EXPECT(len == 10 && memcmp(text, "refused 8\n", len) == 0);
+    EXPECT(gtid_read_varlen_uint(item, sizeof item, &value, &used) == 0 && value == 1 && used == 2);
+
+    return faults != 0;
+}
