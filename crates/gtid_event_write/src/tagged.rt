@@ -19,7 +19,7 @@ use crate::size::serialized_uuid_len;
 use crate::size::unless_len;
 use gtid_event::GtidEvent;
 use misc::put::put_byte;
-use misc::put::put_bytes;
+use misc::put::put_sized;
 use misc::put::put_varlen_uint;
 use misc::varlen::varlen_uint_size;
 
@@ -36,8 +36,7 @@ fn put_tag(tag: [u8; 32], tag_len: u8, out: &mut [u8], at: usize) -> usize
 {
     let len = tag_len as usize;
     let after_id = put_varlen_uint(field_id::TAG, out, at);
-    let after_len = put_varlen_uint(tag_len as u64, out, after_id);
-    put_bytes(&tag[..len], out, after_len)
+    put_sized(&tag[..len], out, after_id)
 }
 
 fn tag_field_len(tag: [u8; 32], tag_len: u8) -> usize

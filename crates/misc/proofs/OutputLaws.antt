@@ -89,9 +89,13 @@ unfolding putAt putEnd
 put-short l bs at h = simp (lt-leb (at + length bs) (length l) h) (refl, refl)
 
 -- there is
-put-there : {l l′ bs : List ℕ} {at r : ℕ} → at + length bs ≤ length l → Placed l at bs l′ r → (r ≡ putEnd l at bs) × (l′ ≡ putAt l at bs)
+pub put-there : {l l′ bs : List ℕ} {at r : ℕ} → at + length bs ≤ length l → Placed l at bs l′ r → (r ≡ putEnd l at bs) × (l′ ≡ putAt l at bs)
 unfolding putAt putEnd
 put-there {l} {l′} {bs} {at} {r} room p = simp (le-leb (at + length bs) (length l) room) (p .ends, p .holds)
+
+-- no bytes: room or not, nothing changes
+pub put-nothing : (l : List ℕ) (at : ℕ) → (at ≡ putEnd l at []) × (l ≡ putAt l at [])
+put-nothing l at = split (at + 0) (length l) (λ h. put-there h (nothing-placed l at)) (λ h. put-short l [] at h)
 
 pub byte-put : (l : List ℕ) (at b : ℕ) → at < length l → (at + 1 ≡ putEnd l at (b ∷ [])) × (set l at b ≡ putAt l at (b ∷ []))
 unfolding written

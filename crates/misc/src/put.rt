@@ -1,15 +1,18 @@
 // Writing at a place of an output: where there is room for all of the bytes they are put there, and the place behind them is returned;
 // where there isn't, nothing is written, and the place itself is returned.
 use crate::Wrote;
+use crate::bytes::left_at;
 use crate::bytes::write_bytes;
 use crate::le::write_u32_le;
 use crate::le::write_u56_le;
 use crate::le::write_u64_le;
 use crate::lenenc::write_lenenc_int;
+use crate::varlen::varlen_uint_size;
 use crate::varlen::write_varlen_uint;
 ghost use mathlib.Core.Path.{_≡_};
-ghost use mathlib.Core.List.{[], _∷_};
+ghost use mathlib.Core.List.{[], _∷_, _++_};
 ghost use Prim.Native.Nat.{_+_, _^_, _<_};
+ghost use lib.ListN.{length};
 ghost use lib.Dec.{eqb};
 ghost use Rattle.misc.specs.Pick.{pick};
 ghost use Rattle.misc.specs.Le.{leBytes};
@@ -103,4 +106,22 @@ pub fn put_varlen_uint(value: u64, out: &mut [u8], at: usize) -> usize
     }
     let wrote = write_varlen_uint(value, &mut out[at..]);
     place_behind(wrote, at)
+}
+
+// Bytes behind their number, which is a variable-length integer.
+pub fn put_sized(source: &[u8], out: &mut [u8], at: usize) -> usize
+    ensures { λ r. ⌜ r ≡ putEnd (now (out .entry)) at (varlenBytes (length (now (source .entry))) ++ now (source .entry)) ⌝ }
+    ensures { λ _. ⌜ now (out .exit) ≡ putAt (now (out .entry)) at (varlenBytes (length (now (source .entry))) ++ now (source .entry)) ⌝ }
+{
+    let len = source.len();
+    let size = varlen_uint_size(len as u64);
+    let room = left_at(out, at);
+    if room < size {
+        return at;
+    }
+    if room - size < len {
+        return at;
+    }
+    let from = put_varlen_uint(len as u64, out, at);
+    put_bytes(source, out, from)
 }

@@ -98,12 +98,11 @@ sized tagged s at r told v e =
 -- ---- the second pass
 
 -- a tag with its length
-pub tag-put : {tags : Bool} {t l l₁ l₂ : List ℕ} {at at₁ at₂ : ℕ} → tags ≡ true
-    → WhereFits l at (varlenBytes (length t)) l₁ at₁ → WhereFits l₁ at₁ t l₂ at₂ → WhereFits l at (tagBytes tags t) l₂ at₂
-tag-put {tags} {t} {l} {l₁} {l₂} {at} {at₁} {at₂} e p q = rw e (p also q)
+pub tag-wanted : (tags : Bool) (t : List ℕ) → tags ≡ true → varlenBytes (length t) ++ t ≡ tagBytes tags t
+tag-wanted tags t e = rw e
 
-pub no-tag-put : {tags : Bool} (t : List ℕ) {l : List ℕ} {at : ℕ} → tags ≡ false → WhereFits l at (tagBytes tags t) l at
-no-tag-put {tags} t {l} {at} e = rw e (record { placed = λ _. nothing-placed l at })
+pub tag-unwanted : (tags : Bool) (t : List ℕ) → tags ≡ false → [] ≡ tagBytes tags t
+tag-unwanted tags t e = rw e
 
 -- three parts of the body make an entry
 module _ (tagged : Bool) (s : List ℕ) (from : ℕ) (r : EntryPlace) (told : PlaceTold tagged s from r) (tags : Bool) (are-bytes : Bytes s) where

@@ -7,8 +7,8 @@ use crate::read::header_of;
 use crate::read::place_at;
 use misc::Wrote;
 use misc::put::put_bytes;
+use misc::put::put_sized;
 use misc::put::put_u64_le;
-use misc::put::put_varlen_uint;
 use misc::refusal::NO_ROOM;
 use misc::varlen::varlen_uint_size;
 ghost use mathlib.Core.Path.{_≡_};
@@ -70,13 +70,13 @@ fn sizes_at(body: &[u8], from: usize, tagged: bool, count: u64) -> Sizes
 
 // The `put` functions write from a place of the output on where there is room, and return the place behind what they wrote.
 
-// A tag with its length, where tags are wanted.
-fn put_tag(tag: &[u8], tags: bool, out: &mut [u8], at: usize) -> usize
-    ensures { λ r. ⌜ WhereFits (now (out .entry)) at (tagBytes tags (now (tag .entry))) (now (out .exit)) r ⌝ }
+// A tag behind its length, where tags are wanted.
+pub fn put_tag(tag: &[u8], tags: bool, out: &mut [u8], at: usize) -> usize
+    ensures { λ r. ⌜ r ≡ putEnd (now (out .entry)) at (tagBytes tags (now (tag .entry))) ⌝ }
+    ensures { λ _. ⌜ now (out .exit) ≡ putAt (now (out .entry)) at (tagBytes tags (now (tag .entry))) ⌝ }
 {
     if tags {
-        let from = put_varlen_uint(tag.len() as u64, out, at);
-        return put_bytes(tag, out, from);
+        return put_sized(tag, out, at);
     }
     at
 }

@@ -5,10 +5,8 @@ use mathlib.Core.Bool.{Bool, true, false}
 use mathlib.Core.List.{List, [], _++_}
 use lib.ListN.{length}
 use Rattle.misc.specs.Parse.{part}
-use Rattle.misc.specs.Varlen.{varlenBytes}
 use Rattle.misc.specs.Output.{WhereFits}
 use Rattle.misc.proofs.OutputLaws.{_also_, nothing-placed}
-use Rattle.previous_gtids_event.specs.Rewrite.{tagBytes}
 use Rattle.set_check.specs.Places.{numberAt}
 use Rattle.resume_set.specs.Put.{widerRun, widened, Untagged, entriesRun, EntriesThere}
 
@@ -21,13 +19,6 @@ pub put-none : (l : List ℕ) (at : ℕ) → WhereFits l at [] l at
 put-none l at = record { placed = λ _. nothing-placed l at }
 
 -- ---- tags
-
-pub tag-put : {l l₁ l₂ : List ℕ} {at at₁ at₂ : ℕ} (tags : Bool) (t : List ℕ) → tags ≡ true
-    → WhereFits l at (varlenBytes (length t)) l₁ at₁ → WhereFits l₁ at₁ t l₂ at₂ → WhereFits l at (tagBytes tags t) l₂ at₂
-tag-put tags t e p q = rw e (p also q)
-
-pub no-tag-put : (tags : Bool) (t l : List ℕ) (at : ℕ) → tags ≡ false → WhereFits l at (tagBytes tags t) l at
-no-tag-put tags t l at e = rw e (put-none l at)
 
 -- ---- widened entries
 

@@ -3,23 +3,12 @@
 use misc::put::put_bytes;
 use misc::put::put_u64_le;
 use misc::put::put_varlen_uint;
+use previous_gtids_event::rewrite::put_tag;
 use set_check::places::number_at;
 ghost use Prim.Native.Nat.{_+_, _-_, _*_, _≤_};
 ghost use lib.ListN.{length};
 ghost use Rattle.misc.specs.Output.{WhereFits};
-ghost use Rattle.previous_gtids_event.specs.Rewrite.{tagBytes};
 ghost use Rattle.resume_set.specs.Put.{headRun, splicedRun, widerRun, widened, Untagged, entriesRun, EntriesThere};
-
-// A tag with its length, where tags are wanted.
-fn put_tag(tag: &[u8], tags: bool, out: &mut [u8], at: usize) -> usize
-    ensures { λ r. ⌜ WhereFits (now (out .entry)) at (tagBytes tags (now (tag .entry))) (now (out .exit)) r ⌝ }
-{
-    if tags {
-        let from = put_varlen_uint(tag.len() as u64, out, at);
-        return put_bytes(tag, out, from);
-    }
-    at
-}
 
 // The head of an entry.
 pub(crate) fn put_head(

@@ -74,7 +74,7 @@ returns : tie.Need-returns
 returns c =
     let a = c .before .before .before .before .before .before .before .before .before .before .before .before .before .before .before .before .before .before .before .before .args in
     entry-put (a .tagged) (now (a .body)) (a .from) _ (told (c .before .before .before .before .before .before .before .before .before .before .before .before .before .before .before .before .before)) (a .tags) (λ i. c .before .before .before .before .before .before .before .before .before .before .before .before .before .before .before .before .before .before .before .shared-slice-known .given i .fits)
-    (put-placed (c .before .before .before .before .before .before .before .before .before .before .before .before .put-bytes .ensures)) (c .before .before .before .before .before .before .before .put-tag .ensures) (put-placed (c .before .before .put-bytes2 .ensures))
+    (put-placed (c .before .before .before .before .before .before .before .before .before .before .before .before .put-bytes .ensures)) (put-placed (c .before .before .before .before .before .before .before .put-tag .ensures)) (put-placed (c .before .before .put-bytes2 .ensures))
 
 pub put-entry-spec : {M : Type 1} → statement M
 put-entry-spec =

@@ -17,7 +17,7 @@ same-length : tie.Need-same-length
 same-length c = search needs
 
 returns : tie.Need-returns
-returns c = put-placed (c .before .before .before .before .before .before .before .before .before .before .put-bytes .ensures) also c .before .before .before .before .before .before .put-tag .ensures also put-placed (c .before .before .put-u64-le .ensures)
+returns c = put-placed (c .before .before .before .before .before .before .before .before .before .before .put-bytes .ensures) also put-placed (c .before .before .before .before .before .before .put-tag .ensures) also put-placed (c .before .before .put-u64-le .ensures)
 
 pub put-head-spec : {M : Type 1} → statement M
 put-head-spec =
