@@ -1,4 +1,4 @@
--- What `abi` promises is said by the definitions of the crates that it calls; `Answers` gives the cases of an offer as numbers, and
--- `Flat` a GTID record as bytes.
+-- What `abi` promises is said by the definitions of the crates that it calls; `Answers` gives the cases of an offer as numbers
+-- and the entry at a place, and `Flat` a GTID record as bytes.
 pub mod Answers
 pub mod Flat
