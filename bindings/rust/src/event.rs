@@ -43,8 +43,17 @@ impl GtidEvent {
     pub fn read(event_type: u8, body: &[u8]) -> Result<(GtidEvent, usize), Refusal> {
         let mut flat = [0; FLAT];
         let mut used = 0;
-        let number = unsafe { sys::gtid_read(event_type, body.as_ptr(), body.len(), flat.as_mut_ptr(), flat.len(), &mut used) };
-        Refusal::unless_zero(number, used)?;
+        let number = unsafe {
+            sys::gtid_read(
+                event_type,
+                body.as_ptr(),
+                body.len(),
+                flat.as_mut_ptr(),
+                flat.len(),
+                &mut used,
+            )
+        };
+        Refusal::unless_zero(number)?;
         Ok((GtidEvent::from_flat(&flat), used))
     }
 
@@ -66,8 +75,10 @@ impl GtidEvent {
     }
 
     fn from_flat(flat: &[u8; FLAT]) -> GtidEvent {
-        let number = |at: usize| u64::from_le_bytes(flat[at..at + 8].try_into().expect("eight bytes"));
-        let version = |at: usize| u32::from_le_bytes(flat[at..at + 4].try_into().expect("four bytes"));
+        let number =
+            |at: usize| u64::from_le_bytes(flat[at..at + 8].try_into().expect("eight bytes"));
+        let version =
+            |at: usize| u32::from_le_bytes(flat[at..at + 4].try_into().expect("four bytes"));
         GtidEvent {
             flags: flat[0],
             uuid: flat[1..17].try_into().expect("sixteen bytes"),

@@ -65,8 +65,9 @@ pub fn rewrite(body: &[u8]) -> Result<Vec<u8>, Refusal> {
 /// ```
 pub fn read_varlen_uint(bytes: &[u8]) -> Result<(u64, usize), Refusal> {
     let (mut value, mut used) = (0, 0);
-    let number = unsafe { sys::gtid_read_varlen_uint(bytes.as_ptr(), bytes.len(), &mut value, &mut used) };
-    Refusal::unless_zero(number, 0)?;
+    let number =
+        unsafe { sys::gtid_read_varlen_uint(bytes.as_ptr(), bytes.len(), &mut value, &mut used) };
+    Refusal::unless_zero(number)?;
     Ok((value, used))
 }
 
@@ -80,7 +81,13 @@ pub fn list(event_type: u8, body: &[u8]) -> String {
     input.push(event_type);
     input.extend_from_slice(body);
     let text = sys::written(LONGEST_TEXT, |out, len| unsafe {
-        sys::gtid_list(input.as_ptr(), input.len(), out.as_mut_ptr(), out.len(), len)
+        sys::gtid_list(
+            input.as_ptr(),
+            input.len(),
+            out.as_mut_ptr(),
+            out.len(),
+            len,
+        )
     });
     String::from_utf8(text.expect("every text fits")).expect("every text is ASCII")
 }

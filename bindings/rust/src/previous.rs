@@ -42,8 +42,9 @@ impl<'a> PreviousGtids<'a> {
     /// ```
     pub fn read(body: &'a [u8]) -> Result<(PreviousGtids<'a>, usize), Refusal> {
         let (mut entries, mut used) = (0, 0);
-        let number = unsafe { sys::gtid_read_previous(body.as_ptr(), body.len(), &mut entries, &mut used) };
-        Refusal::unless_zero(number, 0)?;
+        let number =
+            unsafe { sys::gtid_read_previous(body.as_ptr(), body.len(), &mut entries, &mut used) };
+        Refusal::unless_zero(number)?;
         // each entry has bytes of its own, so that their number is a usize
         let previous = PreviousGtids {
             body: &body[..used],
@@ -163,7 +164,17 @@ impl<'a> Iterator for Entries<'a> {
         let (body, at) = (self.body, self.at);
         self.left = self.left.checked_sub(1)?;
         let (mut tag_len, mut intervals, mut first, mut next) = (0, 0, 0, 0);
-        let number = unsafe { sys::gtid_read_entry(body.as_ptr(), body.len(), at, &mut tag_len, &mut intervals, &mut first, &mut next) };
+        let number = unsafe {
+            sys::gtid_read_entry(
+                body.as_ptr(),
+                body.len(),
+                at,
+                &mut tag_len,
+                &mut intervals,
+                &mut first,
+                &mut next,
+            )
+        };
         assert_eq!(number, 0, "the whole body was read before");
         self.at = next;
         Some(Entry {

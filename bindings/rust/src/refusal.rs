@@ -1,37 +1,33 @@
 use std::error::Error;
 use std::fmt;
 
-/// Why a call was refused: a number from 1 to 16 and, for 13, the length that is needed.
+/// Why a call was refused: a number from 1 to 16. 13, an output that is too short, doesn't come: outputs are made long enough.
+///
+/// ```
+/// let refusal = gtid_resume::ResumeSet::from_bytes(vec![]).unwrap_err();
+/// assert_eq!(refusal.to_string(), "refusal 14: the bytes are no set");
+/// ```
 #[derive(Clone, Copy, Debug, PartialEq, Eq, Hash)]
 pub struct Refusal {
     number: u8,
-    needed: usize,
 }
 
 impl Refusal {
     /// Nothing, or the refusal with this number.
-    pub(crate) fn unless_zero(number: u8, len: usize) -> Result<(), Refusal> {
+    pub(crate) fn unless_zero(number: u8) -> Result<(), Refusal> {
         match number {
             0 => Ok(()),
-            13 => Err(Refusal { number, needed: len }),
-            _ => Err(Refusal { number, needed: 0 }),
+            _ => Err(Refusal { number }),
         }
     }
 
     /// The number, as the tables of the documents have it.
     ///
     /// ```
-    /// let refusal = gtid_resume::ResumeSet::take_in(&[]).unwrap_err();
-    /// assert_eq!(refusal.number(), 1);
-    /// assert_eq!(refusal.to_string(), "refusal 1: the bytes end inside an item");
+    /// assert_eq!(gtid_resume::ResumeSet::take_in(&[]).unwrap_err().number(), 1);
     /// ```
     pub fn number(self) -> u8 {
         self.number
-    }
-
-    /// The length that is needed, for refusal 13.
-    pub fn needed(self) -> Option<usize> {
-        (self.number == 13).then_some(self.needed)
     }
 }
 

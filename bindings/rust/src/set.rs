@@ -114,7 +114,16 @@ impl ResumeSet {
         let mut present = 0;
         let set = &self.bytes;
         let number = unsafe {
-            sys::gtid_contains(set.as_ptr(), set.len(), uuid.as_ptr(), uuid.len(), tag.as_ptr(), tag.len(), gno, &mut present)
+            sys::gtid_contains(
+                set.as_ptr(),
+                set.len(),
+                uuid.as_ptr(),
+                uuid.len(),
+                tag.as_ptr(),
+                tag.len(),
+                gno,
+                &mut present,
+            )
         };
         number == 0 && present == 1
     }
@@ -129,6 +138,17 @@ impl ResumeSet {
     }
 
     /// The bytes to save.
+    ///
+    /// ```
+    /// use gtid_resume::ResumeSet;
+    ///
+    /// let mut event = vec![0; 17];
+    /// event.extend(1u64.to_le_bytes());
+    /// let mut set = ResumeSet::empty();
+    /// set.offer(33, &event)?;
+    /// assert_eq!(ResumeSet::from_bytes(set.as_bytes().to_vec())?, set);
+    /// # Ok::<(), gtid_resume::Refusal>(())
+    /// ```
     pub fn as_bytes(&self) -> &[u8] {
         &self.bytes
     }
@@ -136,7 +156,8 @@ impl ResumeSet {
 
 fn counts(bytes: &[u8]) -> Result<(u64, u64), Refusal> {
     let (mut entries, mut intervals) = (0, 0);
-    let number = unsafe { sys::gtid_check_set(bytes.as_ptr(), bytes.len(), &mut entries, &mut intervals) };
-    Refusal::unless_zero(number, 0)?;
+    let number =
+        unsafe { sys::gtid_check_set(bytes.as_ptr(), bytes.len(), &mut entries, &mut intervals) };
+    Refusal::unless_zero(number)?;
     Ok((entries, intervals))
 }

@@ -2,7 +2,12 @@
 use crate::Refusal;
 
 extern "C" {
-    pub fn gtid_check_set(set: *const u8, set_len: usize, entries: *mut u64, intervals: *mut u64) -> u8;
+    pub fn gtid_check_set(
+        set: *const u8,
+        set_len: usize,
+        entries: *mut u64,
+        intervals: *mut u64,
+    ) -> u8;
     pub fn gtid_contains(
         set: *const u8,
         set_len: usize,
@@ -13,9 +18,26 @@ extern "C" {
         gno: u64,
         present: *mut u8,
     ) -> u8;
-    pub fn gtid_take_in(body: *const u8, body_len: usize, out: *mut u8, out_len: usize, len: *mut usize) -> u8;
-    pub fn gtid_rewrite(body: *const u8, body_len: usize, out: *mut u8, out_len: usize, len: *mut usize) -> u8;
-    pub fn gtid_read_previous(body: *const u8, body_len: usize, entries: *mut u64, used: *mut usize) -> u8;
+    pub fn gtid_take_in(
+        body: *const u8,
+        body_len: usize,
+        out: *mut u8,
+        out_len: usize,
+        len: *mut usize,
+    ) -> u8;
+    pub fn gtid_rewrite(
+        body: *const u8,
+        body_len: usize,
+        out: *mut u8,
+        out_len: usize,
+        len: *mut usize,
+    ) -> u8;
+    pub fn gtid_read_previous(
+        body: *const u8,
+        body_len: usize,
+        entries: *mut u64,
+        used: *mut usize,
+    ) -> u8;
     pub fn gtid_read_entry(
         body: *const u8,
         body_len: usize,
@@ -25,7 +47,12 @@ extern "C" {
         first: *mut usize,
         next: *mut usize,
     ) -> u8;
-    pub fn gtid_read_varlen_uint(s: *const u8, s_len: usize, value: *mut u64, used: *mut usize) -> u8;
+    pub fn gtid_read_varlen_uint(
+        s: *const u8,
+        s_len: usize,
+        value: *mut u64,
+        used: *mut usize,
+    ) -> u8;
     pub fn gtid_offer(
         set: *const u8,
         set_len: usize,
@@ -37,17 +64,39 @@ extern "C" {
         kind: *mut u8,
         len: *mut usize,
     ) -> u8;
-    pub fn gtid_list(input: *const u8, input_len: usize, out: *mut u8, out_len: usize, len: *mut usize) -> u8;
-    pub fn gtid_read(event_type: u8, body: *const u8, body_len: usize, record: *mut u8, record_len: usize, used: *mut usize) -> u8;
-    pub fn gtid_write(record: *const u8, record_len: usize, out: *mut u8, out_len: usize, len: *mut usize) -> u8;
+    pub fn gtid_list(
+        input: *const u8,
+        input_len: usize,
+        out: *mut u8,
+        out_len: usize,
+        len: *mut usize,
+    ) -> u8;
+    pub fn gtid_read(
+        event_type: u8,
+        body: *const u8,
+        body_len: usize,
+        record: *mut u8,
+        record_len: usize,
+        used: *mut usize,
+    ) -> u8;
+    pub fn gtid_write(
+        record: *const u8,
+        record_len: usize,
+        out: *mut u8,
+        out_len: usize,
+        len: *mut usize,
+    ) -> u8;
 }
 
 /// Lends a call an output of `room` bytes, and hands out those that it wrote.
-pub fn written(room: usize, call: impl FnOnce(&mut [u8], &mut usize) -> u8) -> Result<Vec<u8>, Refusal> {
+pub fn written(
+    room: usize,
+    call: impl FnOnce(&mut [u8], &mut usize) -> u8,
+) -> Result<Vec<u8>, Refusal> {
     let mut out = vec![0; room];
     let mut len = 0;
     let number = call(&mut out, &mut len);
-    Refusal::unless_zero(number, len)?;
+    Refusal::unless_zero(number)?;
     out.truncate(len);
     Ok(out)
 }

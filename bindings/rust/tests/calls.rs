@@ -1,5 +1,7 @@
 //! The examples of the repository, and the edges of a set, through the archive.
-use gtid_resume::{list, read_varlen_uint, rewrite, GtidEvent, Offered, PreviousGtids, ResumeSet, LONGEST_SET};
+use gtid_resume::{
+    list, read_varlen_uint, rewrite, GtidEvent, Offered, PreviousGtids, ResumeSet, LONGEST_SET,
+};
 use std::fs;
 use std::path::Path;
 
@@ -27,7 +29,9 @@ type Tagged<'a> = (u8, &'a [u8], &'a [(u64, u64)]);
 
 /// Each tag's length is in its one-byte form.
 fn tagged_previous(entries: &[Tagged]) -> Vec<u8> {
-    let mut body = (1 << 56 | (entries.len() as u64) << 8 | 1).to_le_bytes().to_vec();
+    let mut body = (1 << 56 | (entries.len() as u64) << 8 | 1)
+        .to_le_bytes()
+        .to_vec();
     for (uuid, tag, intervals) in entries {
         body.extend([*uuid; 16]);
         body.push(2 * tag.len() as u8);
@@ -77,13 +81,18 @@ fn a_gap_is_closed() {
     let mut set = ResumeSet::take_in(&previous(&[(1, &[(1, 6), (7, 8)])])).unwrap();
     assert_eq!(set.counts(), (1, 2));
     assert_eq!(set.offer(33, &gtid(1, 6)), Ok(Offered::Taken));
-    assert_eq!(set, ResumeSet::take_in(&previous(&[(1, &[(1, 8)])])).unwrap());
+    assert_eq!(
+        set,
+        ResumeSet::take_in(&previous(&[(1, &[(1, 8)])])).unwrap()
+    );
 }
 
 #[test]
 fn a_run_fed_again_ends_in_the_same_bytes() {
     let opening = previous(&[(9, &[(5, 7)]), (3, &[(1, 2)])]);
-    let events: Vec<_> = [(3, 9), (3, 2), (7, 1), (9, 7), (3, 9)].map(|(uuid, gno)| gtid(uuid, gno)).into();
+    let events: Vec<_> = [(3, 9), (3, 2), (7, 1), (9, 7), (3, 9)]
+        .map(|(uuid, gno)| gtid(uuid, gno))
+        .into();
     let mut whole = ResumeSet::take_in(&opening).unwrap();
     for event in &events {
         whole.offer(33, event).unwrap();
@@ -131,14 +140,27 @@ fn records_come_back() {
     let folder = Path::new(env!("CARGO_MANIFEST_DIR")).join("../../examples");
     let tagged = fs::read(folder.join("tagged.bin")).unwrap();
     let (event, used) = GtidEvent::read(42, &tagged[1..]).unwrap();
-    assert_eq!((event.tag.as_slice(), event.gno, used), (&b"depot_7"[..], 41, tagged.len() - 1));
+    assert_eq!(
+        (event.tag.as_slice(), event.gno, used),
+        (&b"depot_7"[..], 41, tagged.len() - 1)
+    );
     assert_eq!(event.write().unwrap(), tagged[1..]);
     // the checksum that was left in is read as a server version
     let trap = fs::read(folder.join("checksum-left-in.bin")).unwrap();
-    assert_eq!(GtidEvent::read(33, &trap[1..]).unwrap().0.immediate_server_version, 1_630_334_338);
+    assert_eq!(
+        GtidEvent::read(33, &trap[1..])
+            .unwrap()
+            .0
+            .immediate_server_version,
+        1_630_334_338
+    );
 }
 
-const PLAIN: [Tagged; 3] = [(9, b"", &[(5, 7), (1, 2)]), (3, b"", &[]), (9, b"", &[(0, u64::MAX)])];
+const PLAIN: [Tagged; 3] = [
+    (9, b"", &[(5, 7), (1, 2)]),
+    (3, b"", &[]),
+    (9, b"", &[(0, u64::MAX)]),
+];
 const TAGS: [Tagged; 4] = [
     (2, b"", &[(1, 2)]),
     (2, b"a_tag_of_thirty_two_bytes____007", &[]),
@@ -162,7 +184,11 @@ fn entries_come_out_as_they_went_in() {
     let gaps: Vec<_> = (0..4094).map(|i| (2 * i + 1, 2 * i + 2)).collect();
     assert_entries(&previous(&[(1, &gaps)]), 65_536, &[(1, b"", &gaps)]);
     let bare: [Tagged; 2730] = [(1, b"", &[]); 2730];
-    assert_entries(&previous(&bare.map(|(uuid, _, intervals)| (uuid, intervals))), 65_528, &bare);
+    assert_entries(
+        &previous(&bare.map(|(uuid, _, intervals)| (uuid, intervals))),
+        65_528,
+        &bare,
+    );
 }
 
 #[test]
@@ -176,9 +202,16 @@ fn bytes_behind_a_body_are_left() {
 
 #[test]
 fn every_cut_of_a_body_is_refused() {
-    for body in [previous(&[(9, PLAIN[0].2), (3, &[])]), tagged_previous(&TAGS)] {
+    for body in [
+        previous(&[(9, PLAIN[0].2), (3, &[])]),
+        tagged_previous(&TAGS),
+    ] {
         for cut in 0..body.len() {
-            assert_eq!(PreviousGtids::read(&body[..cut]).unwrap_err().number(), 1, "{cut}");
+            assert_eq!(
+                PreviousGtids::read(&body[..cut]).unwrap_err().number(),
+                1,
+                "{cut}"
+            );
         }
     }
 }
@@ -206,7 +239,9 @@ fn refusals_have_their_numbers() {
     assert_eq!(PreviousGtids::read(&[0; 65_537]).unwrap_err().number(), 11);
     assert_eq!(PreviousGtids::read(&[0; 7]).unwrap_err().number(), 1);
     assert_eq!(
-        PreviousGtids::read(&tagged_previous(&[(1, b"UPPER", &[])])).unwrap_err().number(),
+        PreviousGtids::read(&tagged_previous(&[(1, b"UPPER", &[])]))
+            .unwrap_err()
+            .number(),
         6
     );
     // the broken tag comes before the end that is missing
@@ -217,9 +252,17 @@ fn refusals_have_their_numbers() {
         6
     );
     assert_eq!(read_varlen_uint(&[]).unwrap_err().number(), 1);
-    assert_eq!(ResumeSet::take_in(&vec![0; 65_537]).unwrap_err().number(), 11);
+    assert_eq!(
+        ResumeSet::take_in(&vec![0; 65_537]).unwrap_err().number(),
+        11
+    );
     assert_eq!(rewrite(&[0; 4]).unwrap_err().number(), 1);
-    assert_eq!(ResumeSet::take_in(&previous(&[(1, &[(5, 5)])])).unwrap_err().number(), 15);
+    assert_eq!(
+        ResumeSet::take_in(&previous(&[(1, &[(5, 5)])]))
+            .unwrap_err()
+            .number(),
+        15
+    );
     assert_eq!(GtidEvent::read(35, &[]).unwrap_err().number(), 8);
     let (mut event, _) = GtidEvent::read(33, &gtid(1, 1)).unwrap();
     event.tag = vec![b'a'; 40];
