@@ -1,11 +1,11 @@
 -- The entry at a place of a body (`entryIn`), from the answer for the body's header.
 use mathlib.Core.Path.{_≡_, sym, ap, _∙_}
 use mathlib.Core.List.{List}
-use Prim.Native.Nat.{ℕ, _+_, _≤_, _<_}
+use Prim.Native.Nat.{ℕ, _≤_, _<_}
 use native.Mathlib.Omega.{arith}
 use lib.ListN.{length}
 use Rattle.misc.specs.Refusal.{ended}
-use Rattle.misc.specs.Parse.{Parse, refuse, parsed, andThen, part}
+use Rattle.misc.specs.Parse.{Parse, andThen, part}
 use Rattle.misc.specs.Body.{ofBody}
 use Rattle.misc.specs.Le.{leOf, leAt}
 use Rattle.misc.proofs.ParseLaws.{split}

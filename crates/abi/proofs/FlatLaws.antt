@@ -9,7 +9,7 @@ use lib.Seq.{take-all}
 use borrow.Author.Tests.{eq-eqb, ne-eqb, le-leb, lt-leb}
 use Rattle.misc.specs.Refusal.{number, noRoom, notWritable}
 use Rattle.misc.specs.Parse.{Bytes, part}
-use Rattle.misc.specs.Output.{bytes, outputOf, answerOf, WhereFits}
+use Rattle.misc.specs.Output.{outputOf, answerOf, WhereFits}
 use Rattle.misc.specs.declared.Wrote.{Wrote}
 use Rattle.misc.proofs.LeLaws.{length-leBytes}
 use Rattle.misc.proofs.ParseLaws.{part-length}

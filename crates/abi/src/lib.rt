@@ -97,8 +97,8 @@ pub extern "C" fn gtid_read_previous(body: &[u8], entries: &mut u64, used: &mut 
 }
 
 // Reads the entry at a place of such a body: how many bytes its tag has and how many intervals there are, where the first of them
-// is, and where the entry ends. Its uuid is the 16 bytes at the place, and its tag ends eight bytes before the first interval. A body whose
-// header is refused has no room for an entry either, so no other answer is needed for it.
+// is, and where the entry ends. Its uuid is the 16 bytes at the place, and its tag ends eight bytes before the first interval. A header
+// that is refused needs no case of its own: a body over the limit is refused alike for both, and one without a header holds no entry.
 #[no_mangle]
 pub extern "C" fn gtid_read_entry(
     body: &[u8],

@@ -19,7 +19,7 @@ use Rattle.packets.specs.Tag.{isTag}
 use Rattle.packets.specs.Key.{Key}
 use Rattle.previous_gtids_event.specs.Entry.{Entry}
 use Rattle.previous_gtids_event.specs.Previous.{noneOrTag, keyAt, head, headAt, intervalAt, entryAt, saysTagged, saysCount}
-use Rattle.gtid_event_read.specs.Fields.{upTo, natural, uuid, tag, unknown, kindOf, noFields, limitedAt, fieldAt, fieldsOf}
+use Rattle.gtid_event_read.specs.Fields.{upTo, natural, uuid, unknown, kindOf, noFields, limitedAt, fieldAt, fieldsOf}
 use Rattle.gtid_event_read.specs.declared.Fields.{Fields}
 use Rattle.gtid_event_read.specs.Untagged.{timestampsAt, lengthAt, typecodeAt}
 
