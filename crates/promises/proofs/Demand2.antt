@@ -1,14 +1,19 @@
 -- Demand 2 holds of the reader and the writers that our functions promise.
-use Prim.Native.Nat.{ℕ, _+_}
-use mathlib.Core.Path.{_≡_, refl}
-use mathlib.Core.Bool.{true}
+use Prim.Native.Nat.{ℕ, _≤_}
+use mathlib.Core.Path.{_≡_}
+use mathlib.Core.Bool.{true, _||_}
 use mathlib.Core.List.{List, [], _∷_, _++_, append-assoc}
 use native.Mathlib.Omega.{arith}
+use mathlib.Core.Logic.{_⊎_, inl, inr}
+use lib.Dec.{eqb, leb}
 use lib.ListN.{length, length-append}
-use Rattle.misc.specs.Refusal.{notWritable}
+use borrow.Author.Tests.{leb-true, le-leb, eqb-true}
+use Rattle.misc.specs.Refusal.{notWritable, tooLong}
+use Rattle.misc.specs.Parse.{Bytes, parsed}
 use Rattle.misc.specs.Output.{bytes, refused}
 use Rattle.misc.specs.Body.{bodyLimit}
 use Rattle.misc.specs.Varlen.{sizeFrom, varlenSize, varlenBytes}
+use Rattle.misc.proofs.ParseLaws.{never, pick-either, pick-parsed}
 use Rattle.misc.proofs.VarlenLaws.{length-varlenBytes}
 use Rattle.packets.proofs.Tests.{split}
 use Rattle.previous_gtids_event.specs.Previous.{previous}
@@ -24,7 +29,11 @@ use Rattle.gtid_event_write.specs.Write.{eventBytes, eventOutput}
 use Rattle.gtid_event_write.proofs.SizeLaws.{payload-agrees, payload-least}
 use Rattle.gtid_event_laws.proofs.EventBack.{event-alone}
 use Rattle.gtid_event_laws.proofs.ReadWritable.{read-fits, read-writable}
-use Rattle.promises.specs.Meaning.{ByLayout, RecordsBack, RecordsAgain, Declares, LeastSize, EntriesBack, EntriesMean}
+use Rattle.promises.proofs.UntaggedReads.{untagged-reads}
+use Rattle.promises.proofs.UntaggedAccepted.{untagged-accepted}
+use Rattle.promises.proofs.TaggedReads.{tagged-reads}
+use Rattle.promises.proofs.TaggedAccepted.{tagged-accepted}
+use Rattle.promises.specs.Meaning.{RecordLaid, RecordsMean, RecordsBack, RecordsAgain, Declares, LeastSize, EntriesBack, EntriesMean}
 
 -- what was written was writable
 written : (e : GtidEvent) (bs : List ℕ) → eventOutput e ≡ bytes bs → (writable e ≡ true) × (eventBytes e ≡ bs)
@@ -33,8 +42,36 @@ written e bs w = split (writable e)
     (λ h. let same : bytes (eventBytes e) ≡ bytes bs = rw h at w in (h, cc))
     (λ h. let no : refused notWritable ≡ bytes bs = rw h at w in absurd (let z : _≡_ {A = ℕ} 0 1 = cc in omega arith))
 
-pub by-layout : ByLayout gtid
-by-layout type body = refl
+-- what is read is laid out, and what is laid out is read
+read-laid-record : (type : ℕ) (s : List ℕ) (e : GtidEvent) (used : ℕ) → Bytes s → gtid type s ≡ parsed e used → RecordLaid type s e used
+unfolding gtid
+read-laid-record type s e used are read =
+    let (short, p) = pick-parsed (leb (length s) bodyLimit) _ tooLong e used read in
+    let fits : length s ≤ bodyLimit = leb-true (length s) bodyLimit short in
+    pick-either (eqb type 33 || eqb type 34) p
+    (λ either q. RecordLaid.untagged fits (one-of either) (untagged-accepted s are e used q))
+    (λ _ q. pick-either (eqb type 42) q
+    (λ is r. RecordLaid.tagged fits (eqb-true type 42 is) (tagged-accepted s are e used r))
+    (λ _ r. never r))
+  where
+    one-of : eqb type 33 || eqb type 34 ≡ true → (type ≡ 33) ⊎ (type ≡ 34)
+    one-of h = split (eqb type 33) (λ is. inl (eqb-true type 33 is)) (λ isnt. inr (eqb-true type 34 (rw isnt at h)))
+
+laid-record-read : (type : ℕ) (s : List ℕ) (e : GtidEvent) (used : ℕ) → RecordLaid type s e used → gtid type s ≡ parsed e used
+unfolding gtid
+laid-record-read type s e used (RecordLaid.untagged fits (inl is) laid) = rw (le-leb (length s) bodyLimit fits, is) (untagged-reads s e used laid)
+laid-record-read type s e used (RecordLaid.untagged fits (inr is) laid) = rw (le-leb (length s) bodyLimit fits, is) (untagged-reads s e used laid)
+laid-record-read type s e used (RecordLaid.tagged fits is laid) = rw (le-leb (length s) bodyLimit fits, is) (tagged-reads s e used laid)
+
+pub records-mean : RecordsMean gtid
+records-mean type s e used are = (read-laid-record type s e used are, laid-record-read type s e used)
+
+-- bytes are laid out as one record only, of one length
+pub one-record : (type : ℕ) (s : List ℕ) (e f : GtidEvent) (used other : ℕ) → RecordLaid type s e used → RecordLaid type s f other → (e ≡ f) × (used ≡ other)
+one-record type s e f used other a b =
+    let p = laid-record-read type s e used a in
+    let q = laid-record-read type s f other b in
+    (cc, cc)
 
 pub records-back : RecordsBack gtid eventOutput
 unfolding eventOutput

@@ -1,23 +1,26 @@
 -- Demand 2, of any reader and writer: what is written reads back from exactly its bytes, what is accepted is what the layouts say, and a
 -- tagged record declares the least size that counts itself.
-use Prim.Native.Nat.{ℕ, _+_, _≤_}
+use Prim.Native.Nat.{ℕ, _≤_}
 use mathlib.Core.Path.{_≡_}
 use mathlib.Core.Bool.{true}
 use mathlib.Core.List.{List, [], _∷_, _++_}
+use mathlib.Core.Logic.{_⊎_}
 use lib.ListN.{length}
 use Rattle.misc.specs.Parse.{Bytes, Parse, parsed}
 use Rattle.misc.specs.Output.{Output, bytes}
 use Rattle.misc.specs.Body.{bodyLimit}
 use Rattle.misc.specs.Varlen.{varlenBytes}
 use Rattle.previous_gtids_event.specs.Entry.{Entry}
-use Rattle.gtid_event.specs.Event.{tagged, typeOf}
+use Rattle.gtid_event.specs.Event.{typeOf}
+use Rattle.gtid_event.specs.Event as event
 use Rattle.gtid_event.specs.declared.GtidEvent.{GtidEvent}
 use Rattle.previous_gtids_event.proofs.Laying.{WellFormed}
 use Rattle.previous_gtids_event.proofs.RoundTrip.{BodyLaid}
-use Rattle.gtid_event_read.specs.Read.{gtid}
 use Rattle.gtid_event_write.specs.Writable.{writable}
 use Rattle.gtid_event_write.specs.Size.{Agrees}
 use Rattle.gtid_event_laws.specs.Fits.{Fits}
+use Rattle.promises.specs.UntaggedLayout.{UntaggedLaid}
+use Rattle.promises.specs.TaggedLayout.{TaggedLaid}
 
 -- ---- records
 
@@ -28,9 +31,15 @@ EventReader = ℕ → List ℕ → Parse GtidEvent
 abbrev pub EventWriter : Type 0
 EventWriter = GtidEvent → Output
 
--- it accepts and reads what the layouts say, and tells the bytes that they take
-abbrev pub ByLayout : EventReader → Type 0
-ByLayout read = (type : ℕ) (body : List ℕ) → read type body ≡ gtid type body
+-- the layouts: 33 and 34 are untagged, 42 is tagged, and a body has so many bytes at most. It is this record, and so many bytes are used
+pub data RecordLaid (type : ℕ) (s : List ℕ) (e : GtidEvent) (used : ℕ) : Type 0 where
+  untagged : length s ≤ bodyLimit → (type ≡ 33) ⊎ (type ≡ 34) → UntaggedLaid s e used → RecordLaid type s e used
+  tagged : length s ≤ bodyLimit → type ≡ 42 → TaggedLaid s e used → RecordLaid type s e used
+
+-- what is accepted is laid out as the format says, and whatever is laid out so is accepted
+abbrev pub RecordsMean : EventReader → Type 0
+RecordsMean read = (type : ℕ) (s : List ℕ) (e : GtidEvent) (used : ℕ) → Bytes s
+    → (read type s ≡ parsed e used → RecordLaid type s e used) × (RecordLaid type s e used → read type s ≡ parsed e used)
 
 -- a writable record is written, and comes back equal from exactly its bytes
 abbrev pub RecordsBack : EventReader → EventWriter → Type 0
@@ -53,7 +62,7 @@ pub record Declares (bs : List ℕ) : Type 0 where
   pub least : (other : ℕ) → Agrees fields other → size ≤ other
 
 abbrev pub LeastSize : EventWriter → Type 0
-LeastSize write = (e : GtidEvent) (bs : List ℕ) → tagged e ≡ true → write e ≡ bytes bs → Declares bs
+LeastSize write = (e : GtidEvent) (bs : List ℕ) → event.tagged e ≡ true → write e ≡ bytes bs → Declares bs
 
 -- ---- Previous-GTIDs
 

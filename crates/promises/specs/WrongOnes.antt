@@ -1,5 +1,6 @@
 -- Wrong programs that the demands shut out. Each is put in the place of ours by an edit that the gate sees refused.
-use Prim.Native.Nat.{_+_}
+use Prim.Native.Nat.{ℕ, _+_}
+use mathlib.Core.List.{List, [], _∷_}
 use lib.ListN.{length, replicate}
 use lib.Dec.{eqb}
 use Rattle.misc.specs.Pick.{pick}
@@ -7,11 +8,13 @@ use Rattle.misc.specs.Refusal.{ended, notWritable}
 use Rattle.misc.specs.Parse.{Parse, refuse, parsed}
 use Rattle.misc.specs.Output.{refused, bytes, outputOf}
 use Rattle.gtid_event.specs.declared.GtidEvent.{GtidEvent}
-use Rattle.gtid_event.specs.Event.{newUntagged}
+use Rattle.gtid_event.specs.Event.{newUntagged, setNumber}
 use Rattle.gtid_event_read.specs.Read.{gtid}
 use Rattle.resume_set.specs.declared.Offered.the-variants.{Taken}
 use Rattle.resume_set_laws.specs.History.{Offering}
 use Rattle.resume_set_laws.specs.Ours.{ours}
+use Rattle.packets.specs.Key.{same}
+use Rattle.promises.specs.TaggedLayout.{the-tag, said}
 use Rattle.promises.specs.Meaning.{EventReader, EventWriter}
 
 -- refuses whatever comes
@@ -29,6 +32,22 @@ countedUp (parsed e used) = parsed e (used + 1)
 
 abbrev pub madeUpCount : EventReader
 madeUpCount type body = countedUp (gtid type body)
+
+-- takes last_committed for sequence_number, and the reverse
+abbrev pub swappedClock : Parse GtidEvent → Parse GtidEvent
+swappedClock (refuse r) = refuse r
+swappedClock (parsed e used) = parsed (setNumber 4 (e .«sequence_number») (setNumber 5 (e .«last_committed») e)) used
+
+abbrev pub swapsClock : EventReader
+swapsClock type body = swappedClock (gtid type body)
+
+-- version 2, size 7, last non-ignorable id 12, tag "a", id 12
+abbrev pub equalId : List ℕ
+equalId = 2 ∷ 14 ∷ 24 ∷ 6 ∷ 2 ∷ 97 ∷ 24 ∷ []
+
+-- ignores an unknown id that equals the last non-ignorable one, at least there
+abbrev pub ignoresEqual : EventReader
+ignoresEqual type body = pick (same body equalId) (parsed (said (the-tag (97 ∷ []) ∷ [])) 7) (gtid type body)
 
 -- writes no record
 abbrev pub writesNothing : EventWriter

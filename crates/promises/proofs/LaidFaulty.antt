@@ -1,0 +1,243 @@
+-- What is refused of a tagged event is wrong by the layouts: from the cases of `Faults`, which speak of the places that reading comes to.
+use Prim.Native.Nat.{ℕ, zero, suc, _+_, _-_, _*_, _^_, _≤_, _<_}
+use mathlib.Core.Path.{_≡_, refl, sym, ap, subst, _∙_}
+use mathlib.Core.Bool.{false}
+use mathlib.Core.List.{List, [], _∷_, _++_, append-assoc, append-nil}
+use mathlib.Core.Logic.{_⊎_, inl, inr}
+use native.Mathlib.Omega.{arith}
+use lib.IntN.{negsuc}
+use lib.ListN.{length, drop, getD, length-append, length-drop, List·getD-eq-default}
+use lib.Seq.{drop-cons}
+use Rattle.misc.specs.Parse.{Bytes, parsed, part}
+use Rattle.misc.specs.Varlen.{trailingOnes, varlenAt}
+use Rattle.misc.specs.Signed.{sentAs, meantBy, signedAt}
+use Rattle.misc.proofs.ParseLaws.{split, mapped-parsed, part-length}
+use Rattle.misc.proofs.Bounds.{part-bytes}
+use Rattle.misc.proofs.SignedLaws.{sent-meant}
+use Rattle.misc.proofs.VarlenLaws.{trailingOnes-le}
+use Rattle.misc.proofs.Forward.{varlen-forward}
+use Rattle.gtid_event_read.specs.declared.Fields.{Fields}
+use Rattle.gtid_event_read.specs.Fields.{Kind, anyNumber, upTo, natural, uuid, tag, unknown, fieldTable, kindOf, noFields}
+use Rattle.promises.specs.Faults.{Item, varlen, Ends, Reached, AtValue, Wanted, FieldFault, Envelope, TaggedFault}
+use Rattle.promises.specs.Forms.{Form}
+use Rattle.promises.specs.TaggedLayout.{Sent, Value, hasTag}
+use Rattle.promises.specs.LaidFaults.{CutForm, FieldsFront, BadValue, FieldsBad, TaggedBad}
+use Rattle.promises.proofs.FormsRead.{part-from, ones-low, ones-full, Found, form-read}
+use Rattle.promises.proofs.TaggedSaid.{tag-there}
+use Rattle.promises.proofs.TaggedAccepted.{found-size, items-found, Next, field-parts, fields-found}
+
+-- ---- the table of kinds, read backwards
+abbrev Of : Kind → ℕ → Type 0
+Of anyNumber id = Unit {0}
+Of (upTo limit) id = ((id ≡ 0) × (limit ≡ 255)) ⊎ (((id ≡ 9) ⊎ (id ≡ 10)) × (limit ≡ 2 ^ 32 - 1))
+Of natural id = (id ≡ 2) ⊎ ((id ≡ 4) ⊎ (id ≡ 5))
+Of uuid id = Unit {0}
+Of tag id = Unit {0}
+Of unknown id = 12 ≤ id
+
+of-id : (id : ℕ) → Of (kindOf id) id
+of-id zero = inl (refl, refl)
+of-id (suc zero) = tt
+of-id (suc (suc zero)) = inl refl
+of-id (suc (suc (suc zero))) = tt
+of-id (suc (suc (suc (suc zero)))) = inr (inl refl)
+of-id (suc (suc (suc (suc (suc zero))))) = inr (inr refl)
+of-id (suc (suc (suc (suc (suc (suc zero)))))) = tt
+of-id (suc (suc (suc (suc (suc (suc (suc zero))))))) = tt
+of-id (suc (suc (suc (suc (suc (suc (suc (suc zero)))))))) = tt
+of-id (suc (suc (suc (suc (suc (suc (suc (suc (suc zero))))))))) = inr (inl refl, refl)
+of-id (suc (suc (suc (suc (suc (suc (suc (suc (suc (suc zero)))))))))) = inr (inr refl, refl)
+of-id (suc (suc (suc (suc (suc (suc (suc (suc (suc (suc (suc zero))))))))))) = tt
+of-id (suc (suc (suc (suc (suc (suc (suc (suc (suc (suc (suc (suc n)))))))))))) = omega arith
+
+of-kind : (id : ℕ) (k : Kind) → kindOf id ≡ k → Of k id
+of-kind id k e = rw e at (of-id id)
+
+-- another field behind fields
+front-more : {front bs value : List ℕ} {id : ℕ} {x : Sent} → FieldsFront front → Form id bs → Value id x value → FieldsFront (front ++ (bs ++ value))
+front-more {bs = bs} {value = value} FieldsFront.none form val = rw append-nil at (FieldsFront.more form val FieldsFront.none)
+front-more {bs = bs} {value = value} (FieldsFront.more {bs = a} {value = v} {rest = rest} f w others) form val =
+    rw append-assoc (FieldsFront.more f w (front-more others form val))
+
+module _ (s : List ℕ) (are : Bytes s) where
+  pub gone : (at : ℕ) → length s ≤ at → drop at s ≡ []
+  gone at h = go (drop at s) (rw length-drop (omega arith))
+    where
+      go : (l : List ℕ) → length l ≡ 0 → l ≡ []
+      go [] e = refl
+      go (x ∷ l) e = absurd (omega arith)
+
+  -- an integer that the bytes end inside
+  pub cut-form : (at : ℕ) → Ends varlen s at → CutForm (drop at s)
+  cut-form at h = split (length s) at (λ past. rw (gone at past) CutForm.nothing) (λ inside.
+      rw (drop-cons s at 0 inside) (go (getD s at 0) (trailingOnes 8 (getD s at 0)) refl (are at) (rw length-drop (omega arith))))
+    where
+      go : (b t : ℕ) → t ≡ trailingOnes 8 b → b < 256 → length (drop (suc at) s) < t → CutForm (b ∷ drop (suc at) s)
+      go b t ones low few = split 8 t
+          (λ big.
+          let eight : t ≡ 8 = omega (arith, trailingOnes-le 8 b) in
+          let full = ones-full 8 b (sym eight ∙ ones) in
+          let lead : b ≡ 0xFF = omega arith in
+          rw lead (CutForm.nine (drop (suc at) s) (omega arith)))
+          (λ small. CutForm.few t b (drop (suc at) s) small (ones-low 8 b t ones small) few)
+
+  module _ (last : ℕ) where
+    -- the fields up to a place that reading comes to
+    front-of : {f : Fields} {at : ℕ} → Reached last s f at → at < length s → Found FieldsFront s 0 at
+    front-of Reached.first h = record { bytes = []; holds = FieldsFront.none; is = refl; inside = omega arith }
+    front-of (Reached.next {f = f} {g = g} {at = at} {to = to} before more read) h =
+        let (id, from, form, what) = field-parts s are last f at g to read in
+        go id from form what (front-of before more)
+      where
+        go : (id from : ℕ) → Found (Form id) s at from → Next s are last id f from g to → Found FieldsFront s 0 at → Found FieldsFront s 0 to
+        go id from form (Next.value x found is) front =
+            record {
+              bytes = front .bytes ++ (form .bytes ++ found .bytes);
+              holds = front-more (front .holds) (form .holds) (found .holds);
+              is = front .is ∙ rw (form .is, found .is) (simp append-assoc);
+              inside = found .inside;
+            }
+        go id from form (Next.over new above is end) front = absurd (omega arith)
+
+    at-value : {id from n : ℕ} → AtValue last s id from → BadValue last id (drop from s) n → FieldsBad last s n
+    at-value {id} {from} {n} v bad =
+        let front = front-of (v .reached) (v .more) in
+        let form = form-read s are (v .at) id from (v .told) in
+        subst (λ (l : List ℕ). FieldsBad last l n) (sym (front .is ∙ ap (λ (l : List ℕ). front .bytes ++ l) (form .is)))
+        (FieldsBad.badValue (front .holds) (form .holds) bad)
+
+    signed-sent : (at n to : ℕ) → signedAt s at ≡ parsed (negsuc n) to → varlenAt s at ≡ parsed (n * 2 + 1) to
+    unfolding signedAt sentAs
+    signed-sent at n to e =
+        let (sent, read, is) = mapped-parsed meantBy (varlenAt s at) (negsuc n) to e in
+        let same : n * 2 + 1 ≡ sent = ap sentAs is ∙ sent-meant sent in
+        read ∙ rw same
+
+    -- what is wrong behind a number
+    after-number : (id from v to n : ℕ) → varlenAt s from ≡ parsed v to → ((bs rest : List ℕ) → Form v bs → BadValue last id (bs ++ rest) n)
+        → BadValue last id (drop from s) n
+    after-number id from v to n told mk =
+        let form = form-read s are from v to told in
+        rw (form .is) (mk (form .bytes) (drop to s) (form .holds))
+
+    cut-bad : (at : ℕ) (i : Item) → Wanted last s at i → Ends i s at → FieldsBad last s 1
+    cut-bad at i (Wanted.fieldId here more) over =
+        let front = front-of here more in
+        let some : 1 ≤ length (drop at s) = rw length-drop (omega arith) in
+        subst (λ (l : List ℕ). FieldsBad last l 1) (sym (front .is)) (FieldsBad.cutId (front .holds) some (cut-form at over))
+    cut-bad at i (Wanted.number {id = id} v not-uuid known) over =
+        at-value v (BadValue.cutNumber
+        (split 12 id (λ big. absurd (known (List·getD-eq-default fieldTable unknown {n = id} big))) (λ small. small))
+        (λ one. not-uuid (rw one))
+        (cut-form at over))
+    cut-bad at i (Wanted.uuidItem {i = k} item) over =
+        let (us, passed) = item .passed in
+        let start : item .from ≤ length s = varlen-forward s (item .value .at) (item .value .told) .1 in
+        let (size, items) = items-found s are k (item .from) us at start passed in
+        let few : length us < 16 = omega (arith, item .below) in
+        at-value (item .value) (rw (items .is) (BadValue.cutItem (items .holds) few (cut-form at over)))
+    cut-bad at i (Wanted.tagBytes {from = from} {n = n} v told) over =
+        let few : length (drop at s) < n = rw length-drop (omega (arith, varlen-forward s from told)) in
+        let form = form-read s are from n at told in
+        at-value v (rw (form .is) (BadValue.cutTag (drop at s) (form .holds) few))
+
+    pub fields-bad : {n : ℕ} → FieldFault last s n → FieldsBad last s n
+    fields-bad (FieldFault.cut at i wanted over) = cut-bad at i wanted over
+    fields-bad (FieldFault.large {id = id} {from = from} {limit = limit} {v = v} {to = to} here is told over) =
+        at-value here (after-number id from v to 2 told (λ bs rest form. go bs rest form (of-kind id (upTo limit) is)))
+      where
+        go : (bs rest : List ℕ) → Form v bs → Of (upTo limit) id → BadValue last id (bs ++ rest) 2
+        go bs rest form (inl (flags, low)) = rw flags (BadValue.largeFlags rest form (rw low at over))
+        go bs rest form (inr (version, low)) = BadValue.largeVersion rest version form (rw low at over)
+    fields-bad (FieldFault.largeItem {i = k} {at = at} {v = v} {to = to} item told over) =
+        let (us, passed) = item .passed in
+        let start : item .from ≤ length s = varlen-forward s (item .value .at) (item .value .told) .1 in
+        let (size, items) = items-found s are k (item .from) us at start passed in
+        let few : length us < 16 = omega (arith, item .below) in
+        let form = form-read s are at v to told in
+        at-value (item .value) (rw (items .is, form .is) (BadValue.largeItem (drop to s) (items .holds) few (form .holds) over))
+    fields-bad (FieldFault.negative {id = id} {from = from} {n = n} {to = to} here is told) =
+        at-value here (after-number id from (n * 2 + 1) to 3 (signed-sent from n to told) (λ bs rest form. BadValue.negative n rest (of-kind id natural is) form))
+    fields-bad (FieldFault.unknownId {id = id} here is low) = at-value here (BadValue.unknownId (of-kind id unknown is) low)
+    fields-bad (FieldFault.tagRule {from = from} {n = n} {to = to} here told room bad) =
+        let form = form-read s are from n to told in
+        let size : length (part s to n) ≡ n = part-length n s to room in
+        let counted : Form (length (part s to n)) (form .bytes) = rw size (form .holds) in
+        at-value here (rw (form .is, part-from s to n) (BadValue.tagRule (part s to n) (drop (to + n) s) counted bad))
+
+-- ---- a tagged event
+
+module _ (s : List ℕ) (are : Bytes s) where
+  two-first : 1 ≤ length s → getD s 0 0 ≡ 2 → s ≡ 2 ∷ drop 1 s
+  two-first inside two = drop-cons s 0 0 inside ∙ ap (λ (b : ℕ). b ∷ drop 1 s) two
+
+  -- the envelope's bytes
+  record Parts (size last start : ℕ) : Type 0 where
+    a : List ℕ
+    b : List ℕ
+    size-is : Form size a
+    last-is : Form last b
+    whole : s ≡ 2 ∷ (a ++ (b ++ drop start s))
+    place : start ≡ length (2 ∷ (a ++ b))
+
+  parts : {size last start : ℕ} → Envelope s size last start → Parts size last start
+  parts {size} {last} {start} v =
+      let x = form-read s are 1 size (v .from) (v .sized) in
+      let y = form-read s are (v .from) last start (v .told) in
+      let some : 1 ≤ length s = omega (arith, varlen-forward s 1 (v .sized)) in
+      record {
+        a = x .bytes;
+        b = y .bytes;
+        size-is = x .holds;
+        last-is = y .holds;
+        whole = two-first some (v .version) ∙ ap (λ (l : List ℕ). 2 ∷ l) (x .is ∙ ap (λ (l : List ℕ). x .bytes ++ l) (y .is));
+        place = omega (arith, found-size s are x some, found-size s are y (x .inside), length-append (x .bytes) (y .bytes));
+      }
+
+  -- the payload's fields, and what is behind them
+  fields-whole : (start size : ℕ) → start ≤ size → drop start s ≡ part s start (size - start) ++ drop size s
+  fields-whole start size h =
+      let sum : start + (size - start) ≡ size = omega arith in
+      part-from s start (size - start) ∙ ap (λ (n : ℕ). part s start (size - start) ++ drop n s) sum
+
+  counted : {size last start : ℕ} (p : Parts size last start) → start ≤ size → size ≤ length s
+      → size ≡ length (2 ∷ (p .a ++ (p .b ++ part s start (size - start))))
+  counted {size} {last} {start} p large here =
+      let fields = part s start (size - start) in
+      let long : length fields ≡ size - start = part-length (size - start) s start (omega arith) in
+      omega (arith, p .place, length-append (p .a) (p .b), length-append (p .a) (p .b ++ fields), length-append (p .b) fields)
+
+  pub tagged-bad : {n : ℕ} → TaggedFault s n → TaggedBad s n
+  tagged-bad (TaggedFault.cutVersion none) =
+      let empty : s ≡ [] = gone s are 0 (omega arith) in
+      rw empty TaggedBad.cutVersion
+  tagged-bad (TaggedFault.cutSize inside two over) =
+      subst (λ (l : List ℕ). TaggedBad l 1) (sym (two-first inside two)) (TaggedBad.cutSize (cut-form s are 1 over))
+  tagged-bad (TaggedFault.cutLast {size = size} {from = from} two sized over) =
+      let x = form-read s are 1 size from sized in
+      let some : 1 ≤ length s = omega (arith, varlen-forward s 1 sized) in
+      subst (λ (l : List ℕ). TaggedBad l 1) (sym (two-first some two ∙ ap (λ (l : List ℕ). 2 ∷ l) (x .is)))
+      (TaggedBad.cutLast (x .holds) (cut-form s are from over))
+  tagged-bad (TaggedFault.cutPayload {size = size} {start = start} v large over) =
+      let p = parts v in
+      let long : length (2 ∷ (p .a ++ (p .b ++ drop start s))) < size = subst (λ (l : List ℕ). length l < size) (p .whole) over in
+      subst (λ (l : List ℕ). TaggedBad l 1) (sym (p .whole)) (TaggedBad.cutPayload (drop start s) (p .size-is) (p .last-is) (omega (arith, p .place)) long)
+  tagged-bad (TaggedFault.wrongVersion inside other) =
+      subst (λ (l : List ℕ). TaggedBad l 4) (sym (drop-cons s 0 0 inside)) (TaggedBad.wrongVersion other)
+  tagged-bad (TaggedFault.smallPayload {start = start} v small) =
+      let p = parts v in
+      subst (λ (l : List ℕ). TaggedBad l 9) (sym (p .whole)) (TaggedBad.smallPayload (drop start s) (p .size-is) (p .last-is) (omega (arith, p .place)))
+  tagged-bad (TaggedFault.inFields {size = size} {last = last} {start = start} {n = n} v large here fault) =
+      let p = parts v in
+      let bad = fields-bad (part s start (size - start)) (part-bytes s start (size - start) are) last fault in
+      subst (λ (l : List ℕ). TaggedBad l n)
+      (sym (p .whole ∙ ap (λ (l : List ℕ). 2 ∷ (p .a ++ (p .b ++ l))) (fields-whole start size large)))
+      (TaggedBad.inFields (drop size s) (p .size-is) (p .last-is) (counted p large here) bad)
+  tagged-bad (TaggedFault.noTag {size = size} {last = last} {start = start} {at = at} {f = f} v large here read none) =
+      let p = parts v in
+      let t = part s start (size - start) in
+      let (told, laid, kept) = fields-found t (part-bytes s start (size - start) are) last (length t) noFields 0 f at (omega arith) read in
+      let no : hasTag told ≡ false = sym (tag-there laid) ∙ ap (λ (y : Fields). getD (y .present) 3 false) (sym kept) ∙ none in
+      subst (λ (l : List ℕ). TaggedBad l 7)
+      (sym (p .whole ∙ ap (λ (l : List ℕ). 2 ∷ (p .a ++ (p .b ++ l))) (fields-whole start size large)))
+      (TaggedBad.noTag (drop size s) (p .size-is) (p .last-is) (counted p large here) laid no)

@@ -1,0 +1,227 @@
+-- The wrong programs of `specs/WrongOnes.antt` do not meet the demands: whoever shows that one does shows everything.
+use Prim.Native.Nat.{ℕ, zero, suc, _+_}
+use mathlib.Core.Path.{_≡_, refl, sym, ap, _∙_}
+use mathlib.Core.Bool.{Bool, true, false, _&&_, false≢true}
+use lib.Dec.{ltb}
+use borrow.Author.Tests.{ltb-true}
+use mathlib.Core.List.{List, [], _∷_, _++_}
+use native.Mathlib.Omega.{arith}
+use lib.ListN.{length, replicate}
+use Rattle.misc.specs.Parse.{Bytes, refuse, parsed, many, bytesAt, byteAt}
+use Rattle.misc.specs.Output.{bytes, outputOf}
+use Rattle.misc.specs.Body.{bodyLimit}
+use Rattle.misc.specs.Le.{leOf, leBytes, leAt}
+use Rattle.misc.specs.Refusal.{unknownField}
+use Rattle.misc.specs.Varlen.{trailingOnes, itemValue, varlenAt}
+use Rattle.misc.specs.Signed.{meantBy, signedAt, naturalAt}
+use Rattle.misc.proofs.ParseLaws.{never}
+use Rattle.misc.proofs.Bounds.{append-bytes, zeros-bytes}
+use Rattle.previous_gtids_event.specs.Entry.{uuidOf, tagOf}
+use Rattle.packets.specs.Kept.{padded}
+use Rattle.packets.specs.Tag.{isTag, allTagBytes}
+use Rattle.packets.proofs.Tests.{and-true}
+use Rattle.packets.specs.Gno.{gnoTop}
+use Rattle.previous_gtids_event.specs.Previous as previous-specs
+use Rattle.previous_gtids_event.specs.Previous.{keyAt, headAt, intervalAt, entryAt, saysTagged, saysCount, previous}
+use Rattle.previous_gtids_event.specs.Rewrite.{intervalsBytes, entryBytes, entriesBytes, anyTag, headerBytes, bodyBytes}
+use Rattle.gtid_event.specs.declared.GtidEvent.{GtidEvent}
+use Rattle.gtid_event.specs.Event.{newUntagged, typeOf, setNumber}
+use Rattle.gtid_event_read.specs.Untagged.{openingAt, untagged}
+use Rattle.gtid_event_read.specs.Fields.{tagAt, fieldAt, fieldsFrom}
+use Rattle.gtid_event_read.specs.Tagged.{tagged}
+use Rattle.gtid_event_read.specs.Read.{gtid}
+use Rattle.gtid_event_write.specs.Writable.{allZero, writable}
+use Rattle.gtid_event_write.specs.Write.{eventBytes, eventOutput}
+use Rattle.gtid_event_laws.specs.Fits.{Fits}
+use Rattle.gtid_event_laws.proofs.EventBack.{event-alone}
+use Rattle.gtid_sets.specs.Limits.{maxEntries, maxIntervals, limits}
+use Rattle.gtid_sets.specs.Lent.{lentSet}
+use Rattle.resume_set.specs.Answers.{eventOf}
+use Rattle.resume_set_laws.specs.History.{Turn, TakesIn, TellsHistory}
+use Rattle.promises.specs.Meaning.{EventReader, EventWriter, RecordLaid, RecordsMean, RecordsBack}
+use Rattle.promises.specs.UntaggedLayout.{untaggedRecord}
+use Rattle.promises.specs.TaggedLayout.{number, the-tag, said}
+use Rattle.promises.proofs.Demand2.{records-mean, one-record}
+use Rattle.promises.specs.WrongOnes.{refusesAll, constantRecord, madeUpCount, swapsClock, equalId, ignoresEqual, writesNothing, copiesItsSet, addsOnlyTheFirst}
+
+-- ---- records: one that can be written, gno 2
+
+abbrev some : GtidEvent
+some = newUntagged (replicate 16 0) 2
+
+some-fits : Fits some
+some-fits = record {
+  flags-fit = omega arith;
+  sid-size = refl;
+  sid-fits = zeros-bytes 16;
+  gno-fits = omega arith;
+  tag-size = refl;
+  tag-fits = zeros-bytes 32;
+  tag-len-fits = omega arith;
+  typecode-fits = omega arith;
+  last-fits = omega arith;
+  sequence-fits = omega arith;
+  immediate-fits = omega arith;
+  original-fits = omega arith;
+  length-fits = omega arith;
+  version-fits = omega arith;
+  original-version-fits = omega arith;
+  ticket-fits = omega arith;
+}
+
+some-can : writable some ≡ true
+unfolding writable allZero
+some-can = refl
+
+-- a reader that refuses all, with whatever writer
+pub refuses-all-out : (write : EventWriter) → RecordsBack refusesAll write → ⊥
+refuses-all-out write back =
+    let (bs, wrote, read) = back some some-fits some-can in
+    never read
+
+-- a reader that always gives the same record, with whatever writer
+pub constant-record-out : (write : EventWriter) → RecordsBack constantRecord write → ⊥
+constant-record-out write back =
+    let (bs, wrote, read) = back some some-fits some-can in
+    let same : newUntagged (replicate 16 0) 1 ≡ some = cc in
+    let clash : _≡_ {A = ℕ} 1 2 = ap (λ (e : GtidEvent). e .gno) same in
+    omega arith
+
+-- a writer that writes nothing, with whatever reader
+pub writes-nothing-out : (read : EventReader) → RecordsBack read writesNothing → ⊥
+writes-nothing-out read back =
+    let (bs, wrote, _) = back some some-fits some-can in
+    let clash : _≡_ {A = ℕ} 0 1 = cc in
+    omega arith
+
+-- a reader that tells another count, with the writer that is ours. (Some writers would agree with it: those that write a byte more)
+pub made-up-count-out : RecordsBack madeUpCount eventOutput → ⊥
+unfolding eventOutput
+made-up-count-out back =
+    let (bs, wrote, read) = back some some-fits some-can in
+    let is : bytes (eventBytes some) ≡ bytes bs = rw some-can at wrote in
+    let these : eventBytes some ≡ bs = cc in
+    let ours : gtid (typeOf some) bs ≡ parsed some (length bs) = rw these at (event-alone some some-fits some-can) in
+    let two : parsed some (length bs + 1) ≡ parsed some (length bs) = rw ours at read in
+    let clash : length bs + 1 ≡ length bs = cc in
+    omega arith
+
+-- ---- readers against the layouts, with no writer
+
+-- the body of an event of type 33 with this gno, below 256, and nothing behind it
+abbrev bodyOf : ℕ → List ℕ
+bodyOf gno = replicate 17 0 ++ (gno ∷ replicate 7 0)
+
+body-bytes : (gno : ℕ) → Bytes (gno ∷ []) → Bytes (bodyOf gno)
+body-bytes gno h = append-bytes (replicate 17 0) (gno ∷ replicate 7 0) (zeros-bytes 17) (append-bytes (gno ∷ []) (replicate 7 0) h (zeros-bytes 7))
+
+small-1 : Bytes (1 ∷ [])
+small-1 zero = omega arith
+small-1 (suc i) = omega arith
+
+small-3 : Bytes (3 ∷ [])
+small-3 zero = omega arith
+small-3 (suc i) = omega arith
+
+-- such a body is read, and so it is laid out
+abbrev named : ℕ → GtidEvent
+named gno = untaggedRecord 0 (replicate 16 0) gno 0 0 0 0 0 0 999999 999999
+
+read-1 : gtid 33 (bodyOf 1) ≡ parsed (named 1) 25
+unfolding gtid bodyLimit untagged openingAt byteAt bytesAt leAt leOf
+read-1 = refl
+
+laid-1 : RecordLaid 33 (bodyOf 1) (named 1) 25
+laid-1 = records-mean 33 (bodyOf 1) (named 1) 25 (body-bytes 1 small-1) .0 read-1
+
+-- what a reader that keeps to the layouts reads is what ours reads
+same-reading : (read : EventReader) → RecordsMean read → (e : GtidEvent) (used : ℕ) → read 33 (bodyOf 1) ≡ parsed e used → (e ≡ named 1) × (used ≡ 25)
+same-reading read mean e used r = one-record 33 (bodyOf 1) e (named 1) used 25 (mean 33 (bodyOf 1) e used (body-bytes 1 small-1) .0 r) laid-1
+
+-- one that refuses all
+pub refuses-all-unlike : RecordsMean refusesAll → ⊥
+refuses-all-unlike mean = never (mean 33 (bodyOf 1) (named 1) 25 (body-bytes 1 small-1) .1 laid-1)
+
+-- one that always gives the same record: its typecode is 2
+pub constant-record-unlike : RecordsMean constantRecord → ⊥
+constant-record-unlike mean =
+    let (same, _) = same-reading constantRecord mean (newUntagged (replicate 16 0) 1) 25 refl in
+    let clash : _≡_ {A = ℕ} 2 0 = ap (λ (e : GtidEvent). e .«lc_typecode») same in
+    omega arith
+
+-- one that tells another count
+pub made-up-count-unlike : RecordsMean madeUpCount → ⊥
+made-up-count-unlike mean =
+    let (_, count) = same-reading madeUpCount mean (named 1) 26 (rw read-1) in
+    omega arith
+
+-- a list whose numbers are tested
+abbrev below : List ℕ → Bool
+below [] = true
+below (b ∷ bs) = ltb b 256 && below bs
+
+below-bytes : (l : List ℕ) → below l ≡ true → Bytes l
+below-bytes [] h i = omega arith
+below-bytes (b ∷ bs) h zero = ltb-true b 256 (and-true (ltb b 256) (below bs) h .0)
+below-bytes (b ∷ bs) h (suc i) = below-bytes bs (and-true (ltb b 256) (below bs) h .1) i
+
+-- version 2, size 8, last non-ignorable id 0, tag "a", last_committed 1
+abbrev clocked : List ℕ
+clocked = 2 ∷ 16 ∷ 0 ∷ 6 ∷ 2 ∷ 97 ∷ 8 ∷ 4 ∷ []
+
+abbrev clockedRecord : GtidEvent
+clockedRecord = said (the-tag (97 ∷ []) ∷ number 4 1 ∷ [])
+
+read-clocked : gtid 42 clocked ≡ parsed clockedRecord 8
+unfolding gtid bodyLimit tagged byteAt bytesAt varlenAt trailingOnes itemValue leOf fieldsFrom fieldAt tagAt naturalAt signedAt meantBy isTag allTagBytes padded
+read-clocked = refl
+
+-- one that swaps last_committed and sequence_number
+pub swaps-clock-unlike : RecordsMean swapsClock → ⊥
+swaps-clock-unlike mean =
+    let other : GtidEvent = setNumber 4 0 (setNumber 5 1 clockedRecord) in
+    let laid = mean 42 clocked other 8 (below-bytes clocked refl) .0 (rw read-clocked) in
+    let ours = records-mean 42 clocked other 8 (below-bytes clocked refl) .1 laid in
+    let two : parsed clockedRecord 8 ≡ parsed other 8 = sym read-clocked ∙ ours in
+    let same : clockedRecord ≡ other = cc in
+    let clash : _≡_ {A = ℕ} 1 0 = ap (λ (e : GtidEvent). e .«last_committed») same in
+    omega arith
+
+refuses-equal : gtid 42 equalId ≡ refuse unknownField
+unfolding gtid bodyLimit tagged byteAt bytesAt varlenAt trailingOnes itemValue leOf fieldsFrom fieldAt tagAt isTag allTagBytes
+refuses-equal = refl
+
+-- one that ignores an unknown id which equals the last non-ignorable one
+pub ignores-equal-unlike : RecordsMean ignoresEqual → ⊥
+ignores-equal-unlike mean =
+    let e = said (the-tag (97 ∷ []) ∷ []) in
+    let laid = mean 42 equalId e 7 (below-bytes equalId refl) .0 refl in
+    never (sym refuses-equal ∙ records-mean 42 equalId e 7 (below-bytes equalId refl) .1 laid)
+
+-- ---- offers: to the empty set, ids of the zero uuid
+
+abbrev none : List ℕ
+none = replicate 8 0
+
+none-taken-in : TakesIn none [] none
+unfolding previous bodyLimit leAt leOf bytesAt saysTagged saysCount many limits maxEntries maxIntervals bodyBytes anyTag headerBytes entriesBytes leBytes
+none-taken-in = record { used = 8; reads = refl; becomes = refl }
+
+abbrev offer : ℕ → ℕ → Turn
+offer gno room = record { type = 33; body = bodyOf gno; out = replicate room 0 }
+
+-- one that copies its set
+pub copies-its-set-out : TellsHistory copiesItsSet → ⊥
+unfolding eventOf gtid bodyLimit untagged openingAt byteAt bytesAt leAt leOf outputOf lentSet previous saysTagged saysCount many limits maxEntries maxIntervals bodyBytes anyTag headerBytes entriesBytes leBytes
+copies-its-set-out history =
+    let (_, members) = history none [] none (offer 1 8 ∷ []) none-taken-in (body-bytes 1 small-1, tt) in
+    let clash : false ≡ true = members (replicate 16 0) 1 in
+    false≢true clash
+
+-- one that adds an id to the empty set only
+pub adds-only-the-first-out : TellsHistory addsOnlyTheFirst → ⊥
+unfolding eventOf gtid bodyLimit untagged openingAt byteAt bytesAt leAt leOf outputOf lentSet previous saysTagged saysCount many limits maxEntries maxIntervals bodyBytes anyTag headerBytes entriesBytes leBytes entryBytes intervalsBytes uuidOf tagOf entryAt headAt keyAt previous-specs.tagAt intervalAt gnoTop
+adds-only-the-first-out history =
+    let (_, members) = history none [] none (offer 1 48 ∷ offer 3 48 ∷ []) none-taken-in (body-bytes 1 small-1, (body-bytes 3 small-3, tt)) in
+    let clash : false ≡ true = members (replicate 16 0) 3 in
+    false≢true clash
