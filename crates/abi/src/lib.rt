@@ -21,7 +21,7 @@ ghost use Rattle.previous_gtids_event.specs.Answers.{previousRead, entryRead};
 ghost use Rattle.previous_gtids_event.specs.Rewrite.{rewritten};
 ghost use Rattle.gtid_event_read.specs.Read.{gtid};
 ghost use Rattle.gtid_sets.specs.Lent.{lentSet};
-ghost use Rattle.resume_set.specs.Answers.{setRead, contained, takenIn, eventOf, offered, output};
+ghost use Rattle.resume_set.specs.Answers.{setRead, contained, takeInAnswers, takeInLeaves, offerAnswers, offerLeaves};
 ghost use Rattle.listing.specs.EventText.{listing};
 ghost use Rattle.abi.specs.Answers.{numbersOf, bit, entryIn};
 ghost use Rattle.abi.specs.Flat.{readOutput, readUsed, writeOutput};
@@ -74,9 +74,9 @@ pub extern "C" fn gtid_contains(
 // Takes in the body of a Previous-GTIDs event: the set of all its ids is written, in set form.
 #[no_mangle]
 pub extern "C" fn gtid_take_in(body: &[u8], out: &mut [u8], len: &mut usize) -> u8
-    ensures { λ r. ⌜ r ≡ answerOf (now (out .entry)) (takenIn (previous (now (body .entry)))) .refusal ⌝ }
-    ensures { λ _. ⌜ now (len .exit) ≡ answerOf (now (out .entry)) (takenIn (previous (now (body .entry)))) .len ⌝ }
-    ensures { λ _. ⌜ now (out .exit) ≡ outputOf (now (out .entry)) (takenIn (previous (now (body .entry)))) ⌝ }
+    ensures { λ r. ⌜ r ≡ takeInAnswers (now (body .entry)) (now (out .entry)) .refusal ⌝ }
+    ensures { λ _. ⌜ now (len .exit) ≡ takeInAnswers (now (body .entry)) (now (out .entry)) .len ⌝ }
+    ensures { λ _. ⌜ now (out .exit) ≡ takeInLeaves (now (body .entry)) (now (out .entry)) ⌝ }
 {
     let wrote = resume_set::take_in::take_in(body, out);
     *len = wrote.len;
@@ -192,10 +192,10 @@ pub extern "C" fn gtid_offer(
     kind: &mut u8,
     len: &mut usize,
 ) -> u8
-    ensures { λ r. ⌜ r ≡ numbersOf (offered (lentSet (now (set .entry))) (eventOf «event_type» (now (body .entry))) (length (now (out .entry)))) .refusal ⌝ }
-    ensures { λ _. ⌜ now (kind .exit) ≡ numbersOf (offered (lentSet (now (set .entry))) (eventOf «event_type» (now (body .entry))) (length (now (out .entry)))) .kind ⌝ }
-    ensures { λ _. ⌜ now (len .exit) ≡ numbersOf (offered (lentSet (now (set .entry))) (eventOf «event_type» (now (body .entry))) (length (now (out .entry)))) .len ⌝ }
-    ensures { λ _. ⌜ now (out .exit) ≡ outputOf (now (out .entry)) (output (lentSet (now (set .entry))) (eventOf «event_type» (now (body .entry)))) ⌝ }
+    ensures { λ r. ⌜ r ≡ numbersOf (offerAnswers (now (set .entry)) «event_type» (now (body .entry)) (now (out .entry))) .refusal ⌝ }
+    ensures { λ _. ⌜ now (kind .exit) ≡ numbersOf (offerAnswers (now (set .entry)) «event_type» (now (body .entry)) (now (out .entry))) .kind ⌝ }
+    ensures { λ _. ⌜ now (len .exit) ≡ numbersOf (offerAnswers (now (set .entry)) «event_type» (now (body .entry)) (now (out .entry))) .len ⌝ }
+    ensures { λ _. ⌜ now (out .exit) ≡ offerLeaves (now (set .entry)) «event_type» (now (body .entry)) (now (out .entry)) ⌝ }
 {
     let answer = resume_set::offer(set, event_type, body, out);
     let said = numbers_of(answer);

@@ -8,7 +8,7 @@ use mathlib.Core.List.{List, [], _∷_, _++_}
 use native.Mathlib.Omega.{arith}
 use lib.ListN.{length, replicate}
 use Rattle.misc.specs.Parse.{Bytes, refuse, parsed, many, bytesAt, byteAt}
-use Rattle.misc.specs.Output.{bytes, outputOf}
+use Rattle.misc.specs.Output.{bytes, outputOf, answerOf}
 use Rattle.misc.specs.Body.{bodyLimit}
 use Rattle.misc.specs.Le.{leOf, leBytes, leAt}
 use Rattle.misc.specs.Refusal.{unknownField}
@@ -204,8 +204,8 @@ abbrev none : List ℕ
 none = replicate 8 0
 
 none-taken-in : TakesIn none [] none
-unfolding previous bodyLimit leAt leOf bytesAt saysTagged saysCount many limits maxEntries maxIntervals bodyBytes anyTag headerBytes entriesBytes leBytes
-none-taken-in = record { used = 8; reads = refl; becomes = refl }
+unfolding outputOf answerOf previous bodyLimit leAt leOf bytesAt saysTagged saysCount many limits maxEntries maxIntervals bodyBytes anyTag headerBytes entriesBytes leBytes
+none-taken-in = record { used = 8; reads = refl; out = none; accepts = refl; writes = refl }
 
 abbrev offer : ℕ → ℕ → Turn
 offer gno room = record { type = 33; body = bodyOf gno; out = replicate room 0 }

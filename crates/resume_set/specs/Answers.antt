@@ -7,11 +7,11 @@ use lib.Dec.{leb, eqb}
 use Rattle.misc.specs.Pick.{pick}
 use Rattle.misc.specs.Refusal.{number, noRoom, notASet, badGno}
 use Rattle.misc.specs.Parse.{Parse, refuse, parsed}
-use Rattle.misc.specs.Output.{Output, refused, bytes}
+use Rattle.misc.specs.Output.{Output, refused, bytes, outputOf, answerOf}
 use Rattle.misc.specs.declared.Wrote.{Wrote}
 use Rattle.packets.specs.Gno.{isGno}
 use Rattle.previous_gtids_event.specs.Entry.{Entry}
-use Rattle.previous_gtids_event.specs.Previous.{noneOrTag}
+use Rattle.previous_gtids_event.specs.Previous.{noneOrTag, previous}
 use Rattle.previous_gtids_event.specs.Rewrite.{bodyBytes}
 use Rattle.gtid_event.specs.declared.GtidEvent.{GtidEvent}
 use Rattle.gtid_event_read.specs.Read.{gtid}
@@ -20,7 +20,7 @@ use Rattle.gtid_sets.specs.TakeIn.{lawful, takeIn}
 use Rattle.gtid_sets.specs.Limits.{Judged, fine, breaks, limits, intervals}
 use Rattle.gtid_sets.specs.Run as run
 use Rattle.gtid_sets.specs.Run.{Event, anonymous, broken, names, Answer, noId, already, taken, answer, after}
-use Rattle.gtid_sets.specs.Lent.{Lent, form, unfit}
+use Rattle.gtid_sets.specs.Lent.{Lent, form, unfit, lentSet}
 use Rattle.resume_set.specs.declared.SetRead.{SetRead}
 use Rattle.resume_set.specs.declared.Contained.{Contained}
 use Rattle.resume_set.specs.declared.Offered.{Offered}
@@ -58,6 +58,13 @@ saved s = savedIf (limits s) (bodyBytes s)
 abbrev pub takenIn : Parse (List Entry) → Output
 takenIn (refuse r) = refused r
 takenIn (parsed es next) = pick (lawful es) (saved (takeIn es)) (refused badGno)
+
+-- what it answers, lent a body and an output, and what it leaves in the output
+abbrev pub takeInAnswers : List ℕ → List ℕ → Wrote
+takeInAnswers body out = answerOf out (takenIn (previous body))
+
+abbrev pub takeInLeaves : List ℕ → List ℕ → List ℕ
+takeInLeaves body out = outputOf out (takenIn (previous body))
 
 -- ---- `offer`
 
@@ -101,6 +108,13 @@ offered (form s) e room = offeredOf s e room
 abbrev pub output : Lent → Event → Output
 output unfit e = refused notASet
 output (form s) e = outputFor s e
+
+-- what it answers, lent a set, a type with its body and an output, and what it leaves in the output
+abbrev pub offerAnswers : List ℕ → ℕ → List ℕ → List ℕ → Offered
+offerAnswers set type body out = offered (lentSet set) (eventOf type body) (length out)
+
+abbrev pub offerLeaves : List ℕ → ℕ → List ℕ → List ℕ → List ℕ
+offerLeaves set type body out = outputOf out (output (lentSet set) (eventOf type body))
 
 -- ---- inside
 

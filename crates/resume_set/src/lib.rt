@@ -1,6 +1,6 @@
 // The resume set: a set of transaction ids, kept as the bytes of a Previous-GTIDs body in set form. `check_set` tells whether bytes are
 // one, `contains` whether an id is a member, and `offer` gives a set an event and writes the set after it. What they answer is said by
-// `setRead`, `contained` and `offered` of specs/Answers.antt, and what is written by `output`, on `lentSet` of gtid_sets.
+// `setRead`, `contained` and `offerAnswers` of specs/Answers.antt, and what is written by `offerLeaves`, on `lentSet` of gtid_sets.
 use find::find;
 use gtid_event::ANONYMOUS_GTID_EVENT;
 use gtid_event_read::read;
@@ -18,7 +18,7 @@ ghost use lib.ListN.{length};
 ghost use Rattle.misc.specs.Output.{outputOf};
 ghost use Rattle.gtid_sets.specs.Run.{names};
 ghost use Rattle.gtid_sets.specs.Lent.{lentSet};
-ghost use Rattle.resume_set.specs.Answers.{setRead, contained, eventOf, offeredOf, offered, outputFor, output, acceptedAs};
+ghost use Rattle.resume_set.specs.Answers.{setRead, contained, offeredOf, outputFor, offerAnswers, offerLeaves, acceptedAs};
 ghost use Rattle.resume_set.specs.Find.{setOf, Fits};
 
 mod find;
@@ -210,8 +210,8 @@ fn offer_id(
 // Offers an event to a set: "no id" for type 34, "already there" or "taken", and the set after it is written. Refused are bytes that
 // are no set (14), what reading the event refuses, a gno outside its rule (15), a full set (16) and an output that is too short (13).
 pub fn offer(set: &[u8], event_type: u8, body: &[u8], out: &mut [u8]) -> Offered
-    ensures { λ r. ⌜ r ≡ offered (lentSet (now (set .entry))) (eventOf «event_type» (now (body .entry))) (length (now (out .entry))) ⌝ }
-    ensures { λ _. ⌜ now (out .exit) ≡ outputOf (now (out .entry)) (output (lentSet (now (set .entry))) (eventOf «event_type» (now (body .entry)))) ⌝ }
+    ensures { λ r. ⌜ r ≡ offerAnswers (now (set .entry)) «event_type» (now (body .entry)) (now (out .entry)) ⌝ }
+    ensures { λ _. ⌜ now (out .exit) ≡ offerLeaves (now (set .entry)) «event_type» (now (body .entry)) (now (out .entry)) ⌝ }
 {
     let checked = check(set);
     let unfit = checked.refusal;

@@ -26,7 +26,7 @@ ghost use Rattle.previous_gtids_event.specs.Previous.{noneOrTag, previous};
 ghost use Rattle.gtid_sets.specs.Set.{join};
 ghost use Rattle.gtid_sets.specs.TakeIn.{proper, lawful, joinAll, union, takeIn};
 ghost use Rattle.set_check.specs.Places.{intervalsAt};
-ghost use Rattle.resume_set.specs.Answers.{saved, takenIn};
+ghost use Rattle.resume_set.specs.Answers.{saved, takeInAnswers, takeInLeaves};
 ghost use Rattle.resume_set.specs.Find.{entriesOf};
 ghost use Rattle.resume_set.specs.TakeIn.{HeldIs, heldSet, keyIn, EntryIs, widest, enough, Room};
 
@@ -188,8 +188,8 @@ fn merge(body: &[u8], out: &mut [u8]) -> Wrote
 // Takes in a body: the set of all its ids is written, in set form. Refused are bodies that can't be read (11, 1, 6), an interval outside
 // the gno rule (15), more than a set may hold (16) and an output that is too short (13).
 pub fn take_in(body: &[u8], out: &mut [u8]) -> Wrote
-    ensures { λ r. ⌜ r ≡ answerOf (now (out .entry)) (takenIn (previous (now (body .entry)))) ⌝ }
-    ensures { λ _. ⌜ now (out .exit) ≡ outputOf (now (out .entry)) (takenIn (previous (now (body .entry)))) ⌝ }
+    ensures { λ r. ⌜ r ≡ takeInAnswers (now (body .entry)) (now (out .entry)) ⌝ }
+    ensures { λ _. ⌜ now (out .exit) ≡ takeInLeaves (now (body .entry)) (now (out .entry)) ⌝ }
 {
     let said = read(body);
     let refusal = said.refusal;

@@ -5,11 +5,16 @@ use mathlib.Core.Path.{_≡_, refl, sym, ap, _∙_}
 use mathlib.Core.Bool.{Bool, true, _&&_, _||_, or-false, or-assoc}
 use mathlib.Core.List.{List, [], _∷_}
 use native.Mathlib.Omega.{arith}
+use lib.Dec.{leb}
+use lib.ListN.{length, take}
 use Rattle.misc.specs.Refusal.{badGno}
-use Rattle.misc.specs.Output.{bytes, refused}
+use Rattle.misc.specs.Parse.{parsed}
+use Rattle.misc.specs.Output.{Output, bytes, refused, outputOf, answerOf}
+use Rattle.misc.proofs.ParseLaws.{no-zero}
 use Rattle.packets.specs.Key.{Key}
 use Rattle.packets.proofs.Tests.{split}
 use Rattle.previous_gtids_event.specs.Entry.{Entry}
+use Rattle.previous_gtids_event.specs.Previous.{previous}
 use Rattle.previous_gtids_event.specs.Rewrite.{bodyBytes}
 use Rattle.gtid_sets.specs.Set.{has}
 use Rattle.gtid_sets.specs.TakeIn.{lawful, takeIn}
@@ -19,17 +24,28 @@ use Rattle.gtid_sets.specs.Lent.{form, lentSet}
 use Rattle.gtid_sets.proofs.FormLaws.{lawful-holds}
 use Rattle.gtid_sets.proofs.TakeInLaws.{has-takeIn}
 use Rattle.gtid_sets.proofs.LentLaws.{lent-takeIn}
-use Rattle.resume_set.specs.Answers.{savedIf}
+use Rattle.resume_set.specs.Answers.{savedIf, takenIn}
 use Rattle.resume_set_laws.specs.History.{Turn, kept, keptAll, grants, granted, OfBytes, TakesIn, TellsHistory}
 use Rattle.resume_set_laws.specs.Ours.{ours}
-use Rattle.resume_set_laws.proofs.OneOffer.{said, good-said, one-offer}
+use Rattle.resume_set_laws.proofs.OneOffer.{said, good-said, front, one-offer}
 
 -- ---- the start
 
+-- bytes that were written stand at the output's front
+wrote : (out : List ℕ) (o : Output) (set : List ℕ) → answerOf out o .refusal ≡ 0 → take (answerOf out o .len) (outputOf out o) ≡ set → o ≡ bytes set
+unfolding answerOf
+wrote out (refused r) set none is = absurd (no-zero r none)
+wrote out (bytes bs) set none is = split (leb (length bs) (length out))
+    (λ h. let front-is : take (length bs) (outputOf out (bytes bs)) ≡ set = rw h at is in ap bytes (sym (front out bs h) ∙ front-is))
+    (λ h. let clash : 13 ≡ 0 = rw h at none in absurd (omega arith))
+
+becomes : (body : List ℕ) (es : List Entry) (set : List ℕ) (t : TakesIn body es set) → takenIn (parsed es (t .used)) ≡ bytes set
+becomes body es set t = ap takenIn (sym (t .reads)) ∙ wrote (t .out) (takenIn (previous body)) set (t .accepts) (t .writes)
+
 pub starts : (body : List ℕ) (es : List Entry) (set : List ℕ) → TakesIn body es set → lentSet set ≡ form (takeIn es)
 starts body es set t = split (lawful es)
-    (λ good. go good (limits (takeIn es)) refl (rw (t .reads, good) at (t .becomes)))
-    (λ bad. let w : refused badGno ≡ bytes set = rw (t .reads, bad) at (t .becomes) in absurd (let z : _≡_ {A = ℕ} 0 1 = cc in omega arith))
+    (λ good. go good (limits (takeIn es)) refl (rw good at (becomes body es set t)))
+    (λ bad. let w : refused badGno ≡ bytes set = rw bad at (becomes body es set t) in absurd (let z : _≡_ {A = ℕ} 0 1 = cc in omega arith))
   where
     go : lawful es ≡ true → (j : Judged) → limits (takeIn es) ≡ j → savedIf j (bodyBytes (takeIn es)) ≡ bytes set → lentSet set ≡ form (takeIn es)
     go good fine l w =

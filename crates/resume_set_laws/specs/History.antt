@@ -7,7 +7,6 @@ use lib.ListN.{length, take}
 use lib.Dec.{ltb, eqb}
 use Rattle.misc.specs.Refusal.{number, noRoom, full}
 use Rattle.misc.specs.Parse.{Bytes, parsed}
-use Rattle.misc.specs.Output.{bytes}
 use Rattle.packets.specs.Key.{Key}
 use Rattle.previous_gtids_event.specs.Entry.{Entry}
 use Rattle.previous_gtids_event.specs.Previous.{previous}
@@ -15,7 +14,7 @@ use Rattle.gtid_sets.specs.Set.{has}
 use Rattle.gtid_sets.specs.Limits.{longestSet}
 use Rattle.gtid_sets.specs.Run.{isOf}
 use Rattle.gtid_sets.specs.Lent.{Lent, form, unfit, lentSet}
-use Rattle.resume_set.specs.Answers.{takenIn, eventOf}
+use Rattle.resume_set.specs.Answers.{takeInAnswers, takeInLeaves, eventOf}
 use Rattle.resume_set.specs.declared.Offered.{Offered}
 use Rattle.resume_set.specs.declared.Offered.the-variants.{NoId, AlreadyThere, Taken, Refused}
 
@@ -74,11 +73,13 @@ abbrev pub OfBytes : List Turn → Type 0
 OfBytes [] = Unit {0}
 OfBytes (t ∷ ts) = Bytes (t .body) × OfBytes ts
 
--- a body that take in accepts: its entries, as raw reading finds them, and the bytes of the set that it becomes
+-- a body that take in accepts, lent some output: the body's entries, and the bytes of the set that it writes
 pub record TakesIn (body : List ℕ) (es : List Entry) (set : List ℕ) : Type 0 where
   pub used : ℕ
   pub reads : previous body ≡ parsed es used
-  pub becomes : takenIn (previous body) ≡ bytes set
+  pub out : List ℕ
+  pub accepts : takeInAnswers body out .refusal ≡ 0
+  pub writes : take (takeInAnswers body out .len) (takeInLeaves body out) ≡ set
 
 -- after any offers the set's bytes are a set, and its members are the ids of the body that was taken in and those of the events that
 -- were answered "taken" or "already there"; so it is after each of a list, since its beginnings are lists too
