@@ -181,29 +181,46 @@ fn leave_torn(folder: &Folder, random: &mut Random) {
     fs::write(folder.file("set.new"), half).unwrap();
 }
 
-/// Kills a follower and starts it again until it ends by itself, or lets it end once there were enough kills; how many there were. One
-/// counts if work was left.
-fn broken_run(
-    folder: &Folder,
-    end: &[u8],
-    enough: usize,
+/// What stays the same from run to run.
+struct Course {
+    folder: Folder,
+    wanted: Wanted,
+    /// The set in the end.
+    end: Vec<u8>,
     longest_life: Duration,
-    random: &mut Random,
-) -> usize {
-    let mut kills = 0;
-    while kills < enough {
-        let life = random.below(longest_life.as_micros() as u64);
-        let status = run_and_kill(folder, Duration::from_micros(life));
-        if status.signal() != Some(SIGKILL) {
-            assert!(status.success(), "{status}");
-            return kills;
+}
+
+impl Course {
+    /// Kills a follower and starts it again until it ends by itself, from the start on. A kill counts if work was left, in the quarter of
+    /// the work that it fell in.
+    fn run_broken(&self, kills: &mut [usize; 4], random: &mut Random) {
+        for name in ["tool", "set"] {
+            fs::remove_file(self.folder.file(name)).unwrap();
         }
-        let set = fs::read(folder.file("set")).unwrap_or_default();
-        kills += usize::from(set != end);
-        leave_torn(folder, random);
+        // a machine that becomes slower could stop it from getting on
+        for _ in 0..2 * KILLS {
+            let life = random.below(self.longest_life.as_micros() as u64);
+            let status = run_and_kill(&self.folder, Duration::from_micros(life));
+            if status.signal() != Some(SIGKILL) {
+                assert!(status.success(), "{status}");
+                break;
+            }
+            if fs::read(self.folder.file("set")).unwrap_or_default() != self.end {
+                kills[self.quarter()] += 1;
+            }
+            leave_torn(&self.folder, random);
+        }
+        run(&self.folder);
+        assert_whole(&self.folder, &self.wanted);
+        assert_eq!(fs::read(self.folder.file("set")).unwrap(), self.end);
     }
-    run(folder);
-    kills
+
+    fn quarter(&self) -> usize {
+        let tool = fs::read_to_string(self.folder.file("tool")).unwrap_or_default();
+        let anonymous = tool.matches("anonymous").count();
+        let copied = tool.lines().count() - anonymous;
+        (4 * copied / self.wanted.with_id.len()).min(3)
+    }
 }
 
 #[test]
@@ -218,21 +235,23 @@ fn no_kill_loses_or_doubles_a_transaction() {
     let unbroken = run(&folder);
     assert_whole(&folder, &wanted);
     let end = fs::read(folder.file("set")).unwrap();
-    // long enough to get on near the end too, and so short that a run takes a hundred of them and more
-    let longest_life = run(&folder) * 3 / 2 + unbroken / 150;
+    let again = run(&folder);
+    let course = Course {
+        folder,
+        wanted,
+        end,
+        // long enough to get on near the end too, and so short that a run takes about a hundred
+        longest_life: 2 * again + unbroken / 120,
+    };
 
-    let (mut kills, mut runs) = (0, 0);
-    while kills < KILLS {
-        for name in ["tool", "set"] {
-            fs::remove_file(folder.file(name)).unwrap();
-        }
-        kills += broken_run(&folder, &end, KILLS - kills, longest_life, &mut random);
+    let (mut kills, mut runs) = ([0; 4], 0);
+    while kills.iter().sum::<usize>() < KILLS {
+        course.run_broken(&mut kills, &mut random);
         runs += 1;
-        assert_whole(&folder, &wanted);
-        assert_eq!(fs::read(folder.file("set")).unwrap(), end);
     }
     println!(
-        "{kills} kills in {runs} runs of {transactions} transactions, {:.0} seconds (one run without kills: {:.1})",
+        "{} kills ({kills:?} in the quarters of the work), {runs} runs of {transactions} transactions, {:.0} seconds ({:.1} for a run without kills)",
+        kills.iter().sum::<usize>(),
         started.elapsed().as_secs_f64(),
         unbroken.as_secs_f64()
     );
