@@ -41,6 +41,7 @@ struct Wanted {
 struct Stand {
     binlog: Binlog,
     wanted: Wanted,
+    set: ResumeSet,
     had: HashSet<String>,
     sent: Vec<(GtidEvent, Vec<String>)>,
     /// How many transactions each uuid and tag has.
@@ -51,9 +52,11 @@ impl Stand {
     /// Of one uuid the transactions 1 to 40 came before.
     fn new() -> Stand {
         let id = |gno| GtidEvent::new([0xa1; 16], gno).gtid().to_string();
+        let opening = opening(&[(0xa1, 40)]);
         Stand {
-            binlog: Binlog::new(&opening(&[(0xa1, 40)])),
+            binlog: Binlog::new(&opening),
             wanted: Wanted::default(),
+            set: ResumeSet::take_in(&opening).unwrap(),
             had: (1..=40).map(id).collect(),
             sent: Vec::new(),
             counts: [0; 5],
@@ -63,6 +66,7 @@ impl Stand {
     fn send(&mut self, event: GtidEvent, rows: Vec<String>) {
         let body = event.write().unwrap();
         self.binlog.transaction(event.event_type(), &body, &rows);
+        self.set.offer(event.event_type(), &body).unwrap().commit();
         let id = event.gtid().to_string();
         if self.had.insert(id.clone()) {
             self.wanted.with_id.push(format!("{id} {}", rows.join(" ")));
@@ -148,11 +152,13 @@ fn faults(tool: &str, wanted: &Wanted) -> Vec<String> {
     faults
 }
 
-fn assert_whole(folder: &Folder, wanted: &Wanted) {
+fn assert_whole(folder: &Folder, stand: &Stand) {
     let tool = fs::read_to_string(folder.file("tool")).unwrap();
-    let faults = faults(&tool, wanted);
+    let faults = faults(&tool, &stand.wanted);
     let first = &faults[..faults.len().min(5)];
     assert!(faults.is_empty(), "{} faults: {first:#?}", faults.len());
+    let set = fs::read(folder.file("set")).unwrap();
+    assert!(set == stand.set.as_bytes(), "another set than in one go");
 }
 
 /// How long a run takes that nothing breaks.
@@ -184,9 +190,7 @@ fn leave_torn(folder: &Folder, random: &mut Random) {
 /// What stays the same from run to run.
 struct Course {
     folder: Folder,
-    wanted: Wanted,
-    /// The set in the end.
-    end: Vec<u8>,
+    stand: Stand,
     longest_life: Duration,
 }
 
@@ -205,21 +209,20 @@ impl Course {
                 assert!(status.success(), "{status}");
                 break;
             }
-            if fs::read(self.folder.file("set")).unwrap_or_default() != self.end {
+            if fs::read(self.folder.file("set")).unwrap_or_default() != self.stand.set.as_bytes() {
                 kills[self.quarter()] += 1;
             }
             leave_torn(&self.folder, random);
         }
         run(&self.folder);
-        assert_whole(&self.folder, &self.wanted);
-        assert_eq!(fs::read(self.folder.file("set")).unwrap(), self.end);
+        assert_whole(&self.folder, &self.stand);
     }
 
     fn quarter(&self) -> usize {
         let tool = fs::read_to_string(self.folder.file("tool")).unwrap_or_default();
         let anonymous = tool.matches("anonymous").count();
         let copied = tool.lines().count() - anonymous;
-        (4 * copied / self.wanted.with_id.len()).min(3)
+        (4 * copied / self.stand.wanted.with_id.len()).min(3)
     }
 }
 
@@ -229,23 +232,22 @@ fn no_kill_loses_or_doubles_a_transaction() {
     let mut random = Random(0x6774_6964);
     let folder = Folder::new("kill");
     let transactions = affordable(&folder);
-    let Stand { binlog, wanted, .. } = sent(transactions, &mut random);
-    fs::write(folder.file("events"), binlog.0).unwrap();
+    let stand = sent(transactions, &mut random);
+    fs::write(folder.file("events"), &stand.binlog.0).unwrap();
 
     let unbroken = run(&folder);
-    assert_whole(&folder, &wanted);
-    let end = fs::read(folder.file("set")).unwrap();
+    assert_whole(&folder, &stand);
     let again = run(&folder);
     let course = Course {
         folder,
-        wanted,
-        end,
+        stand,
         // long enough to get on near the end too, and so short that a run takes about a hundred
         longest_life: 2 * again + unbroken / 120,
     };
 
     let (mut kills, mut runs) = ([0; 4], 0);
     while kills.iter().sum::<usize>() < KILLS {
+        assert!(runs < KILLS, "the kills don't hit a follower at work");
         course.run_broken(&mut kills, &mut random);
         runs += 1;
     }
