@@ -36,11 +36,11 @@ fn main() {
 }
 
 fn follow(events: &Path, tool: &Path, saved: &Path) -> Result<(), Failure> {
-    let binlog = fs::read(events)?;
+    let binlog = fs::read(events).map_err(|error| named(events, error))?;
     let events = events_of(&binlog)?;
     let (before, events) = open(&events)?;
     let mut set = start(before, saved)?;
-    let mut tool = Tool::open(tool)?;
+    let mut tool = Tool::open(tool).map_err(|error| named(tool, error))?;
     for transaction in events.split_inclusive(|(event_type, _)| *event_type == XID_EVENT) {
         match transaction {
             [gtid, rows @ .., (XID_EVENT, _)] => step(*gtid, rows, &mut tool, &mut set, saved)?,
@@ -49,6 +49,10 @@ fn follow(events: &Path, tool: &Path, saved: &Path) -> Result<(), Failure> {
         }
     }
     Ok(())
+}
+
+fn named(path: &Path, error: io::Error) -> String {
+    format!("{}: {error}", path.display())
 }
 
 /// The order matters: copy, commit in the tool, and only then commit the offer and save. After a crash in between the transaction is
