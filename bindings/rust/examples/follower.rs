@@ -106,7 +106,7 @@ fn has_all(set: &ResumeSet, listed: &ResumeSet) -> bool {
     entries.all(|wanted| wanted.intervals().all(|interval| has(wanted, interval)))
 }
 
-/// The events of a binlog, without a last one that isn't whole yet.
+/// The events of a binlog, without a last one that isn't whole yet. In a header the type is at 4, and the whole size at 9.
 fn events_of(binlog: &[u8]) -> Result<Vec<Event<'_>>, Failure> {
     let behind_magic = binlog.strip_prefix(b"\xfebin");
     let mut rest = behind_magic.ok_or("EVENTS is no binlog")?;

@@ -12,7 +12,7 @@ impl ResumeSet {
     /// # Errors
     ///
     /// What opening and reading the file fails with: `NotFound` if there is none. A file that is no set, also one that is longer than any
-    /// set, is `InvalidData` and has [`Refusal::NotASet`] as its source.
+    /// set, is `InvalidData` and has [`Refusal::NotASet`] as its source. (Bytes that were changed to those of another set can't be told.)
     ///
     /// # Starting anew
     ///

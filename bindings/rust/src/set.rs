@@ -240,7 +240,8 @@ impl ResumeSet {
         })
     }
 
-    /// Whether an id is a member; no tag is a tag without bytes. What can be no id is no member.
+    /// Whether an id is a member; no tag is a tag without bytes. What can be no id is no member. To ask for many, compare intervals:
+    /// [`entries`](ResumeSet::entries) shows how.
     ///
     /// ```
     /// assert!(!gtid_resume::ResumeSet::empty().contains(&[0; 16], b"", 1));

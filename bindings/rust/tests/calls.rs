@@ -1,10 +1,13 @@
 //! The examples of the repository, and the edges of a set, through the archive.
 use gtid_resume::{
     list, read_varlen_uint, rewrite, Entry, GtidEvent, Offered, PreviousGtids, Refusal, ResumeSet,
-    ANONYMOUS_GTID_EVENT, GTID_EVENT, GTID_TAGGED_LOG_EVENT, LONGEST_SET,
+    ANONYMOUS_GTID_EVENT, GTID_EVENT, GTID_TAGGED_LOG_EVENT, LONGEST_SET, PREVIOUS_GTIDS_EVENT,
 };
 use std::fs;
 use std::path::Path;
+
+mod common;
+use common::Folder;
 
 fn gtid(uuid: u8, gno: u64) -> Vec<u8> {
     let mut body = vec![0];
@@ -168,6 +171,24 @@ fn a_full_set_still_joins() {
     assert_eq!(take(&mut set, GTID_EVENT, &gtid(1, 2)), Ok(Offered::Taken));
     assert_eq!(set.counts(), (1, 2047));
     assert!(set.contains(&[1; 16], b"", 2) && !set.contains(&[1; 16], b"", 4));
+}
+
+#[test]
+fn the_longest_set_is_saved_and_listed() {
+    let gaps: Vec<_> = (0..8).map(|i| (2 * i + 1, 2 * i + 2)).collect();
+    let entries: Vec<Tagged> = (0..=255)
+        .map(|sid| (sid, &[b'a'; 32][..], &gaps[..]))
+        .collect();
+    let set = ResumeSet::take_in(&tagged_previous(&entries)).unwrap();
+    assert_eq!(set.counts(), (256, 2048));
+    assert_eq!(set.as_bytes().len(), LONGEST_SET);
+    let folder = Folder::new("longest");
+    set.save(folder.file("set")).unwrap();
+    assert_eq!(ResumeSet::load(folder.file("set")).unwrap(), set);
+    assert_eq!(
+        list(PREVIOUS_GTIDS_EVENT, set.as_bytes()).lines().count(),
+        257
+    );
 }
 
 #[test]

@@ -12,8 +12,8 @@ mod common;
 use common::{follower, opening, Binlog, Folder};
 
 const KILLS: usize = 200;
-/// All of it takes some four times as long.
-const UNBROKEN_SECONDS: f64 = 10.0;
+/// For a run without kills, about. The whole test takes three to five times as long.
+const UNBROKEN_SECONDS: f64 = 6.0;
 const SIGKILL: i32 = 9;
 
 /// Xorshift, from a fixed seed.
@@ -104,7 +104,7 @@ impl Stand {
     }
 }
 
-fn sent(transactions: usize, random: &mut Random) -> Stand {
+fn stand(transactions: usize, random: &mut Random) -> Stand {
     let mut stand = Stand::new();
     for nth in 1..transactions {
         match nth {
@@ -118,13 +118,13 @@ fn sent(transactions: usize, random: &mut Random) -> Stand {
     stand
 }
 
-/// As many transactions as can be copied in some seconds: each waits for the disk three times, and a save waits twice.
+/// As many transactions as can be copied in that time: what one costs is little more than the save.
 fn affordable(folder: &Folder) -> usize {
     let started = Instant::now();
     for _ in 0..20 {
         ResumeSet::empty().save(folder.file("set")).unwrap();
     }
-    let one = started.elapsed().as_secs_f64() / 20.0 * 1.5;
+    let one = started.elapsed().as_secs_f64() / 20.0;
     fs::remove_file(folder.file("set")).unwrap();
     ((UNBROKEN_SECONDS / one) as usize).clamp(200, 1_200)
 }
@@ -187,35 +187,46 @@ fn leave_torn(folder: &Folder, random: &mut Random) {
     fs::write(folder.file("set.new"), half).unwrap();
 }
 
-/// What stays the same from run to run.
 struct Course {
     folder: Folder,
     stand: Stand,
     longest_life: Duration,
+    /// Those that left work undone, by the quarter of the work that they fell in.
+    kills: [usize; 4],
 }
 
 impl Course {
-    /// Kills a follower and starts it again until it ends by itself, from the start on. A kill counts if work was left, in the quarter of
-    /// the work that it fell in.
-    fn run_broken(&self, kills: &mut [usize; 4], random: &mut Random) {
+    /// From the start on, a follower is killed and started again until it ends by itself.
+    fn run_broken(&mut self, random: &mut Random) {
         for name in ["tool", "set"] {
             fs::remove_file(self.folder.file(name)).unwrap();
         }
-        // a machine that becomes slower could stop it from getting on
-        for _ in 0..2 * KILLS {
-            let life = random.below(self.longest_life.as_micros() as u64);
-            let status = run_and_kill(&self.folder, Duration::from_micros(life));
-            if status.signal() != Some(SIGKILL) {
-                assert!(status.success(), "{status}");
-                break;
-            }
-            if fs::read(self.folder.file("set")).unwrap_or_default() != self.stand.set.as_bytes() {
-                kills[self.quarter()] += 1;
-            }
-            leave_torn(&self.folder, random);
+        // on a machine that has become slower it may never get there
+        let ended = (0..KILLS * 3 / 2).any(|_| !self.kill(random));
+        if !ended {
+            run(&self.folder);
         }
-        run(&self.folder);
         assert_whole(&self.folder, &self.stand);
+    }
+
+    /// Whether the follower was killed, and didn't end before.
+    fn kill(&mut self, random: &mut Random) -> bool {
+        let life = random.below(self.longest_life.as_micros() as u64);
+        let status = run_and_kill(&self.folder, Duration::from_micros(life));
+        if status.signal() != Some(SIGKILL) {
+            assert!(status.success(), "{status}");
+            return false;
+        }
+        let saved = fs::read(self.folder.file("set")).unwrap_or_default();
+        if saved != self.stand.set.as_bytes() {
+            self.kills[self.quarter()] += 1;
+        }
+        leave_torn(&self.folder, random);
+        true
+    }
+
+    fn kills(&self) -> usize {
+        self.kills.iter().sum()
     }
 
     fn quarter(&self) -> usize {
@@ -232,28 +243,34 @@ fn no_kill_loses_or_doubles_a_transaction() {
     let mut random = Random(0x6774_6964);
     let folder = Folder::new("kill");
     let transactions = affordable(&folder);
-    let stand = sent(transactions, &mut random);
+    let stand = stand(transactions, &mut random);
     fs::write(folder.file("events"), &stand.binlog.0).unwrap();
 
     let unbroken = run(&folder);
     assert_whole(&folder, &stand);
     let again = run(&folder);
-    let course = Course {
+    let mut course = Course {
         folder,
         stand,
-        // long enough to get on near the end too, and so short that a run takes about a hundred
-        longest_life: 2 * again + unbroken / 120,
+        // long enough to get on near the end too, and so short that a run takes some hundred
+        longest_life: again * 3 / 2 + unbroken / 200,
+        kills: [0; 4],
     };
 
-    let (mut kills, mut runs) = ([0; 4], 0);
-    while kills.iter().sum::<usize>() < KILLS {
+    let mut runs = 0;
+    while course.kills() < KILLS {
         assert!(runs < KILLS, "the kills don't hit a follower at work");
-        course.run_broken(&mut kills, &mut random);
+        let before = course.kills();
+        course.run_broken(&mut random);
         runs += 1;
+        if course.kills() - before < KILLS / 2 {
+            course.longest_life = course.longest_life * 2 / 3;
+        }
     }
     println!(
-        "{} kills ({kills:?} in the quarters of the work), {runs} runs of {transactions} transactions, {:.0} seconds ({:.1} for a run without kills)",
-        kills.iter().sum::<usize>(),
+        "kills {} (in the quarters of the work {:?}), runs {runs}, transactions {transactions}, seconds {:.0} (a run without kills {:.1})",
+        course.kills(),
+        course.kills,
         started.elapsed().as_secs_f64(),
         unbroken.as_secs_f64()
     );

@@ -174,6 +174,44 @@ fn refusals_tell_name_number_and_words() {
     }
 }
 
+/// The archive's source is the place that says them.
+#[test]
+fn refusals_have_the_names_and_numbers_of_the_source() {
+    let folder = Path::new(env!("CARGO_MANIFEST_DIR")).join("../../crates/misc/src");
+    let source = fs::read_to_string(folder.join("refusal.rt")).unwrap();
+    let all = [
+        Refusal::Ended,
+        Refusal::TooLarge,
+        Refusal::Negative,
+        Refusal::WrongVersion,
+        Refusal::UnknownField,
+        Refusal::BadTag,
+        Refusal::NoTag,
+        Refusal::WrongType,
+        Refusal::SmallPayload,
+        Refusal::BadLead,
+        Refusal::TooLong,
+        Refusal::NotWritable,
+        Refusal::NoRoom,
+        Refusal::NotASet,
+        Refusal::BadGno,
+        Refusal::Full,
+    ];
+    for refusal in all {
+        let shown = format!("{refusal:?}");
+        let mut name = String::new();
+        for letter in shown.split(' ').next().unwrap().chars() {
+            if letter.is_uppercase() && !name.is_empty() {
+                name.push('_');
+            }
+            name.push(letter.to_ascii_uppercase());
+        }
+        let line = format!("pub const {name}: u8 = {};", refusal.number());
+        assert!(source.contains(&line), "{line}");
+    }
+    assert_eq!(source.matches("pub const ").count(), all.len());
+}
+
 #[test]
 fn refusals_become_errors_of_io() {
     for (refusal, kind) in [
