@@ -5,18 +5,10 @@
  * there are no bytes: then any other address will do. A number that is handed out must not stand inside lent bytes, two
  * numbers of one call must be different ones, and an output must not overlap an input.
  *
- * Each call returns the number of its refusal, 0 for none:
- *    1  the bytes, or the payload that they declare, end too early
- *    2  a number of a tagged event is too large          3  one that is negative
- *    4  the version byte of a tagged event isn't 2       5  a field that isn't known and may not be ignored
- *    6  a tag breaks the tag rule                        7  a tagged event has no tag
- *    8  an event type that the call doesn't serve        9  a declared payload is smaller than its envelope
- *   10  a length-encoded number begins with FB or FF    11  a body has more than 65,536 bytes
- *   12  a record can't be written                       13  the output is too short: `*len` bytes are needed
- *   14  bytes that should be a set are none             15  a transaction number is outside its rule
- *   16  the set would be larger than sets may be
+ * Each call returns the number of its refusal, 0 for none. The numbers are those of README's table.
  * Where a call writes, `*len` bytes stand at the front of the output, and the rest of it is as it was. Where a call refuses,
- * all of the output is as it was, and `*len` is 0, but for refusal 13.
+ * all of the output is as it was, and `*len` is 0. The one exception is 13, an output that is too short: then `*len` is the
+ * length that is needed. It can't come where the output has the length that stands with the call.
  *
  * A call uses up to 200 KB of the stack. None keeps anything, so calls on different memory may run at the same time. */
 #ifndef GTID_H
@@ -29,6 +21,16 @@
 extern "C" {
 #endif
 
+/* The longest set, in bytes: 256 entries with tags of 32 bytes, and 2,048 intervals. */
+#define GTID_LONGEST_SET 47368
+
+/* The longest text of an event, in bytes. */
+#define GTID_LONGEST_TEXT 99882
+
+/* The longest body that gtid_write writes, in bytes. It is a tagged one: version, size and last non-ignorable id (4), flags (3),
+ * uuid (33), tag (34), seven numbers of 64 bits (10 each) and two of 32 bits (6 each). */
+#define GTID_LONGEST_EVENT 156
+
 /* Whether bytes are a set of transaction ids as this library saves it, and how many entries and intervals it has.
  * Refuses with 14; then both numbers are 0. */
 uint8_t gtid_check_set(const uint8_t *set, size_t set_len, uint64_t *entries, uint64_t *intervals);
@@ -38,12 +40,12 @@ uint8_t gtid_check_set(const uint8_t *set, size_t set_len, uint64_t *entries, ui
 uint8_t gtid_contains(const uint8_t *set, size_t set_len, const uint8_t *uuid, size_t uuid_len,
                       const uint8_t *tag, size_t tag_len, uint64_t gno, uint8_t *present);
 
-/* Takes in the body of a Previous-GTIDs event (type 35): writes the set of all its ids.
+/* Takes in the body of a Previous-GTIDs event (type 35): writes the set of all its ids, at most GTID_LONGEST_SET bytes.
  * Refuses with 11, 1, 6, 15, 16 and 13. */
 uint8_t gtid_take_in(const uint8_t *body, size_t body_len, uint8_t *out, size_t out_len, size_t *len);
 
 /* Writes the entries that the body of a Previous-GTIDs event holds anew, as they stand: with tags only if one of them has
- * one, and every length in its shortest form. Refuses with 11, 1, 6 and 13. */
+ * one, and every length in its shortest form. These are at most `body_len` bytes. Refuses with 11, 1, 6 and 13. */
 uint8_t gtid_rewrite(const uint8_t *body, size_t body_len, uint8_t *out, size_t out_len, size_t *len);
 
 /* Reads the body of a Previous-GTIDs event (type 35): how many entries it has, and how many of its bytes the header and they
@@ -62,20 +64,23 @@ uint8_t gtid_read_entry(const uint8_t *body, size_t body_len, size_t at, size_t 
  * 1; then both numbers are 0. */
 uint8_t gtid_read_varlen_uint(const uint8_t *s, size_t s_len, uint64_t *value, size_t *used);
 
-/* What `*kind` says of an offer. */
-#define GTID_REFUSED 0
-#define GTID_TAKEN 1
-#define GTID_ALREADY_THERE 2
-#define GTID_NO_ID 3
+/* What `*kind` says of an offer, and what a follower does then. */
+#define GTID_REFUSED 0       /* stop: the transaction was not taken and must not be passed over */
+#define GTID_TAKEN 1         /* copy the transaction */
+#define GTID_ALREADY_THERE 2 /* pass the transaction over */
+#define GTID_NO_ID 3         /* copy the transaction, which the set doesn't protect: after a crash perhaps twice */
 
-/* Offers a GTID event (type 33, 34 or 42) to a set, and writes the set after it, also where it is the same: the id is taken,
- * or it is already there, or the event has none (type 34). Refuses with 14, with what the event's body is refused for
- * (1 to 11), and with 15, 16 and 13. */
+/* Offers a GTID event (type 33, 34 or 42) to a set, and writes the set after it, at most GTID_LONGEST_SET bytes, also where
+ * it is the same: the id is taken, or it is already there, or the event has none (type 34). Refuses with 14, with what the
+ * event's body is refused for (1 to 11), and with 15, 16 and 13.
+ * The set after it is the one to save, but only when the tool has committed the transaction: after a crash in between the
+ * transaction is offered again, and the tool must know its id, or set and transaction go into one commit. Whoever saves
+ * first loses the transaction. */
 uint8_t gtid_offer(const uint8_t *set, size_t set_len, uint8_t event_type, const uint8_t *body, size_t body_len,
                    uint8_t *out, size_t out_len, uint8_t *kind, size_t *len);
 
-/* Writes the text of an event: the input is the byte of its type with its body behind it. An event that is refused has a
- * text too, which tells the number. Refuses with 13 only. */
+/* Writes the text of an event, at most GTID_LONGEST_TEXT bytes: the input is the byte of its type with its body behind it. An
+ * event that is refused has a text too, which tells the number. Refuses with 13 only. */
 uint8_t gtid_list(const uint8_t *input, size_t input_len, uint8_t *out, size_t out_len, size_t *len);
 
 /* A record of a GTID event as bytes. Numbers have their lowest byte first.
@@ -97,14 +102,14 @@ uint8_t gtid_list(const uint8_t *input, size_t input_len, uint8_t *out, size_t o
  *      108      8  commit group ticket */
 #define GTID_RECORD_LEN 116
 
-/* Reads the body of a GTID event (type 33, 34 or 42): writes its record, and `*used` is how many bytes of the body it takes.
- * Refuses with 8, with what the body is refused for (1 to 11; then `*used` is 0), and with 13 if there is no room for 116
- * bytes (then `*used` is 116). */
+/* Reads the body of a GTID event (type 33, 34 or 42): writes its record, GTID_RECORD_LEN bytes, and `*used` is how many bytes
+ * of the body it takes. Refuses with 8, with what the body is refused for (1 to 11; then `*used` is 0), and with 13 if there
+ * is no room for the record (then `*used` is GTID_RECORD_LEN). */
 uint8_t gtid_read(uint8_t event_type, const uint8_t *body, size_t body_len, uint8_t *record, size_t record_len, size_t *used);
 
-/* Writes the body of the event that a record describes, of type 42 if it has a tag, else 33. A typecode counts only if the
- * byte before it isn't 0. Refuses with 12 if the record hasn't exactly 116 bytes, or wouldn't come back equal from the body
- * that would be written; and with 13. */
+/* Writes the body of the event that a record describes, of type 42 if it has a tag, else 33: at most GTID_LONGEST_EVENT bytes.
+ * A typecode counts only if the byte before it isn't 0. Refuses with 12 if the record hasn't exactly GTID_RECORD_LEN bytes, or
+ * wouldn't come back equal from the body that would be written; and with 13. */
 uint8_t gtid_write(const uint8_t *record, size_t record_len, uint8_t *out, size_t out_len, size_t *len);
 
 #ifdef __cplusplus

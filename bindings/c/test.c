@@ -15,8 +15,25 @@ static void put(uint8_t *at, uint64_t number)
         at[i] = (uint8_t)(number >> (8 * i));
 }
 
-/* The longest set. */
-static uint8_t set[47368], next[47368];
+static uint8_t set[GTID_LONGEST_SET], next[GTID_LONGEST_SET], text[GTID_LONGEST_TEXT];
+
+/* A record whose numbers are the greatest and whose tag is the longest: it is written in GTID_LONGEST_EVENT bytes. */
+static void write_longest_event(void)
+{
+    uint8_t record[GTID_RECORD_LEN], written[GTID_LONGEST_EVENT];
+    size_t len = 9;
+
+    memset(record, 255, sizeof record);
+    put(record + 17, INT64_MAX);
+    record[25] = 32;
+    memset(record + 26, 'a', 32);
+    record[58] = record[59] = 0;
+    put(record + 60, INT64_MAX);
+    put(record + 68, INT64_MAX);
+    record[84] = record[104] = 0; /* originals that differ */
+    EXPECT(gtid_write(record, sizeof record, written, sizeof written - 1, &len) == 13 && len == GTID_LONGEST_EVENT);
+    EXPECT(gtid_write(record, sizeof record, written, sizeof written, &len) == 0 && len == GTID_LONGEST_EVENT);
+}
 
 int main(void)
 {
@@ -61,17 +78,17 @@ int main(void)
     EXPECT(gtid_offer(next, len, 33, event, 24, set, sizeof set, &kind, &len) == 1);
     EXPECT(kind == GTID_REFUSED && len == 0);
 
-    uint8_t record[GTID_RECORD_LEN], written[25];
+    uint8_t record[GTID_RECORD_LEN], written[GTID_LONGEST_EVENT];
     EXPECT(gtid_read(33, event, sizeof event, record, sizeof record, &used) == 0 && used == 25);
     EXPECT(memcmp(record, event, 25) == 0);
     EXPECT(gtid_write(record, sizeof record, written, sizeof written, &len) == 0 && len == 25);
     EXPECT(memcmp(written, event, 25) == 0);
 
     const uint8_t input[] = {7}, item[] = {5, 0};
-    uint8_t text[16];
     EXPECT(gtid_list(input, sizeof input, text, sizeof text, &len) == 0);
     EXPECT(len == 10 && memcmp(text, "refused 8\n", len) == 0);
     EXPECT(gtid_read_varlen_uint(item, sizeof item, &value, &used) == 0 && value == 1 && used == 2);
 
+    write_longest_event();
     return faults != 0;
 }

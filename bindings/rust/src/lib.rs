@@ -4,45 +4,104 @@
 //! whatever bytes it is given. This crate lends them memory and turns their numbers into Rust's types; it is small, and it is tested, not
 //! proved.
 //!
-//! ```
-//! use gtid_resume::{Offered, ResumeSet};
+//! A follower's step, run for each transaction: offer its id, copy it and commit it in the tool, commit the offer, and save. In this order
+//! no crash loses a transaction; [`ResumeSet::offer`] says what the tool must do about one that it is given twice.
 //!
-//! // the body of a binlog's opening event (type 35): one uuid with the transactions 1 to 5
-//! let mut opening = vec![1, 0, 0, 0, 0, 0, 0, 0];
-//! opening.extend([7; 16]);
-//! for number in [1u64, 1, 6] {
-//!     opening.extend(number.to_le_bytes());
+//! ```
+//! use gtid_resume::{GtidEvent, Offered, ResumeSet, GTID_EVENT};
+//! use std::{io, path::Path};
+//!
+//! # struct Transaction { event_type: u8, body: Vec<u8> }
+//! # struct Tool { copied: usize }
+//! # impl Tool {
+//! #     fn copy_and_commit(&mut self, _: &Transaction) -> io::Result<()> { self.copied += 1; Ok(()) }
+//! # }
+//! fn step(set: &mut ResumeSet, transaction: &Transaction, tool: &mut Tool, saved: &Path) -> io::Result<()> {
+//!     let offer = set.offer(transaction.event_type, &transaction.body)?;
+//!     match offer.answer() {
+//!         Offered::AlreadyThere => return Ok(()), // the tool has it
+//!         Offered::Taken => tool.copy_and_commit(transaction)?, // unless the tool knows the id
+//!         Offered::NoId => tool.copy_and_commit(transaction)?, // without an id: after a crash perhaps twice
+//!     }
+//!     offer.commit();
+//!     set.save(saved)
 //! }
-//! let mut set = ResumeSet::take_in(&opening)?;
-//!
-//! // the body of a GTID event (type 33): flags, the same uuid, transaction 6
-//! let mut event = vec![0];
-//! event.extend([7; 16]);
-//! event.extend(6u64.to_le_bytes());
-//! assert_eq!(set.offer(33, &event)?, Offered::Taken);
-//! assert_eq!(set.offer(33, &event)?, Offered::AlreadyThere);
-//! assert!(set.contains(&[7; 16], b"", 6));
-//! // save set.as_bytes(), and go on from there with ResumeSet::from_bytes
-//! # Ok::<(), gtid_resume::Refusal>(())
+//! # let saved = &std::env::temp_dir().join(format!("gtid-step-{}", std::process::id()));
+//! # let mut tool = Tool { copied: 0 };
+//! # let mut set = ResumeSet::empty();
+//! # for (event_type, gno) in [(GTID_EVENT, 6), (GTID_EVENT, 6), (gtid_resume::ANONYMOUS_GTID_EVENT, 0)] {
+//! #     let body = GtidEvent::new([7; 16], gno).write()?;
+//! #     step(&mut set, &Transaction { event_type, body }, &mut tool, saved)?;
+//! # }
+//! # assert_eq!(tool.copied, 2);
+//! # assert_eq!(ResumeSet::load(saved)?, set);
+//! # std::fs::remove_file(saved)?;
+//! # Ok::<(), io::Error>(())
 //! ```
+//!
+//! `examples/follower.rs` is a whole follower, with a tool that recognises ids. `tests/kill.rs` kills it two hundred times and looks for what
+//! is missing.
 #![deny(missing_docs)]
 
 mod event;
+mod gtid;
 mod previous;
 mod refusal;
+mod saved;
 mod set;
 mod sys;
 
 pub use event::GtidEvent;
+pub use gtid::Gtid;
 pub use previous::{Entry, PreviousGtids};
 pub use refusal::Refusal;
-pub use set::{Offered, ResumeSet, LONGEST_SET};
+pub use set::{Offer, Offered, ResumeSet, LONGEST_SET};
+
+/// The type of a GTID event.
+///
+/// ```
+/// use gtid_resume::{GtidEvent, GTID_EVENT};
+///
+/// assert_eq!(GtidEvent::new([7; 16], 1).event_type(), GTID_EVENT);
+/// ```
+pub const GTID_EVENT: u8 = 33;
+
+/// The type of a GTID event without an id. Its transaction is to be copied like any other.
+///
+/// ```
+/// let body = gtid_resume::GtidEvent::new([0; 16], 0).write()?;
+/// assert_eq!(gtid_resume::list(gtid_resume::ANONYMOUS_GTID_EVENT, &body), "anonymous\n");
+/// # Ok::<(), gtid_resume::Refusal>(())
+/// ```
+pub const ANONYMOUS_GTID_EVENT: u8 = 34;
+
+/// The type of a binlog's opening event, which lists all ids before it.
+///
+/// ```
+/// let text = gtid_resume::list(gtid_resume::PREVIOUS_GTIDS_EVENT, &[0; 8]);
+/// assert_eq!(text, "previous-gtids entries 0 intervals 0\n");
+/// ```
+pub const PREVIOUS_GTIDS_EVENT: u8 = 35;
+
+/// The type of a GTID event with a tag.
+///
+/// ```
+/// use gtid_resume::{GtidEvent, GTID_TAGGED_LOG_EVENT};
+///
+/// assert_eq!(GtidEvent::new_tagged([7; 16], b"depot", 1)?.event_type(), GTID_TAGGED_LOG_EVENT);
+/// # Ok::<(), gtid_resume::Refusal>(())
+/// ```
+pub const GTID_TAGGED_LOG_EVENT: u8 = 42;
 
 /// The bytes of the longest listing.
 const LONGEST_TEXT: usize = 99_882;
 
 /// The body of a Previous-GTIDs event (type 35) written anew, as the server writes it: with tags only if some entry has one, and every length
-/// in its shortest form. Refused with 11, 1 or 6.
+/// in its shortest form.
+///
+/// # Errors
+///
+/// [`Refusal::TooLong`], [`Refusal::Ended`] or [`Refusal::BadTag`].
 ///
 /// ```
 /// // an empty body that claims tags is written as eight zero bytes
@@ -56,12 +115,17 @@ pub fn rewrite(body: &[u8]) -> Result<Vec<u8>, Refusal> {
     })
 }
 
-/// The variable-length unsigned integer at the front of some bytes: its value, and how many bytes were used. Refused with 1.
+/// The variable-length unsigned integer at the front of some bytes: its value, and how many bytes were used.
+///
+/// # Errors
+///
+/// [`Refusal::Ended`] if the bytes end inside it.
 ///
 /// ```
-/// assert_eq!(gtid_resume::read_varlen_uint(&[5, 0, 9])?, (1, 2));
-/// assert_eq!(gtid_resume::read_varlen_uint(&[5]).unwrap_err().number(), 1);
-/// # Ok::<(), gtid_resume::Refusal>(())
+/// use gtid_resume::{read_varlen_uint, Refusal};
+///
+/// assert_eq!(read_varlen_uint(&[5, 0, 9]), Ok((1, 2)));
+/// assert_eq!(read_varlen_uint(&[5]), Err(Refusal::Ended));
 /// ```
 pub fn read_varlen_uint(bytes: &[u8]) -> Result<(u64, usize), Refusal> {
     let (mut value, mut used) = (0, 0);

@@ -2,6 +2,12 @@ use crate::sys;
 use crate::Refusal;
 
 /// The entries of a Previous-GTIDs event, the opening event of a binlog. They stay in the event's body, and nothing is copied.
+///
+/// ```
+/// let (previous, used) = gtid_resume::PreviousGtids::read(&[0; 8])?;
+/// assert_eq!((previous.len(), used), (0, 8));
+/// # Ok::<(), gtid_resume::Refusal>(())
+/// ```
 #[derive(Clone, Copy, Debug)]
 pub struct PreviousGtids<'a> {
     /// The header and the entries, and nothing behind them.
@@ -10,20 +16,36 @@ pub struct PreviousGtids<'a> {
 }
 
 /// An entry: a uuid with a tag or without, and the intervals of its transaction numbers, as they stand in the body.
+///
+/// ```
+/// # let mut body = vec![1, 0, 0, 0, 0, 0, 0, 0];
+/// # body.extend([7; 16]);
+/// # for number in [1u64, 1, 6] {
+/// #     body.extend(number.to_le_bytes());
+/// # }
+/// let (previous, _) = gtid_resume::PreviousGtids::read(&body)?;
+/// for entry in previous.entries() {
+///     println!("{:02x?} {:?}", entry.sid(), entry.intervals().collect::<Vec<_>>());
+/// }
+/// # Ok::<(), gtid_resume::Refusal>(())
+/// ```
 #[derive(Clone, Copy, Debug, PartialEq, Eq, Hash)]
 pub struct Entry<'a> {
-    uuid: &'a [u8; 16],
+    sid: &'a [u8; 16],
     tag: &'a [u8],
     /// Sixteen bytes each.
     intervals: &'a [u8],
 }
 
 impl<'a> PreviousGtids<'a> {
-    /// Reads the body of a Previous-GTIDs event (type 35), without header and checksum: its entries, and how many bytes were used. Refused
-    /// with 11, 1 or 6.
+    /// Reads the body of a Previous-GTIDs event (type 35), without header and checksum: its entries, and how many bytes were used.
+    ///
+    /// # Errors
+    ///
+    /// [`Refusal::TooLong`], [`Refusal::Ended`] or [`Refusal::BadTag`].
     ///
     /// ```
-    /// use gtid_resume::PreviousGtids;
+    /// use gtid_resume::{PreviousGtids, Refusal};
     ///
     /// // one uuid with the transactions 1 to 5
     /// let mut body = vec![1, 0, 0, 0, 0, 0, 0, 0];
@@ -34,11 +56,11 @@ impl<'a> PreviousGtids<'a> {
     /// let (previous, used) = PreviousGtids::read(&body)?;
     /// assert_eq!(used, 48);
     /// for entry in previous.entries() {
-    ///     assert_eq!((entry.uuid(), entry.tag()), (&[7; 16], &b""[..]));
+    ///     assert_eq!((entry.sid(), entry.tag()), (&[7; 16], &b""[..]));
     ///     assert!(entry.intervals().eq([(1, 6)]));
     /// }
-    /// assert_eq!(PreviousGtids::read(&body[..47]).unwrap_err().number(), 1);
-    /// # Ok::<(), gtid_resume::Refusal>(())
+    /// assert_eq!(PreviousGtids::read(&body[..47]).unwrap_err(), Refusal::Ended);
+    /// # Ok::<(), Refusal>(())
     /// ```
     pub fn read(body: &'a [u8]) -> Result<(PreviousGtids<'a>, usize), Refusal> {
         let (mut entries, mut used) = (0, 0);
@@ -77,12 +99,12 @@ impl<'a> PreviousGtids<'a> {
     ///
     /// ```
     /// let mut body = vec![2, 0, 0, 0, 0, 0, 0, 0];
-    /// for uuid in [9, 4] {
-    ///     body.extend([uuid; 16]);
+    /// for sid in [9, 4] {
+    ///     body.extend([sid; 16]);
     ///     body.extend([0; 8]); // no intervals
     /// }
     /// let (previous, _) = gtid_resume::PreviousGtids::read(&body)?;
-    /// assert!(previous.entries().map(|entry| entry.uuid()[0]).eq([9, 4]));
+    /// assert!(previous.entries().map(|entry| entry.sid()[0]).eq([9, 4]));
     /// # Ok::<(), gtid_resume::Refusal>(())
     /// ```
     pub fn entries(&self) -> impl ExactSizeIterator<Item = Entry<'a>> {
@@ -95,18 +117,18 @@ impl<'a> PreviousGtids<'a> {
 }
 
 impl<'a> Entry<'a> {
-    /// The uuid.
+    /// The uuid of the server that gave the ids.
     ///
     /// ```
     /// # let mut body = vec![1, 0, 0, 0, 0, 0, 0, 0];
     /// # body.extend([7; 16]);
     /// # body.extend([0; 8]);
     /// let (previous, _) = gtid_resume::PreviousGtids::read(&body)?;
-    /// assert_eq!(previous.entries().next().unwrap().uuid(), &body[8..24]);
+    /// assert_eq!(previous.entries().next().unwrap().sid(), &body[8..24]);
     /// # Ok::<(), gtid_resume::Refusal>(())
     /// ```
-    pub fn uuid(&self) -> &'a [u8; 16] {
-        self.uuid
+    pub fn sid(&self) -> &'a [u8; 16] {
+        self.sid
     }
 
     /// The tag's bytes, none where there is no tag.
@@ -125,8 +147,8 @@ impl<'a> Entry<'a> {
         self.tag
     }
 
-    /// The intervals, in the body's order: where each starts, and the end that isn't reached. They are not judged; [`ResumeSet::take_in`]
-    /// does that.
+    /// The intervals, in the body's order: where each starts, and the end that isn't reached. Those of a set obey the set's rules; those of
+    /// an event are not judged, which [`ResumeSet::take_in`] does.
     ///
     /// [`ResumeSet::take_in`]: crate::ResumeSet::take_in
     ///
@@ -178,7 +200,7 @@ impl<'a> Iterator for Entries<'a> {
         assert_eq!(number, 0, "the whole body was read before");
         self.at = next;
         Some(Entry {
-            uuid: body[at..at + 16].try_into().expect("sixteen bytes"),
+            sid: body[at..at + 16].try_into().expect("sixteen bytes"),
             tag: &body[first - 8 - tag_len..first - 8],
             intervals: &body[first..next],
         })

@@ -1,24 +1,134 @@
 use crate::sys;
-use crate::Refusal;
+use crate::{Entry, PreviousGtids, Refusal};
 
 /// The bytes of the longest set.
+///
+/// ```
+/// use gtid_resume::{ResumeSet, LONGEST_SET};
+///
+/// assert!(ResumeSet::empty().as_bytes().len() <= LONGEST_SET);
+/// ```
 pub const LONGEST_SET: usize = 47_368;
 
-/// What an offer comes to, if it isn't refused.
+/// What an offer comes to, if it isn't refused, and what a follower does then. Nothing but [`Offered::AlreadyThere`] may be passed over.
+///
+/// ```
+/// use gtid_resume::{GtidEvent, Offered, ResumeSet, ANONYMOUS_GTID_EVENT};
+///
+/// let body = GtidEvent::new([0; 16], 0).write()?;
+/// assert_eq!(ResumeSet::empty().offer(ANONYMOUS_GTID_EVENT, &body)?.answer(), Offered::NoId);
+/// # Ok::<(), gtid_resume::Refusal>(())
+/// ```
+#[must_use = "a transaction that isn't already there has to be copied"]
 #[derive(Clone, Copy, Debug, PartialEq, Eq, Hash)]
 pub enum Offered {
-    /// The event's id was not a member, and is one now.
+    /// The event's id is new: copy the transaction and commit it in the tool, then [commit](Offer::commit) the offer and
+    /// [save](ResumeSet::save) the set.
     Taken,
-    /// The event's id is a member already.
+    /// The event's id is a member already: pass the transaction over.
     AlreadyThere,
-    /// An anonymous event (type 34): it has no id.
+    /// An anonymous event (type 34) has no id: copy the transaction. The set stays the same and doesn't protect it, so that after a crash
+    /// it may be copied twice.
     NoId,
+}
+
+/// An offer that isn't committed yet: the answer, and the set as it would be next.
+///
+/// An offer is made at the GTID event, before the rows of its transaction have arrived. So the set stays as it was until
+/// [`commit`](Offer::commit), and an offer that is dropped, by an error on the way, changes nothing: the transaction is offered again.
+///
+/// ```
+/// use gtid_resume::{GtidEvent, Offered, ResumeSet, GTID_EVENT};
+///
+/// let body = GtidEvent::new([7; 16], 6).write()?;
+/// let mut set = ResumeSet::empty();
+/// drop(set.offer(GTID_EVENT, &body)?); // the tool didn't commit
+/// assert_eq!(set, ResumeSet::empty());
+/// let offer = set.offer(GTID_EVENT, &body)?;
+/// assert_eq!(offer.answer(), Offered::Taken);
+/// offer.commit(); // the tool did
+/// assert!(set.contains(&[7; 16], b"", 6));
+/// # Ok::<(), gtid_resume::Refusal>(())
+/// ```
+#[must_use = "the set stays as it was until the offer is committed"]
+#[derive(Debug)]
+pub struct Offer<'a> {
+    set: &'a mut ResumeSet,
+    next: Vec<u8>,
+    answer: Offered,
+}
+
+impl Offer<'_> {
+    /// What the offer comes to.
+    ///
+    /// ```
+    /// use gtid_resume::{GtidEvent, Offered, ResumeSet, GTID_EVENT};
+    ///
+    /// let body = GtidEvent::new([7; 16], 6).write()?;
+    /// match ResumeSet::empty().offer(GTID_EVENT, &body)?.answer() {
+    ///     Offered::AlreadyThere => println!("the tool has it"),
+    ///     Offered::Taken | Offered::NoId => println!("copy it"),
+    /// }
+    /// # Ok::<(), gtid_resume::Refusal>(())
+    /// ```
+    pub fn answer(&self) -> Offered {
+        self.answer
+    }
+
+    /// The bytes of the next set, for a tool that is a database: it keeps the set in a table and changes it in the same commit as the
+    /// transaction. Then neither can be there without the other, and no transaction is copied twice, unless it is anonymous.
+    ///
+    /// ```
+    /// use gtid_resume::{GtidEvent, ResumeSet, GTID_EVENT};
+    ///
+    /// # struct Database(Vec<u8>);
+    /// # impl Database {
+    /// #     fn commit(&mut self, _rows: &str, set: &[u8]) { self.0 = set.to_vec(); }
+    /// # }
+    /// # let mut database = Database(vec![]);
+    /// let body = GtidEvent::new([7; 16], 6).write()?;
+    /// let mut set = ResumeSet::empty();
+    /// let offer = set.offer(GTID_EVENT, &body)?;
+    /// database.commit("wheel 17: 28.4 mm", offer.next_bytes());
+    /// offer.commit();
+    /// # assert_eq!(database.0, set.as_bytes());
+    /// # Ok::<(), gtid_resume::Refusal>(())
+    /// ```
+    pub fn next_bytes(&self) -> &[u8] {
+        &self.next
+    }
+
+    /// Makes the next set the current one, once the tool has committed the transaction.
+    ///
+    /// ```
+    /// use gtid_resume::{GtidEvent, ResumeSet, GTID_EVENT};
+    ///
+    /// let body = GtidEvent::new([7; 16], 6).write()?;
+    /// let mut set = ResumeSet::empty();
+    /// set.offer(GTID_EVENT, &body)?.commit();
+    /// assert_eq!(set.counts(), (1, 1));
+    /// # Ok::<(), gtid_resume::Refusal>(())
+    /// ```
+    pub fn commit(self) {
+        self.set.bytes = self.next;
+    }
 }
 
 /// The ids of all transactions that were taken, as the bytes that a follower saves.
 ///
-/// Its members are exactly the ids that were taken in and those of the events that were answered [`Offered::Taken`] or
-/// [`Offered::AlreadyThere`]; that is proved. Two sets with the same members have the same bytes.
+/// Its members are exactly the ids that were taken in and those of the committed offers that were answered [`Offered::Taken`] or
+/// [`Offered::AlreadyThere`]; that is proved of the bytes. Two sets with the same members have the same bytes.
+///
+/// ```
+/// use gtid_resume::{GtidEvent, ResumeSet, GTID_EVENT};
+///
+/// let mut set = ResumeSet::empty();
+/// for gno in [1, 3, 2] {
+///     set.offer(GTID_EVENT, &GtidEvent::new([7; 16], gno).write()?)?.commit();
+/// }
+/// assert_eq!(set.counts(), (1, 1)); // one uuid with one interval, 1 to 3
+/// # Ok::<(), gtid_resume::Refusal>(())
+/// ```
 #[derive(Clone, Debug, PartialEq, Eq, Hash)]
 pub struct ResumeSet {
     bytes: Vec<u8>,
@@ -34,15 +144,22 @@ impl ResumeSet {
         ResumeSet { bytes: vec![0; 8] }
     }
 
-    /// The set of all ids of a Previous-GTIDs event's body (type 35), without the event's header and checksum. Refused with 11, 1, 6, 15 or
-    /// 16.
+    /// The set of all ids of a Previous-GTIDs event's body (type 35), without the event's header and checksum.
+    ///
+    /// A binlog file opens with this event, which lists all ids before it. A follower starts from it, and at the next file takes it in as a
+    /// set of its own to see whether it has missed any of them: [`entries`](ResumeSet::entries) shows how. Anonymous transactions aren't
+    /// listed, so that a lost one can't be seen.
+    ///
+    /// # Errors
+    ///
+    /// [`Refusal::TooLong`], [`Refusal::Ended`], [`Refusal::BadTag`], [`Refusal::BadGno`] or [`Refusal::Full`].
     ///
     /// ```
-    /// use gtid_resume::ResumeSet;
+    /// use gtid_resume::{Refusal, ResumeSet};
     ///
     /// assert_eq!(ResumeSet::take_in(&[0; 8])?, ResumeSet::empty());
-    /// assert_eq!(ResumeSet::take_in(&[0; 7]).unwrap_err().number(), 1);
-    /// # Ok::<(), gtid_resume::Refusal>(())
+    /// assert_eq!(ResumeSet::take_in(&[0; 7]), Err(Refusal::Ended));
+    /// # Ok::<(), Refusal>(())
     /// ```
     pub fn take_in(body: &[u8]) -> Result<Self, Refusal> {
         let bytes = sys::written(LONGEST_SET, |out, len| unsafe {
@@ -51,40 +168,54 @@ impl ResumeSet {
         Ok(ResumeSet { bytes })
     }
 
-    /// A set that was saved. Refused with 14 if the bytes are none.
+    /// A set that was saved. [`load`](ResumeSet::load) says what to do about a refusal.
+    ///
+    /// # Errors
+    ///
+    /// [`Refusal::NotASet`] if the bytes are none.
     ///
     /// ```
-    /// use gtid_resume::ResumeSet;
+    /// use gtid_resume::{Refusal, ResumeSet};
     ///
     /// let saved = ResumeSet::empty().as_bytes().to_vec();
     /// assert_eq!(ResumeSet::from_bytes(saved)?, ResumeSet::empty());
-    /// assert_eq!(ResumeSet::from_bytes(vec![1]).unwrap_err().number(), 14);
-    /// # Ok::<(), gtid_resume::Refusal>(())
+    /// assert_eq!(ResumeSet::from_bytes(vec![1]), Err(Refusal::NotASet));
+    /// # Ok::<(), Refusal>(())
     /// ```
     pub fn from_bytes(bytes: Vec<u8>) -> Result<Self, Refusal> {
         counts(&bytes)?;
         Ok(ResumeSet { bytes })
     }
 
-    /// Offers the body of a GTID event (types 33, 34 and 42) to the set. Refused with the event's own refusals (1 to 11), with 15 for a
-    /// transaction number outside its rule, and with 16 if the set is full; a refusal leaves the set as it was.
+    /// Offers the body of a GTID event (types 33, 34 and 42) to the set. The set changes only when the offer is
+    /// [committed](Offer::commit).
+    ///
+    /// The order is: offer, copy the transaction, commit it in the tool, commit the offer, save. After a crash before the save the
+    /// transaction is offered again; so the tool must accept it twice, which means to recognise its id, or set and transaction must go into
+    /// one commit ([`Offer::next_bytes`]). Whoever saves before the tool has committed loses a transaction by a crash in between.
+    ///
+    /// # Errors
+    ///
+    /// The event's own refusals, 1 to 11; [`Refusal::BadGno`] for a transaction number outside its rule; and [`Refusal::Full`]. The event
+    /// was not taken and must not be passed over.
     ///
     /// ```
-    /// use gtid_resume::{Offered, ResumeSet};
+    /// use gtid_resume::{GtidEvent, Offered, Refusal, ResumeSet, GTID_EVENT};
     ///
-    /// let mut event = vec![0; 17];
-    /// event.extend(1u64.to_le_bytes());
+    /// let body = GtidEvent::new([7; 16], 6).write()?;
     /// let mut set = ResumeSet::empty();
-    /// assert_eq!(set.offer(33, &event)?, Offered::Taken);
-    /// assert_eq!(set.offer(34, &event)?, Offered::NoId);
-    /// assert_eq!(set.offer(99, &event).unwrap_err().number(), 8);
-    /// # Ok::<(), gtid_resume::Refusal>(())
+    /// let offer = set.offer(GTID_EVENT, &body)?;
+    /// assert_eq!(offer.answer(), Offered::Taken);
+    /// offer.commit();
+    /// assert_eq!(set.offer(GTID_EVENT, &body)?.answer(), Offered::AlreadyThere);
+    /// assert_eq!(set.offer(99, &body).unwrap_err(), Refusal::WrongType);
+    /// # Ok::<(), Refusal>(())
     /// ```
-    pub fn offer(&mut self, event_type: u8, body: &[u8]) -> Result<Offered, Refusal> {
+    pub fn offer(&mut self, event_type: u8, body: &[u8]) -> Result<Offer<'_>, Refusal> {
         let mut kind = 0;
         // a set grows by one entry at most, and by a byte for each entry where the first tag comes
         let room = LONGEST_SET.min(self.bytes.len() + self.bytes.len() / 24 + 80);
-        let bytes = sys::written(room, |out, len| unsafe {
+        let next = sys::written(room, |out, len| unsafe {
             sys::gtid_offer(
                 self.bytes.as_ptr(),
                 self.bytes.len(),
@@ -97,28 +228,33 @@ impl ResumeSet {
                 len,
             )
         })?;
-        self.bytes = bytes;
-        Ok(match kind {
+        let answer = match kind {
             1 => Offered::Taken,
             2 => Offered::AlreadyThere,
             _ => Offered::NoId,
+        };
+        Ok(Offer {
+            set: self,
+            next,
+            answer,
         })
     }
 
-    /// Whether an id is a member; no tag is a tag without bytes. What can be no id is no member.
+    /// Whether an id is a member; no tag is a tag without bytes. What can be no id is no member. To ask for many, compare intervals:
+    /// [`entries`](ResumeSet::entries) shows how.
     ///
     /// ```
     /// assert!(!gtid_resume::ResumeSet::empty().contains(&[0; 16], b"", 1));
     /// ```
-    pub fn contains(&self, uuid: &[u8; 16], tag: &[u8], gno: u64) -> bool {
+    pub fn contains(&self, sid: &[u8; 16], tag: &[u8], gno: u64) -> bool {
         let mut present = 0;
         let set = &self.bytes;
         let number = unsafe {
             sys::gtid_contains(
                 set.as_ptr(),
                 set.len(),
-                uuid.as_ptr(),
-                uuid.len(),
+                sid.as_ptr(),
+                sid.len(),
                 tag.as_ptr(),
                 tag.len(),
                 gno,
@@ -137,15 +273,51 @@ impl ResumeSet {
         counts(&self.bytes).expect("the bytes are a set")
     }
 
-    /// The bytes to save.
+    /// The entries, in the set's order: rising by uuid, then without a tag before those with one. Intervals rise too, with a gap between
+    /// neighbours.
+    ///
+    /// So an interval of ids is in the set just if one interval of the set covers it, and a gap at a binlog's rotation is seen so (one call
+    /// that compares two sets will come later):
     ///
     /// ```
     /// use gtid_resume::ResumeSet;
     ///
-    /// let mut event = vec![0; 17];
-    /// event.extend(1u64.to_le_bytes());
+    /// fn has_all(set: &ResumeSet, listed: &ResumeSet) -> bool {
+    ///     listed.entries().all(|wanted| {
+    ///         let mine = set.entries().find(|mine| (mine.sid(), mine.tag()) == (wanted.sid(), wanted.tag()));
+    ///         wanted.intervals().all(|(start, end)| {
+    ///             mine.map_or(false, |mine| mine.intervals().any(|(from, to)| from <= start && end <= to))
+    ///         })
+    ///     })
+    /// }
+    ///
+    /// # fn opening(end: u64) -> Vec<u8> {
+    /// #     let mut body = vec![1, 0, 0, 0, 0, 0, 0, 0];
+    /// #     body.extend([7; 16]);
+    /// #     for number in [1, 1, end] {
+    /// #         body.extend(number.to_le_bytes());
+    /// #     }
+    /// #     body
+    /// # }
+    /// # let (set, opening) = (ResumeSet::take_in(&opening(6))?, opening(8));
+    /// // the set has 1 to 5, and the next file's opening event lists 1 to 7: two transactions were missed
+    /// let listed = ResumeSet::take_in(&opening)?;
+    /// assert!(!has_all(&set, &listed));
+    /// assert!(has_all(&listed, &set));
+    /// # Ok::<(), gtid_resume::Refusal>(())
+    /// ```
+    pub fn entries(&self) -> impl ExactSizeIterator<Item = Entry<'_>> {
+        let (previous, _) = PreviousGtids::read(&self.bytes).expect("a set is such a body");
+        previous.entries()
+    }
+
+    /// The bytes to save, where [`save`](ResumeSet::save) isn't used.
+    ///
+    /// ```
+    /// use gtid_resume::{GtidEvent, ResumeSet, GTID_EVENT};
+    ///
     /// let mut set = ResumeSet::empty();
-    /// set.offer(33, &event)?;
+    /// set.offer(GTID_EVENT, &GtidEvent::new([7; 16], 1).write()?)?.commit();
     /// assert_eq!(ResumeSet::from_bytes(set.as_bytes().to_vec())?, set);
     /// # Ok::<(), gtid_resume::Refusal>(())
     /// ```

@@ -1,9 +1,13 @@
 //! The examples of the repository, and the edges of a set, through the archive.
 use gtid_resume::{
-    list, read_varlen_uint, rewrite, GtidEvent, Offered, PreviousGtids, ResumeSet, LONGEST_SET,
+    list, read_varlen_uint, rewrite, Entry, GtidEvent, Offered, PreviousGtids, Refusal, ResumeSet,
+    ANONYMOUS_GTID_EVENT, GTID_EVENT, GTID_TAGGED_LOG_EVENT, LONGEST_SET, PREVIOUS_GTIDS_EVENT,
 };
 use std::fs;
 use std::path::Path;
+
+mod common;
+use common::Folder;
 
 fn gtid(uuid: u8, gno: u64) -> Vec<u8> {
     let mut body = vec![0];
@@ -23,6 +27,14 @@ fn previous(entries: &[(u8, &[(u64, u64)])]) -> Vec<u8> {
         }
     }
     body
+}
+
+/// Offers an event and commits the offer.
+fn take(set: &mut ResumeSet, event_type: u8, body: &[u8]) -> Result<Offered, Refusal> {
+    let offer = set.offer(event_type, body)?;
+    let answer = offer.answer();
+    offer.commit();
+    Ok(answer)
 }
 
 type Tagged<'a> = (u8, &'a [u8], &'a [(u64, u64)]);
@@ -52,9 +64,13 @@ fn assert_entries(body: &[u8], used: usize, entries: &[Tagged]) {
         (previous.len(), previous.is_empty(), said),
         (entries.len(), entries.is_empty(), used)
     );
-    assert_eq!(previous.entries().len(), entries.len());
-    for (entry, (uuid, tag, intervals)) in previous.entries().zip(entries) {
-        assert_eq!((entry.uuid(), entry.tag()), (&[*uuid; 16], *tag));
+    assert_same(previous.entries(), entries);
+}
+
+fn assert_same<'a>(entries: impl ExactSizeIterator<Item = Entry<'a>>, wanted: &[Tagged]) {
+    assert_eq!(entries.len(), wanted.len());
+    for (entry, (sid, tag, intervals)) in entries.zip(wanted) {
+        assert_eq!((entry.sid(), entry.tag()), (&[*sid; 16], *tag));
         assert_eq!(entry.intervals().len(), intervals.len());
         assert!(entry.intervals().eq(intervals.iter().copied()));
     }
@@ -80,7 +96,7 @@ fn examples_list_as_they_say() {
 fn a_gap_is_closed() {
     let mut set = ResumeSet::take_in(&previous(&[(1, &[(1, 6), (7, 8)])])).unwrap();
     assert_eq!(set.counts(), (1, 2));
-    assert_eq!(set.offer(33, &gtid(1, 6)), Ok(Offered::Taken));
+    assert_eq!(take(&mut set, GTID_EVENT, &gtid(1, 6)), Ok(Offered::Taken));
     assert_eq!(
         set,
         ResumeSet::take_in(&previous(&[(1, &[(1, 8)])])).unwrap()
@@ -95,18 +111,50 @@ fn a_run_fed_again_ends_in_the_same_bytes() {
         .into();
     let mut whole = ResumeSet::take_in(&opening).unwrap();
     for event in &events {
-        whole.offer(33, event).unwrap();
+        assert!(take(&mut whole, GTID_EVENT, event).is_ok());
     }
     for stop in 0..=events.len() {
         let mut set = ResumeSet::take_in(&opening).unwrap();
         for event in &events[..stop] {
-            set.offer(33, event).unwrap();
+            assert!(take(&mut set, GTID_EVENT, event).is_ok());
         }
         let mut again = ResumeSet::from_bytes(set.as_bytes().to_vec()).unwrap();
         for event in &events {
-            again.offer(33, event).unwrap();
+            assert!(take(&mut again, GTID_EVENT, event).is_ok());
         }
         assert_eq!(again.as_bytes(), whole.as_bytes());
+    }
+}
+
+#[test]
+fn an_offer_that_is_dropped_changes_nothing() {
+    let mut set = ResumeSet::take_in(&previous(&[(1, &[(1, 6)])])).unwrap();
+    let before = set.clone();
+    let offer = set.offer(GTID_EVENT, &gtid(1, 6)).unwrap();
+    assert_eq!(offer.answer(), Offered::Taken);
+    let next = offer.next_bytes().to_vec();
+    drop(offer);
+    assert_eq!(set, before);
+    // and is answered alike the next time
+    assert_eq!(take(&mut set, GTID_EVENT, &gtid(1, 6)), Ok(Offered::Taken));
+    assert_eq!(set.as_bytes(), next);
+}
+
+#[test]
+fn only_a_new_id_changes_the_set() {
+    let mut set = ResumeSet::take_in(&previous(&[(1, &[(1, 6)])])).unwrap();
+    for (event_type, answer) in [
+        (GTID_EVENT, Offered::AlreadyThere),
+        (ANONYMOUS_GTID_EVENT, Offered::NoId),
+    ] {
+        let before = set.clone();
+        let offer = set.offer(event_type, &gtid(1, 5)).unwrap();
+        assert_eq!(
+            (offer.answer(), offer.next_bytes()),
+            (answer, before.as_bytes())
+        );
+        offer.commit();
+        assert_eq!(set, before);
     }
 }
 
@@ -115,45 +163,46 @@ fn a_full_set_still_joins() {
     let gaps: Vec<_> = (0..2048).map(|i| (2 * i + 1, 2 * i + 2)).collect();
     let mut set = ResumeSet::take_in(&previous(&[(1, &gaps)])).unwrap();
     let saved = set.clone();
-    assert_eq!(set.offer(33, &gtid(1, 10_000)).unwrap_err().number(), 16);
+    assert_eq!(
+        take(&mut set, GTID_EVENT, &gtid(1, 10_000)),
+        Err(Refusal::Full)
+    );
     assert_eq!(set, saved);
-    assert_eq!(set.offer(33, &gtid(1, 2)), Ok(Offered::Taken));
+    assert_eq!(take(&mut set, GTID_EVENT, &gtid(1, 2)), Ok(Offered::Taken));
     assert_eq!(set.counts(), (1, 2047));
     assert!(set.contains(&[1; 16], b"", 2) && !set.contains(&[1; 16], b"", 4));
+}
+
+#[test]
+fn the_longest_set_is_saved_and_listed() {
+    let gaps: Vec<_> = (0..8).map(|i| (2 * i + 1, 2 * i + 2)).collect();
+    let entries: Vec<Tagged> = (0..=255)
+        .map(|sid| (sid, &[b'a'; 32][..], &gaps[..]))
+        .collect();
+    let set = ResumeSet::take_in(&tagged_previous(&entries)).unwrap();
+    assert_eq!(set.counts(), (256, 2048));
+    assert_eq!(set.as_bytes().len(), LONGEST_SET);
+    let folder = Folder::new("longest");
+    set.save(folder.file("set")).unwrap();
+    assert_eq!(ResumeSet::load(folder.file("set")).unwrap(), set);
+    assert_eq!(
+        list(PREVIOUS_GTIDS_EVENT, set.as_bytes()).lines().count(),
+        257
+    );
 }
 
 #[test]
 fn the_first_tag_widens_every_entry() {
     let entries: Vec<(u8, &[(u64, u64)])> = (0..=254).map(|uuid| (uuid, &[(1, 2)][..])).collect();
     let mut set = ResumeSet::take_in(&previous(&entries)).unwrap();
-    let (mut event, _) = GtidEvent::read(33, &gtid(255, 1)).unwrap();
-    event.tag = b"a".to_vec();
-    event.typecode = None;
+    let event = GtidEvent::new_tagged([255; 16], b"a", 1).unwrap();
     let body = event.write().unwrap();
-    assert_eq!(set.offer(42, &body), Ok(Offered::Taken));
+    assert_eq!(
+        take(&mut set, GTID_TAGGED_LOG_EVENT, &body),
+        Ok(Offered::Taken)
+    );
     assert_eq!(set.counts(), (256, 256));
     assert!(set.as_bytes().len() <= LONGEST_SET && set.contains(&[255; 16], b"a", 1));
-}
-
-#[test]
-fn records_come_back() {
-    let folder = Path::new(env!("CARGO_MANIFEST_DIR")).join("../../examples");
-    let tagged = fs::read(folder.join("tagged.bin")).unwrap();
-    let (event, used) = GtidEvent::read(42, &tagged[1..]).unwrap();
-    assert_eq!(
-        (event.tag.as_slice(), event.gno, used),
-        (&b"depot_7"[..], 41, tagged.len() - 1)
-    );
-    assert_eq!(event.write().unwrap(), tagged[1..]);
-    // the checksum that was left in is read as a server version
-    let trap = fs::read(folder.join("checksum-left-in.bin")).unwrap();
-    assert_eq!(
-        GtidEvent::read(33, &trap[1..])
-            .unwrap()
-            .0
-            .immediate_server_version,
-        1_630_334_338
-    );
 }
 
 const PLAIN: [Tagged; 3] = [
@@ -189,6 +238,26 @@ fn entries_come_out_as_they_went_in() {
         65_528,
         &bare,
     );
+}
+
+#[test]
+fn a_set_hands_out_its_entries_in_order() {
+    let opening = tagged_previous(&[
+        (9, b"", &[(5, 7), (1, 2), (2, 5)]),
+        (3, b"b", &[(8, 9), (1, 2)]),
+        (3, b"", &[]),
+        (3, b"a", &[(4, 5)]),
+    ]);
+    let set = ResumeSet::take_in(&opening).unwrap();
+    assert_same(
+        set.entries(),
+        &[
+            (3, b"a", &[(4, 5)]),
+            (3, b"b", &[(1, 2), (8, 9)]),
+            (9, b"", &[(1, 7)]),
+        ],
+    );
+    assert_eq!(ResumeSet::empty().entries().len(), 0);
 }
 
 #[test]
@@ -264,7 +333,4 @@ fn refusals_have_their_numbers() {
         15
     );
     assert_eq!(GtidEvent::read(35, &[]).unwrap_err().number(), 8);
-    let (mut event, _) = GtidEvent::read(33, &gtid(1, 1)).unwrap();
-    event.tag = vec![b'a'; 40];
-    assert_eq!(event.write().unwrap_err().number(), 12);
 }

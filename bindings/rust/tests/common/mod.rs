@@ -1,0 +1,93 @@
+//! What the tests share: a folder for files, and the follower of `examples` with a binlog for it.
+#![allow(dead_code)] // no test uses all of it
+use std::env;
+use std::ffi::OsString;
+use std::fs;
+use std::path::{Path, PathBuf};
+use std::process::{self, Command};
+
+/// A new folder, removed when it is dropped.
+pub struct Folder(PathBuf);
+
+impl Folder {
+    pub fn new(name: &str) -> Folder {
+        let path = env::temp_dir().join(format!("gtid-{name}-{}", process::id()));
+        // one of an earlier process with this number may be left
+        let _ = fs::remove_dir_all(&path);
+        fs::create_dir(&path).unwrap();
+        Folder(path)
+    }
+
+    pub fn path(&self) -> &Path {
+        &self.0
+    }
+
+    pub fn file(&self, name: &str) -> PathBuf {
+        self.0.join(name)
+    }
+}
+
+impl Drop for Folder {
+    fn drop(&mut self) {
+        let _ = fs::remove_dir_all(&self.0);
+    }
+}
+
+/// A binlog without checksums.
+pub struct Binlog(pub Vec<u8>);
+
+impl Binlog {
+    /// With the body of its opening event.
+    pub fn new(opening: &[u8]) -> Binlog {
+        let mut binlog = Binlog(b"\xfebin".to_vec());
+        binlog.event(35, opening);
+        binlog
+    }
+
+    pub fn event(&mut self, event_type: u8, body: &[u8]) {
+        let mut header = [0; 19];
+        header[4] = event_type;
+        header[9..13].copy_from_slice(&(19 + body.len() as u32).to_le_bytes());
+        self.0.extend(header);
+        self.0.extend(body);
+    }
+
+    pub fn transaction(&mut self, event_type: u8, gtid: &[u8], rows: &[String]) {
+        self.event(event_type, gtid);
+        for row in rows {
+            self.event(30, row.as_bytes());
+        }
+        self.event(16, &[0; 8]);
+    }
+}
+
+/// The body of a Previous-GTIDs event: for each uuid of one repeated byte the transactions from 1 to a last one.
+pub fn opening(entries: &[(u8, u64)]) -> Vec<u8> {
+    let mut body = (entries.len() as u64).to_le_bytes().to_vec();
+    for (sid, last) in entries {
+        body.extend([*sid; 16]);
+        for number in [1, 1, last + 1] {
+            body.extend(number.to_le_bytes());
+        }
+    }
+    body
+}
+
+/// The follower, which cargo builds beside the tests, for the files `events`, `tool` and `set` of a folder. GTID_EMULATOR names a program to
+/// run it with, where the machine isn't the one that it was built for.
+pub fn follower(folder: &Folder) -> Command {
+    let mut words = Vec::from_iter(env::var_os("GTID_EMULATOR"));
+    words.push(program());
+    let mut command = Command::new(&words[0]);
+    command.args(&words[1..]);
+    command.args(["events", "tool", "set"].map(|name| folder.file(name)));
+    command
+}
+
+fn program() -> OsString {
+    let test = env::current_exe().unwrap();
+    let built = test.parent().and_then(Path::parent).unwrap();
+    let program = built.join("examples/follower");
+    assert!(program.exists(), "first: cargo build --example follower");
+    program.into_os_string()
+}

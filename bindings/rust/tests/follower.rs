@@ -1,0 +1,157 @@
+//! The follower of `examples` at the edges: what it must not pass over in silence.
+use gtid_resume::{GtidEvent, ResumeSet, GTID_EVENT};
+use std::fs;
+
+mod common;
+use common::{follower, opening, Binlog, Folder};
+
+const WITH_FIVE: [(u8, u64); 1] = [(7, 5)];
+
+fn gtid(gno: u64) -> Vec<u8> {
+    GtidEvent::new([7; 16], gno).write().unwrap()
+}
+
+fn line(gno: u64, rows: &str) -> String {
+    format!("{} {rows}\n", GtidEvent::new([7; 16], gno).gtid())
+}
+
+fn row(text: &str) -> [String; 1] {
+    [text.to_string()]
+}
+
+/// A binlog that opens behind transaction 5, with transaction 6.
+fn with_six() -> Binlog {
+    let mut binlog = Binlog::new(&opening(&WITH_FIVE));
+    binlog.transaction(GTID_EVENT, &gtid(6), &row("six"));
+    binlog
+}
+
+/// The tool's text after a run that must end well.
+fn followed(folder: &Folder, binlog: &[u8]) -> String {
+    fs::write(folder.file("events"), binlog).unwrap();
+    let ended = follower(folder).output().unwrap();
+    assert!(ended.status.success(), "{ended:?}");
+    fs::read_to_string(folder.file("tool")).unwrap()
+}
+
+/// A run must end with status 2 and one line that says this.
+fn assert_stops(folder: &Folder, binlog: &[u8], says: &str) {
+    fs::write(folder.file("events"), binlog).unwrap();
+    let ended = follower(folder).output().unwrap();
+    let said = String::from_utf8(ended.stderr).unwrap();
+    assert_eq!(ended.status.code(), Some(2), "{said}");
+    assert!(said.contains(says), "{said}");
+    assert_eq!(said.matches('\n').count(), 1, "{said}");
+}
+
+#[test]
+fn what_is_not_complete_is_left_for_the_next_run() {
+    let whole = with_six().0.len();
+    let mut binlog = with_six();
+    binlog.transaction(GTID_EVENT, &gtid(7), &row("seven"));
+    for cut in (whole..binlog.0.len()).step_by(6) {
+        let folder = Folder::new("cut");
+        assert_eq!(followed(&folder, &binlog.0[..cut]), line(6, "six"));
+        let set = ResumeSet::load(folder.file("set")).unwrap();
+        assert!(set.contains(&[7; 16], b"", 6) && !set.contains(&[7; 16], b"", 7));
+        let both = line(6, "six") + &line(7, "seven");
+        assert_eq!(followed(&folder, &binlog.0), both);
+    }
+}
+
+#[test]
+fn a_torn_line_is_cut_off() {
+    let folder = Folder::new("torn");
+    fs::write(folder.file("tool"), line(5, "five") + &line(6, "si")[..41]).unwrap();
+    let both = line(5, "five") + &line(6, "six");
+    assert_eq!(followed(&folder, &with_six().0), both);
+}
+
+#[test]
+fn a_transaction_that_the_tool_has_is_not_copied_again() {
+    let folder = Folder::new("twice");
+    fs::write(folder.file("tool"), line(6, "six")).unwrap();
+    assert_eq!(followed(&folder, &with_six().0), line(6, "six"));
+    let set = ResumeSet::load(folder.file("set")).unwrap();
+    assert!(set.contains(&[7; 16], b"", 6));
+}
+
+#[test]
+fn rows_stay_on_one_line() {
+    let folder = Folder::new("line");
+    let mut binlog = Binlog::new(&opening(&WITH_FIVE));
+    binlog.transaction(GTID_EVENT, &gtid(6), &row("a\nb\\"));
+    assert_eq!(followed(&folder, &binlog.0), line(6, "a\\nb\\\\"));
+}
+
+#[test]
+fn the_next_file_is_followed_and_a_missing_one_is_seen() {
+    let folder = Folder::new("rotation");
+    followed(&folder, &with_six().0);
+    let mut third = Binlog::new(&opening(&[(7, 7)]));
+    third.transaction(GTID_EVENT, &gtid(8), &row("eight"));
+    assert_stops(&folder, &third.0, "older file");
+    let mut second = Binlog::new(&opening(&[(7, 6)]));
+    second.transaction(GTID_EVENT, &gtid(7), &row("seven"));
+    second.event(4, b"the next file's name");
+    followed(&folder, &second.0);
+    let all = line(6, "six") + &line(7, "seven") + &line(8, "eight");
+    assert_eq!(followed(&folder, &third.0), all);
+}
+
+#[test]
+fn a_damaged_set_is_not_gone_on_from() {
+    let folder = Folder::new("bad-set");
+    fs::write(folder.file("set"), "damaged").unwrap();
+    assert_stops(&folder, &with_six().0, "refusal 14");
+    assert!(!folder.file("tool").exists());
+}
+
+#[test]
+fn a_damaged_event_is_not_passed_over() {
+    let mut short = with_six();
+    short.transaction(GTID_EVENT, &gtid(7)[..24], &row("seven"));
+    short.transaction(GTID_EVENT, &gtid(8), &row("eight"));
+    let mut nameless = with_six();
+    nameless.event(30, b"a row of no transaction");
+    nameless.event(16, &[0; 8]);
+    let mut endless = with_six();
+    endless.event(33, &gtid(7));
+    endless.transaction(GTID_EVENT, &gtid(8), &row("eight"));
+    let mut headless = with_six();
+    headless.event(16, &[0; 8]);
+    for (binlog, says) in [
+        (short, "refusal 1:"),
+        (nameless, "refusal 8:"),
+        (endless, "without an end"),
+        (headless, "without one"),
+    ] {
+        let folder = Folder::new("bad-event");
+        assert_stops(&folder, &binlog.0, says);
+        // and what came before it is there
+        let tool = fs::read_to_string(folder.file("tool")).unwrap();
+        assert_eq!(tool, line(6, "six"));
+    }
+}
+
+#[test]
+fn what_is_no_binlog_is_an_error() {
+    let mut small = with_six();
+    small.event(30, b"");
+    let size = small.0.len() - 10;
+    small.0[size] = 18;
+    let mut unopened = Binlog(b"\xfebin".to_vec());
+    unopened.transaction(GTID_EVENT, &gtid(6), &row("six"));
+    for (bytes, says) in [
+        (b"text".to_vec(), "no binlog"),
+        (unopened.0, "no opening event"),
+        (small.0, "an event of 18 bytes"),
+    ] {
+        assert_stops(&Folder::new("no-binlog"), &bytes, says);
+    }
+    let folder = Folder::new("no-file");
+    let ended = follower(&folder).output().unwrap();
+    assert_eq!(ended.status.code(), Some(2));
+    let name = folder.file("events").display().to_string();
+    assert!(String::from_utf8(ended.stderr).unwrap().contains(&name));
+}

@@ -1,0 +1,230 @@
+//! Records: steps, ids, what can be written, and how refusals speak.
+use gtid_resume::{list, Gtid, GtidEvent, Refusal, ResumeSet, GTID_EVENT, GTID_TAGGED_LOG_EVENT};
+use std::fs;
+use std::io;
+use std::path::Path;
+
+fn example(name: &str) -> Vec<u8> {
+    let folder = Path::new(env!("CARGO_MANIFEST_DIR")).join("../../examples");
+    fs::read(folder.join(name)).unwrap()
+}
+
+#[test]
+fn records_come_back() {
+    let tagged = example("tagged.bin");
+    let (event, used) = GtidEvent::read(GTID_TAGGED_LOG_EVENT, &tagged[1..]).unwrap();
+    assert_eq!(
+        (event.tag.as_slice(), event.gno, used),
+        (&b"depot_7"[..], 41, tagged.len() - 1)
+    );
+    assert_eq!(event.write().unwrap(), tagged[1..]);
+}
+
+#[test]
+fn a_checksum_that_was_left_in_reads_as_a_server_version() {
+    let trap = example("checksum-left-in.bin");
+    let (event, _) = GtidEvent::read(GTID_EVENT, &trap[1..]).unwrap();
+    assert_eq!(event.immediate_server_version, 1_630_334_338);
+}
+
+#[test]
+fn ids_show_as_in_the_listing() {
+    for event in [
+        GtidEvent::new([0x0f; 16], 0),
+        GtidEvent::new([0xab; 16], u64::MAX),
+        GtidEvent::new_tagged([0; 16], b"depot_7", 41).unwrap(),
+    ] {
+        let text = list(event.event_type(), &event.write().unwrap());
+        assert_eq!(text, format!("gtid {}\n", event.gtid()));
+    }
+}
+
+#[test]
+fn ids_have_the_order_of_a_set() {
+    let id = |sid: u8, tag, gno| Gtid {
+        sid: [sid; 16],
+        tag,
+        gno,
+    };
+    let mut ids = [
+        id(2, b"", 1),
+        id(1, b"ab", 1),
+        id(1, b"a", 2),
+        id(1, b"a", 1),
+        id(1, b"", 9),
+    ];
+    ids.sort();
+    ids[..]
+        .windows(2)
+        .for_each(|pair| assert!(pair[0] < pair[1]));
+    assert_eq!((ids[0], ids[4]), (id(1, b"", 9), id(2, b"", 1)));
+}
+
+#[test]
+fn new_records_are_as_the_rules_say() {
+    let untagged = GtidEvent::new([7; 16], 5);
+    assert_eq!(untagged.lc_typecode, Some(2));
+    assert_eq!(untagged.immediate_server_version, 0);
+    assert_eq!(untagged.original_server_version, 0);
+    let tagged = GtidEvent::new_tagged([7; 16], b"a", 5).unwrap();
+    assert_eq!(tagged.lc_typecode, None);
+    assert_eq!(tagged.immediate_server_version, 999_999);
+    assert_eq!(tagged.original_server_version, 999_999);
+    for event in [untagged, tagged] {
+        assert_eq!((event.sid, event.gno, event.flags), ([7; 16], 5, 0));
+        assert_eq!((event.last_committed, event.sequence_number), (0, 0));
+        assert_eq!(event.immediate_commit_timestamp, 0);
+        assert_eq!(event.original_commit_timestamp, 0);
+        assert_eq!((event.tx_length, event.commit_group_ticket), (0, 0));
+        let read = GtidEvent::read(event.event_type(), &event.write().unwrap()).unwrap();
+        assert_eq!(read.0, event);
+    }
+}
+
+#[test]
+fn a_tag_is_judged_by_the_archive() {
+    let event = || GtidEvent::new([7; 16], 1);
+    for tag in [&b"a"[..], b"_", b"a_tag_of_thirty_two_bytes____007"] {
+        assert_eq!(event().with_tag(tag).unwrap().tag, tag);
+    }
+    let long = [b'a'; 300];
+    for tag in [
+        &b""[..],
+        b"7a",
+        b"UPPER",
+        b"a b",
+        b"a\0",
+        b"\xc3\xa4",
+        &long[..33],
+        &long[..255],
+        &long[..256],
+        &long,
+    ] {
+        assert_eq!(event().with_tag(tag), Err(Refusal::BadTag));
+        assert_eq!(GtidEvent::new_tagged([7; 16], tag, 1), Err(Refusal::BadTag));
+    }
+}
+
+#[test]
+fn a_tag_keeps_the_typecode() {
+    let event = GtidEvent::new([7; 16], 1).with_tag(b"a").unwrap();
+    assert!(event.is_tagged());
+    assert_eq!(event.lc_typecode, Some(2));
+    assert_eq!(event.write(), Err(Refusal::NotWritable));
+    let event = event.without_lc_typecode();
+    assert_eq!(event.event_type(), GTID_TAGGED_LOG_EVENT);
+    assert!(event.write().is_ok());
+    assert_eq!(event.with_lc_typecode().write(), Err(Refusal::NotWritable));
+}
+
+#[test]
+fn a_tag_put_in_past_the_steps_is_not_written() {
+    let mut event = GtidEvent::new([7; 16], 1).without_lc_typecode();
+    for tag in [&[b'a'; 40][..], b"UPPER"] {
+        event.tag = tag.to_vec();
+        assert_eq!(event.write(), Err(Refusal::NotWritable));
+    }
+}
+
+/// Every number has its greatest value, so that no record takes more bytes.
+#[test]
+fn the_longest_record_is_as_long_as_the_header_says() {
+    let signed = i64::MAX as u64;
+    let tagged = GtidEvent::new_tagged([255; 16], &[b'a'; 32], signed)
+        .unwrap()
+        .with_flags(255)
+        .with_last_committed(signed)
+        .with_sequence_number(signed)
+        .with_immediate_commit_timestamp(u64::MAX)
+        .with_original_commit_timestamp(u64::MAX - 1)
+        .with_tx_length(u64::MAX)
+        .with_immediate_server_version(u32::MAX)
+        .with_original_server_version(u32::MAX - 1)
+        .with_commit_group_ticket(u64::MAX);
+    assert_eq!(tagged.write().unwrap().len(), 156);
+    let untagged = GtidEvent::new([255; 16], u64::MAX)
+        .with_immediate_commit_timestamp(1)
+        .with_original_commit_timestamp((1 << 56) - 1)
+        .with_tx_length(u64::MAX)
+        .with_immediate_server_version(1)
+        .with_original_server_version(u32::MAX);
+    assert_eq!(untagged.write().unwrap().len(), 73);
+}
+
+#[test]
+fn refusals_tell_name_number_and_words() {
+    let refusal = GtidEvent::read(35, &[]).unwrap_err();
+    assert_eq!(refusal, Refusal::WrongType);
+    assert_eq!(
+        format!("{refusal:?}"),
+        "WrongType (refusal 8: an event type that this call doesn't serve)"
+    );
+    for (refusal, number) in [
+        (Refusal::Ended, 1),
+        (Refusal::BadTag, 6),
+        (Refusal::TooLong, 11),
+        (Refusal::NotASet, 14),
+        (Refusal::Full, 16),
+        (Refusal::Unknown(200), 200),
+    ] {
+        assert_eq!(refusal.number(), number);
+        assert!(refusal
+            .to_string()
+            .starts_with(&format!("refusal {number}: ")));
+    }
+}
+
+/// The archive's source is the place that says them.
+#[test]
+fn refusals_have_the_names_and_numbers_of_the_source() {
+    let folder = Path::new(env!("CARGO_MANIFEST_DIR")).join("../../crates/misc/src");
+    let source = fs::read_to_string(folder.join("refusal.rt")).unwrap();
+    let all = [
+        Refusal::Ended,
+        Refusal::TooLarge,
+        Refusal::Negative,
+        Refusal::WrongVersion,
+        Refusal::UnknownField,
+        Refusal::BadTag,
+        Refusal::NoTag,
+        Refusal::WrongType,
+        Refusal::SmallPayload,
+        Refusal::BadLead,
+        Refusal::TooLong,
+        Refusal::NotWritable,
+        Refusal::NoRoom,
+        Refusal::NotASet,
+        Refusal::BadGno,
+        Refusal::Full,
+    ];
+    for refusal in all {
+        let shown = format!("{refusal:?}");
+        let mut name = String::new();
+        for letter in shown.split(' ').next().unwrap().chars() {
+            if letter.is_uppercase() && !name.is_empty() {
+                name.push('_');
+            }
+            name.push(letter.to_ascii_uppercase());
+        }
+        let line = format!("pub const {name}: u8 = {};", refusal.number());
+        assert!(source.contains(&line), "{line}");
+    }
+    assert_eq!(source.matches("pub const ").count(), all.len());
+}
+
+#[test]
+fn refusals_become_errors_of_io() {
+    for (refusal, kind) in [
+        (Refusal::Ended, io::ErrorKind::InvalidData),
+        (Refusal::WrongType, io::ErrorKind::InvalidInput),
+        (Refusal::NotWritable, io::ErrorKind::InvalidInput),
+        (Refusal::NotASet, io::ErrorKind::InvalidData),
+        (Refusal::Full, io::ErrorKind::Other),
+    ] {
+        let error = io::Error::from(refusal);
+        assert_eq!(error.kind(), kind);
+        assert_eq!(error.to_string(), refusal.to_string());
+        assert_eq!(error.get_ref().unwrap().downcast_ref(), Some(&refusal));
+    }
+    assert!(ResumeSet::take_in(&[]).map_err(io::Error::from).is_err());
+}
