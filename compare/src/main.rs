@@ -1,6 +1,6 @@
 //! Compares this repository's answers with those of the given files of mysql_common 0.38.2 (README.md).
 //!
-//!     compare [CASES [SEED]]      PROBE: the path of the program probe
+//!     compare [CASES [SEED]]      PROBE: the path of the program probe; PROBE_RUNNER: a program that runs it
 
 mod case;
 mod differences;
@@ -24,6 +24,9 @@ const BATCH_BYTES: usize = 8_000_000;
 /// So many unsorted differences are printed in full; the rest is counted.
 const PRINTED: u64 = 200;
 
+/// So many cases come in every run, for the progress alone.
+const FIXED: u64 = 796_224;
+
 /// One that answers for the repository, and what was found of it.
 struct Side {
     ours: Box<dyn Ours>,
@@ -37,6 +40,7 @@ struct Comparison {
     batch: Vec<Case>,
     bytes: usize,
     asked: u64,
+    wanted: u64,
     failed: Option<io::Error>,
 }
 
@@ -52,7 +56,6 @@ impl Comparison {
     fn compare(&mut self) {
         let batch = std::mem::take(&mut self.batch);
         self.bytes = 0;
-        self.asked += batch.len() as u64;
         if self.failed.is_some() || batch.is_empty() {
             return;
         }
@@ -72,6 +75,17 @@ impl Comparison {
                     .for_each(|(place, line)| side.judge(&batch[*place], line, &theirs[*place])),
                 Err(error) => self.failed = Some(error),
             }
+        }
+        let before = self.asked;
+        self.asked += batch.len() as u64;
+        self.show_progress(before);
+    }
+
+    /// A line on standard error for every twentieth of the cases.
+    fn show_progress(&self, before: u64) {
+        let twentieths = |asked: u64| asked * 20 / self.wanted.max(1);
+        if twentieths(before) < twentieths(self.asked) {
+            eprintln!("compare: {} cases of {}", self.asked, self.wanted);
         }
     }
 }
@@ -153,6 +167,7 @@ fn answers_of(side: &dyn Ours, batch: &[Case]) -> io::Result<Vec<(usize, String)
 /// unequal.
 #[cfg(archive)]
 fn every_three_bytes() -> u64 {
+    eprintln!("compare: every input of 3 bytes");
     let (mut equal, mut refused, mut unequal) = (0u64, 0u64, 0u64);
     for number in 0..1u32 << 24 {
         let [bytes @ .., _] = number.to_le_bytes();
@@ -213,6 +228,7 @@ fn main() -> ExitCode {
     let cases = numbers.first().copied().unwrap_or(4_000_000);
     let seed = numbers.get(1).copied().unwrap_or(1);
     let path = env::var("PROBE").unwrap_or_else(|_| "../target/bin/probe".to_owned());
+    let runner = env::var("PROBE_RUNNER").ok();
     // Panics in the crate's files are answers here: they are caught, and not told on standard error.
     let told = panic::take_hook();
     panic::set_hook(Box::new(move |panic| {
@@ -226,10 +242,11 @@ fn main() -> ExitCode {
 
     let begun = Instant::now();
     let mut comparison = Comparison {
-        sides: vec![Side::new(Box::new(ours::Probe { path }))],
+        sides: vec![Side::new(Box::new(ours::Probe { path, runner }))],
         batch: Vec::new(),
         bytes: 0,
         asked: 0,
+        wanted: cases.max(FIXED),
         failed: None,
     };
     #[cfg(archive)]
@@ -243,7 +260,7 @@ fn main() -> ExitCode {
     }
     comparison.compare();
     if let Some(error) = comparison.failed {
-        println!("ours failed: {error}");
+        eprintln!("compare: ours failed: {error}");
         return ExitCode::from(2);
     }
 

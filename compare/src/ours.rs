@@ -28,6 +28,19 @@ pub trait Ours {
 /// The repository's test program, as a child process: a batch of requests goes in, its lines come back.
 pub struct Probe {
     pub path: String,
+    /// A program that is given the path, where the machine can't run the test program itself.
+    pub runner: Option<String>,
+}
+
+impl Probe {
+    fn command(&self) -> Command {
+        let Some(runner) = &self.runner else {
+            return Command::new(&self.path);
+        };
+        let mut command = Command::new(runner);
+        command.arg(&self.path);
+        command
+    }
 }
 
 impl Ours for Probe {
@@ -42,7 +55,8 @@ impl Ours for Probe {
     fn ask(&self, cases: &[Case]) -> io::Result<Vec<String>> {
         let mut requests = Vec::new();
         cases.iter().for_each(|case| case.frame(&mut requests));
-        let mut child = Command::new(&self.path)
+        let mut child = self
+            .command()
             .stdin(Stdio::piped())
             .stdout(Stdio::piped())
             .spawn()?;
