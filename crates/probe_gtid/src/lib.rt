@@ -1,6 +1,6 @@
 // Call 9 and calls 16 to 21 of the test program: the GTID record.
 mod build;
-mod record;
+pub mod record;
 
 use gtid_event_read::GtidRead;
 use gtid_event_write::EventLength;

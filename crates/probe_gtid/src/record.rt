@@ -107,7 +107,7 @@ pub(crate) fn nonzero(event: GtidEvent) -> bool {
 }
 
 // The record whose 116 bytes these are: any values may come.
-pub(crate) fn from_dump(a: &[u8]) -> GtidEvent {
+pub fn from_dump(a: &[u8]) -> GtidEvent {
     GtidEvent {
         flags: byte_at(a, 0),
         sid: packets::uuid_bytes(from_on(a, 1)),

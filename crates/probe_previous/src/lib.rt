@@ -1,5 +1,13 @@
 // Calls 32 and 33 of the test program: Previous-GTIDs.
 use previous_gtids_event::EntryRead;
+use previous_gtids_event::PreviousRead;
+use previous_gtids_event::read::interval_at;
+use previous_gtids_event::read::read;
+use previous_gtids_event::read::unread;
+use previous_gtids_event::rewrite::rewrite;
+use previous_gtids_reader::entry_number;
+use previous_gtids_reader::start;
+use previous_gtids_reader::step_at;
 use probe_lines::answers;
 use probe_lines::checks;
 use probe_lines::line::push_byte;
@@ -13,7 +21,7 @@ fn push_intervals(line: &mut [u8], at: usize, body: &[u8], first: usize, count: 
     let mut end = at;
     let mut i: u64 = 0;
     while i < count {
-        let interval = previous_gtids_event::read::interval_at(body, first, i);
+        let interval = interval_at(body, first, i);
         let start_at = push_byte(line, end, b' ');
         let start_end = push_decimal(line, start_at, interval.start);
         let end_at = push_byte(line, start_end, b' ');
@@ -49,41 +57,53 @@ fn push_entry(line: &mut [u8], at: usize, body: &[u8], entry: EntryRead) -> usiz
     push_intervals(line, count_end, body, entry.first, count)
 }
 
-fn push_entries(line: &mut [u8], at: usize, body: &[u8], tagged: bool, count: u64) -> usize {
+// Every entry that the reader hands out.
+fn push_entries(line: &mut [u8], at: usize, body: &[u8], count: u64) -> usize {
     let mut end = at;
-    let mut place: usize = 8;
+    let mut cursor = start(body);
     let mut i: u64 = 0;
     while i < count {
-        let entry = previous_gtids_event::read::entry_at(body, place, tagged);
-        place = entry.next;
-        end = push_entry(line, end, body, entry);
+        let step = step_at(body, cursor);
+        cursor = step.cursor;
+        end = push_entry(line, end, body, step.entry);
         i += 1;
     }
     end
 }
 
-fn prev(a: &[u8], line: &mut [u8]) -> usize {
-    let read = previous_gtids_event::read::read(a);
-    let rest = previous_gtids_event::read::unread(a);
+// Whether a reader that is asked on and on stops otherwise than reading the whole body does.
+fn stops_elsewhere(body: &[u8], refusal: u8, used: usize) -> bool {
+    let last = entry_number(body, u64::MAX);
+    last.more | (last.entry.refusal != refusal) | (last.cursor.at != used)
+}
+
+fn prev_line(a: &[u8], read: PreviousRead, line: &mut [u8]) -> usize {
+    let rest = unread(a);
     let refusal = read.refusal;
     let used = read.used;
     let entries = read.entries;
     if refusal != 0 {
         return answers::refused(line, refusal, used != 0 || entries != 0 || rest.len() != 0);
     }
-    let header = previous_gtids_event::read::header_of(a);
     let used_at = answers::ok(line);
     let used_end = push_decimal(line, used_at, used as u64);
     let rest_end = answers::push_next(line, used_end, rest.len());
     let count_at = push_byte(line, rest_end, b' ');
     let count_end = push_decimal(line, count_at, entries);
-    let end = push_entries(line, count_end, a, header.tagged, entries);
+    let end = push_entries(line, count_end, a, entries);
     push_text_if(line, end, !checks::is_suffix(a, used, rest), b" notsuffix")
+}
+
+fn prev(a: &[u8], line: &mut [u8]) -> usize {
+    let read = read(a);
+    let end = prev_line(a, read, line);
+    let elsewhere = stops_elsewhere(a, read.refusal, read.used);
+    push_text_if(line, end, elsewhere, b" elsewhere")
 }
 
 fn reprev(a: &[u8], out: &mut [u8], line: &mut [u8]) -> usize {
     checks::fill(out);
-    let wrote = previous_gtids_event::rewrite::rewrite(a, out);
+    let wrote = rewrite(a, out);
     answers::wrote(line, out, wrote)
 }
 

@@ -1,4 +1,4 @@
-// Calls 48 to 50 of the test program: the resume set.
+// Calls 48 to 50 and 66 of the test program: the resume set.
 use misc::Wrote;
 use probe_lines::answers;
 use probe_lines::checks;
@@ -46,11 +46,27 @@ fn isset(set: &[u8], line: &mut [u8]) -> usize {
     push_decimal(line, intervals_at, intervals)
 }
 
+fn contains(set: &[u8], uuid: &[u8], tag: &[u8], gno: u64, line: &mut [u8]) -> usize {
+    let said = resume_set::contains(set, uuid, tag, gno);
+    let refusal = said.refusal;
+    let present = said.present;
+    if refusal != 0 {
+        return answers::refused(line, refusal, present);
+    }
+    let at = answers::ok(line);
+    if present {
+        return push_text(line, at, b"yes");
+    }
+    push_text(line, at, b"no")
+}
+
 pub fn answer(
     call: u8,
     event_type: u8,
+    number: u64,
     a: &[u8],
     b: &[u8],
+    c: &[u8],
     out: &mut [u8],
     line: &mut [u8],
 ) -> usize {
@@ -58,6 +74,7 @@ pub fn answer(
         48 => takein(a, out, line),
         49 => offer(a, event_type, b, out, line),
         50 => isset(a, line),
+        66 => contains(a, b, c, number, line),
         _ => answers::none(line),
     }
 }

@@ -6,6 +6,7 @@ pub mod EdgesAgree
 pub mod Gives
 pub mod EventFaults
 pub mod BodyFaults
+pub mod StepNumbers
 pub mod SetFaultsGiven
 pub mod PlainFaultsGiven
 -- a fault forces its number

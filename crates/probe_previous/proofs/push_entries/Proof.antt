@@ -7,16 +7,19 @@ use Rattle.probe_previous.proofs.push_entries.Statement.{statement}
 use Rattle.probe_previous.proofs.push_entries.Tie as tie
 
 abbrev Inv-loop : tie.InvT-loop
-Inv-loop line₀ at body tagged count end₀ place₀ i₀ line end place i = length line ≡ length line₀
+Inv-loop line₀ at body count end₀ cursor₀ i₀ line end cursor i = length line ≡ length line₀
 
 abbrev μ-loop : tie.MeasureT-loop
-μ-loop line₀ at body tagged count end₀ place₀ i₀ line end place i = count - i
+μ-loop line₀ at body count end₀ cursor₀ i₀ line end cursor i = count - i
+
+start-requires : tie.Need-start-requires Inv-loop μ-loop
+start-requires c κs = search needs
 
 loop-holds : tie.Need-loop-holds Inv-loop μ-loop
 loop-holds c = search needs
 
-entry-at-requires : tie.Need-entry-at-requires Inv-loop μ-loop
-entry-at-requires c κs = search needs
+step-at-requires : tie.Need-step-at-requires Inv-loop μ-loop
+step-at-requires c κs = search needs
 
 push-entry-requires : tie.Need-push-entry-requires Inv-loop μ-loop
 push-entry-requires c κs = search needs
@@ -42,8 +45,9 @@ push-entries-spec =
     (tie.spec
     Inv-loop
     μ-loop
+    start-requires
     loop-holds
-    entry-at-requires
+    step-at-requires
     push-entry-requires
     add-i
     loop-less
