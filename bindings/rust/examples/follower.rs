@@ -70,7 +70,7 @@ fn step(
     let offer = set.offer(event_type, body)?;
     match offer.answer() {
         Offered::AlreadyThere => {}
-        // copied like any other; but neither set nor tool can know it again, so that after a crash it may be copied twice
+        // copied like any other; but neither set nor tool can know it again, so that another run, as after a crash, copies it again
         Offered::NoId => tool.append("anonymous", rows)?,
         Offered::Taken => {
             let (event, _) = GtidEvent::read(event_type, body)?;

@@ -8,9 +8,10 @@
 //! no crash loses a transaction; [`ResumeSet::offer`] says what the tool must do about one that it is given twice.
 //!
 //! ```
-//! use gtid_resume::{GtidEvent, Offered, ResumeSet, GTID_EVENT};
+//! use gtid_resume::{Offered, ResumeSet};
 //! use std::{io, path::Path};
 //!
+//! # use gtid_resume::{GtidEvent, ANONYMOUS_GTID_EVENT, GTID_EVENT};
 //! # struct Transaction { event_type: u8, body: Vec<u8> }
 //! # struct Tool { copied: usize }
 //! # impl Tool {
@@ -21,7 +22,7 @@
 //!     match offer.answer() {
 //!         Offered::AlreadyThere => return Ok(()), // the tool has it
 //!         Offered::Taken => tool.copy_and_commit(transaction)?, // unless the tool knows the id
-//!         Offered::NoId => tool.copy_and_commit(transaction)?, // without an id: after a crash perhaps twice
+//!         Offered::NoId => tool.copy_and_commit(transaction)?, // anonymous: copied too, after a crash perhaps twice
 //!     }
 //!     offer.commit();
 //!     set.save(saved)
@@ -29,7 +30,7 @@
 //! # let saved = &std::env::temp_dir().join(format!("gtid-step-{}", std::process::id()));
 //! # let mut tool = Tool { copied: 0 };
 //! # let mut set = ResumeSet::empty();
-//! # for (event_type, gno) in [(GTID_EVENT, 6), (GTID_EVENT, 6), (gtid_resume::ANONYMOUS_GTID_EVENT, 0)] {
+//! # for (event_type, gno) in [(GTID_EVENT, 6), (GTID_EVENT, 6), (ANONYMOUS_GTID_EVENT, 0)] {
 //! #     let body = GtidEvent::new([7; 16], gno).write()?;
 //! #     step(&mut set, &Transaction { event_type, body }, &mut tool, saved)?;
 //! # }
