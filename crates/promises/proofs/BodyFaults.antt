@@ -13,7 +13,8 @@ use Rattle.misc.specs.Le.{leAt}
 use Rattle.misc.specs.Varlen.{varlenAt}
 use Rattle.misc.proofs.ParseLaws.{then-parsed, bytes-parsed}
 use Rattle.previous_gtids_event.specs.Previous.{noneOrTag, tagAt, keyAt, Head, head, headAt, intervalAt, intervalsAfter, entryAt, saysTagged, saysCount, entriesAfter, entriesIn, previous}
-use Rattle.promises.specs.Faults.{plain, varlen, AtEntry, AtInterval, Body, BodyFault}
+use Rattle.promises.proofs.Places.{plain, varlen}
+use Rattle.promises.proofs.BodyPlaces.{AtEntry, AtInterval, Body, BodyFault}
 use Rattle.promises.proofs.Gives.{Gives, refuse-gives, parsed-gives, then-gives, then-at-gives, mapped-gives, pick-gives, judged-gives, many-gives, bytes-gives, le-gives, then-le-gives, varlen-gives}
 
 module _ (s : List ℕ) where

@@ -12,10 +12,9 @@ use Rattle.misc.proofs.ParseLaws.{split, bytes-here, bytes-gone}
 use Rattle.misc.proofs.LeLaws.{le-here, le-gone}
 use Rattle.misc.proofs.Forward.{varlen-forward}
 use Rattle.previous_gtids_event.specs.Previous.{tagAt, keyAt, headAt, intervalAt, entryAt, saysTagged, saysCount, entriesIn, previous}
-use Rattle.promises.specs.Faults.{Item, Ends, AtEntry, AtInterval, Body, BodyFault}
-use Rattle.promises.specs.Exact.{Refuses, BodyExact}
-use Rattle.promises.proofs.Forces.{is-refused, one-number, many-stops, varlen-ends}
-use Rattle.promises.proofs.BodyFaults.{body-faults}
+use Rattle.promises.proofs.Places.{Item, Ends}
+use Rattle.promises.proofs.BodyPlaces.{AtEntry, AtInterval, Body, BodyFault}
+use Rattle.promises.proofs.Forces.{Refuses, is-refused, many-stops, varlen-ends}
 
 module _ (s : List ℕ) where
   -- ---- an entry that is refused, and its parts
@@ -65,9 +64,3 @@ module _ (s : List ℕ) where
   body-forced n (BodyFault.tagRule {at = from} {n = size} {to = to} short here is told there bad) =
       is-refused badTag (rw (le-leb (length s) bodyLimit short)
       (tag-stops here badTag (omega (arith, varlen-forward s (from + 16) told)) (unfold tagAt in rw (is, told, bytes-here size s to there, bad))))
-
-pub body-exact : BodyExact
-body-exact s n = ((λ (r, e, is). rw is at (body-faults s r e)), body-forced s n)
-
-pub body-one : (s : List ℕ) (n m : ℕ) → BodyFault s n → BodyFault s m → n ≡ m
-body-one s n m f g = one-number (body-forced s n f) (body-forced s m g)

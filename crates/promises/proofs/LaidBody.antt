@@ -22,20 +22,21 @@ use Rattle.packets.specs.Key.{Key}
 use Rattle.previous_gtids_event.specs.Entry.{Entry, entry}
 use Rattle.previous_gtids_event.specs.Previous.{noneOrTag, tagAt, keyAt, Head, head, headAt, intervalAt, intervalsAfter, entryAt, saysTagged, saysCount, previous}
 use Rattle.previous_gtids_event.proofs.Reading.{intervalsOf, intervals-here, intervals-gone, head-here, entry-here}
-use Rattle.promises.specs.Faults.{Item, Ends, AtEntry, AtInterval, Body, BodyFault}
-use Rattle.promises.specs.Exact.{Refuses, BodyLaidExact}
+use Rattle.promises.proofs.Places.{Item, Ends}
+use Rattle.promises.proofs.BodyPlaces.{AtEntry, AtInterval, Body, BodyFault}
+use Rattle.promises.specs.Exact.{Exactly}
 use Rattle.promises.specs.Forms.{Form}
 use Rattle.promises.specs.UntaggedLayout.{Number}
-use Rattle.promises.specs.LaidFaults.{CutForm}
+use Rattle.promises.specs.Faults.{CutForm}
 use Rattle.promises.specs.LaidBodyFaults.{TagFront, EntryFront, EntriesFront, EntryBad, BodyBad}
-use Rattle.promises.proofs.Forces.{is-refused, many-stops}
+use Rattle.promises.proofs.Forces.{Refuses, is-refused, many-stops}
 use Rattle.promises.proofs.FormsRead.{From, from-start, from-size, from-room, from-next, from-part, form-reads, part-from, Found, form-read}
 use Rattle.promises.proofs.BodyFaults.{body-faults}
 use Rattle.promises.proofs.UntaggedReads.{number-reads}
 use Rattle.promises.proofs.UntaggedAccepted.{number-found}
 use Rattle.promises.proofs.TaggedAccepted.{found-both}
-use Rattle.promises.proofs.LaidFaulty.{cut-form}
-use Rattle.promises.proofs.LaidRefused.{cut-ends}
+use Rattle.promises.proofs.TaggedFaulty.{cut-form}
+use Rattle.promises.proofs.TaggedRefused.{cut-ends}
 
 -- ---- what is wrong is refused
 
@@ -313,5 +314,5 @@ body-bad s are (BodyFault.tagRule {at = from} {n = n} {to = to} short here is to
     (EntryBad.tagRule (part s from 16) (part s to n) (drop (to + n) s) (uuid-size s are from (omega arith)) form bad)))
 
 -- a body is refused with a number exactly where, by the layout, a case of that number holds of its bytes
-pub body-laid-exact : BodyLaidExact
+pub body-laid-exact : (s : List ℕ) (n : ℕ) → Bytes s → Exactly (Refuses (previous s) n) (BodyBad s n)
 body-laid-exact s n are = ((λ (r, e, is). body-bad s are (rw is at (body-faults s r e))), body-refused s n)

@@ -9,7 +9,7 @@ use Rattle.misc.specs.Body.{bodyLimit}
 use Rattle.previous_gtids_event.specs.Previous.{noneOrTag, saysTagged, saysCount}
 use Rattle.promises.specs.Forms.{Form}
 use Rattle.promises.specs.UntaggedLayout.{Number}
-use Rattle.promises.specs.LaidFaults.{CutForm}
+use Rattle.promises.specs.Faults.{CutForm}
 
 -- ---- entries that are in order
 
