@@ -20,7 +20,7 @@ use Rattle.previous_gtids_event.specs.Rewrite.{bodyBytes, rewritten}
 use Rattle.previous_gtids_event.specs.Answers.{previousRead, headerRead, intervalRead}
 use Rattle.promises.specs.LaidBodyFaults.{BodyBad}
 use Rattle.promises.specs.PlainFaults.{FixedFault, OfBody}
-use Rattle.promises.specs.SetFaults.{BodyIs}
+use Rattle.promises.specs.SetFaults.{RewrittenAs}
 use Rattle.promises.specs.Exact.{RefusesExactly, BodiesExact}
 use Rattle.promises.proofs.Gives.{Gives, refuse-gives, pick-gives, mapped-gives, le-gives, then-le-gives}
 use Rattle.promises.proofs.Forces.{Refuses, WriterRefuses, is-refused, same-refused}
@@ -81,15 +81,15 @@ module _ (body : List ℕ) (are : Bytes body) where
   rewrite-forced : (n : ℕ) → BodyBad body n → WriterRefuses (rewritten (previous body)) n
   rewrite-forced n fault = let (r, e, is) = body-laid-exact body n are .1 fault in (r, rw e, is)
 
-  rewrite-writes : (bs : List ℕ) → rewritten (previous body) ≡ bytes bs → (es : List Entry) × BodyIs body es × (bs ≡ bodyBytes es)
+  rewrite-writes : (bs : List ℕ) → rewritten (previous body) ≡ bytes bs → RewrittenAs body bs
   rewrite-writes bs = go (previous body) refl
     where
-      go : (p : Parse (List Entry)) → previous body ≡ p → rewritten p ≡ bytes bs → (es : List Entry) × BodyIs body es × (bs ≡ bodyBytes es)
+      go : (p : Parse (List Entry)) → previous body ≡ p → rewritten p ≡ bytes bs → RewrittenAs body bs
       go (refuse x) read e = apart cc
-      go (parsed es used) read e = (es, body-is body are read, cc)
+      go (parsed es used) read e = let these : bodyBytes es ≡ bs = cc in rw (← these) (RewrittenAs.entries (body-is body are read))
 
-  rewrite-written : (bs : List ℕ) → (es : List Entry) × BodyIs body es × (bs ≡ bodyBytes es) → rewritten (previous body) ≡ bytes bs
-  rewrite-written bs (es, is, these) = let (used, read) = body-read body are is in rw (read, these)
+  rewrite-written : (bs : List ℕ) → RewrittenAs body bs → rewritten (previous body) ≡ bytes bs
+  rewrite-written bs (RewrittenAs.entries is) = let (used, read) = body-read body are is in rw read
 
 pub bodies-exact : BodiesExact
 bodies-exact = record {
@@ -99,6 +99,6 @@ bodies-exact = record {
       (fixed-given 8 (omega arith) body 0) (fixed-forced 8 (omega arith) body 0);
   «interval_at» = λ body first index. of-body-exact body (intervalAt body (first + 16 * index)) (FixedFault 16 (drop (first + 16 * index) body))
       (λ p. intervalRead p .refusal) (λ r. refl) (interval-good body (first + 16 * index)) (interval-given body (first + 16 * index)) (interval-forced body (first + 16 * index));
-  rewrite = λ body out are. writes-exactly (rewritten (previous body)) out (BodyBad body) _ (rewrite-given body are) (rewrite-forced body are)
+  rewrite = λ body out are. writes-exactly (rewritten (previous body)) out (BodyBad body) (RewrittenAs body) (rewrite-given body are) (rewrite-forced body are)
       (rewrite-writes body are) (rewrite-written body are);
 }

@@ -1,5 +1,5 @@
 -- From "what is refused has its case" and "a case forces its number" to the statements of `specs/Exact.antt`.
-use Prim.Native.Nat.{ℕ, _<_}
+use Prim.Native.Nat.{ℕ}
 use mathlib.Core.Path.{_≡_, refl, sym, ap, subst, _∙_}
 use mathlib.Core.Bool.{Bool, true, false}
 use mathlib.Core.List.{List}
@@ -47,33 +47,24 @@ judges-exactly refusal k Fault test good bad case only some n = (
 
 -- ---- a call that writes
 
-short-answer : (bs out : List ℕ) → length out < length bs → answerOf out (bytes bs) ≡ record { refusal = 13; len = length bs }
-unfolding answerOf
-short-answer bs out over = rw (lt-leb (length bs) (length out) over)
-
-fits-answer : (bs out : List ℕ) → leb (length bs) (length out) ≡ true → answerOf out (bytes bs) .refusal ≡ 0
-unfolding answerOf
-fits-answer bs out fits = rw fits
+-- what is answered
+abbrev pub Answers : Wrote → ℕ → ℕ → Type 0
+Answers wrote n len = (wrote .refusal ≡ n) × (wrote .len ≡ len) × (n ≡ 0 → ⊥)
 
 pub short-exactly : (bs out : List ℕ) → WritesExactly (answerOf out (bytes bs)) (ShortFault bs (length out))
+unfolding answerOf
 short-exactly bs out n len = (given, forced n len)
   where
-    given : (answerOf out (bytes bs) ≡ record { refusal = n; len = len }) × (n ≡ 0 → ⊥) → ShortFault bs (length out) n len
-    given (is, ne) = split (leb (length bs) (length out))
-        (λ fits. absurd (ne (sym (ap (λ (w : Wrote). w .refusal) is) ∙ fits-answer bs out fits)))
+    given : Answers (answerOf out (bytes bs)) n len → ShortFault bs (length out) n len
+    given (is, long, some) = split (leb (length bs) (length out))
+        (λ fits. absurd (some (sym is ∙ rw fits)))
         (λ over.
-        let more : length out < length bs = leb-false (length bs) (length out) over in
-        let same = sym (short-answer bs out more) ∙ is in
-        let number-is : 13 ≡ n = ap (λ (w : Wrote). w .refusal) same in
-        let length-is : length bs ≡ len = ap (λ (w : Wrote). w .len) same in
-        rw (← number-is, ← length-is) (ShortFault.short more))
+        let number-is : 13 ≡ n = rw over at is in
+        let length-is : length bs ≡ len = rw over at long in
+        rw (← number-is, ← length-is) (ShortFault.short (leb-false (length bs) (length out) over)))
 
-    forced : (n len : ℕ) → ShortFault bs (length out) n len → (answerOf out (bytes bs) ≡ record { refusal = n; len = len }) × (n ≡ 0 → ⊥)
-    forced n len (ShortFault.short more) = (short-answer bs out more, λ zero. omega arith)
-
-refused-answer : (out : List ℕ) (r : Refusal) → answerOf out (refused r) ≡ record { refusal = number r; len = 0 }
-unfolding answerOf
-refused-answer out r = refl
+    forced : (n len : ℕ) → ShortFault bs (length out) n len → Answers (answerOf out (bytes bs)) n len
+    forced n len (ShortFault.short more) = rw (lt-leb (length bs) (length out) more) (refl, refl, λ zero. omega arith)
 
 no-output : {X : Type 0} {bs : List ℕ} {r : Refusal} → bytes bs ≡ refused r → X
 no-output e = absurd (let z : _≡_ {A = ℕ} 0 1 = cc in omega arith)
@@ -81,27 +72,24 @@ no-output e = absurd (let z : _≡_ {A = ℕ} 0 1 = cc in omega arith)
 pub writes-exactly : (o : Output) (out : List ℕ) (Fault : ℕ → Type 0) (Writes : List ℕ → Type 0) → ((r : Refusal) → o ≡ refused r → Fault (number r))
     → ((n : ℕ) → Fault n → WriterRefuses o n) → ((bs : List ℕ) → o ≡ bytes bs → Writes bs) → ((bs : List ℕ) → Writes bs → o ≡ bytes bs)
     → WritesExactly (answerOf out o) (WriteFault Fault Writes (length out))
+unfolding answerOf
 writes-exactly (refused x) out Fault Writes gives forced writes written n len = (given, back n len)
   where
-    given : (answerOf out (refused x) ≡ record { refusal = n; len = len }) × (n ≡ 0 → ⊥) → WriteFault Fault Writes (length out) n len
-    given (is, _) =
-        let same = sym (refused-answer out x) ∙ is in
-        let number-is : number x ≡ n = ap (λ (w : Wrote). w .refusal) same in
-        let length-is : 0 ≡ len = ap (λ (w : Wrote). w .len) same in
-        rw (← number-is, ← length-is) (WriteFault.itself (gives x refl))
+    given : (number x ≡ n) × (0 ≡ len) × (n ≡ 0 → ⊥) → WriteFault Fault Writes (length out) n len
+    given (is, long, _) = rw (← is, ← long) (WriteFault.itself (gives x refl))
 
-    back : (n len : ℕ) → WriteFault Fault Writes (length out) n len → (answerOf out (refused x) ≡ record { refusal = n; len = len }) × (n ≡ 0 → ⊥)
+    back : (n len : ℕ) → WriteFault Fault Writes (length out) n len → (number x ≡ n) × (0 ≡ len) × (n ≡ 0 → ⊥)
     back n len (WriteFault.itself fault) =
         let (r, e, this) = forced n fault in
         let same : x ≡ r = cc in
-        (rw (same, refused-answer out r, this), λ zero. no-zero r (this ∙ zero))
+        (ap number same ∙ this, refl, λ zero. no-zero r (this ∙ zero))
     back n len (WriteFault.noRoom {bs = bs} w _) = no-output (sym (written bs w))
 writes-exactly (bytes bs) out Fault Writes gives forced writes written n len = (given, back n len)
   where
-    given : (answerOf out (bytes bs) ≡ record { refusal = n; len = len }) × (n ≡ 0 → ⊥) → WriteFault Fault Writes (length out) n len
+    given : Answers (answerOf out (bytes bs)) n len → WriteFault Fault Writes (length out) n len
     given h = WriteFault.noRoom (writes bs refl) (short-exactly bs out n len .0 h)
 
-    back : (n len : ℕ) → WriteFault Fault Writes (length out) n len → (answerOf out (bytes bs) ≡ record { refusal = n; len = len }) × (n ≡ 0 → ⊥)
+    back : (n len : ℕ) → WriteFault Fault Writes (length out) n len → Answers (answerOf out (bytes bs)) n len
     back n len (WriteFault.itself fault) = let (r, e, _) = forced n fault in no-output e
     back n len (WriteFault.noRoom {bs = other} w more) =
         let e = written other w in

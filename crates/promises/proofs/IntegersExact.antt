@@ -1,6 +1,6 @@
 -- The statements of `specs/Exact.antt` for integers, and for adding a tag, writing and measuring a record.
 use Prim.Native.Nat.{ℕ, _+_, _*_, _≤_}
-use mathlib.Core.Path.{_≡_, refl, sym, ap}
+use mathlib.Core.Path.{_≡_, refl, ap}
 use mathlib.Core.Bool.{true, false}
 use mathlib.Core.List.{List}
 use native.Mathlib.Omega.{arith}
@@ -13,7 +13,7 @@ use Rattle.misc.specs.Le.{leAt, leBytes}
 use Rattle.misc.specs.Varlen.{varlenAt, varlenBytes}
 use Rattle.misc.specs.Signed.{meantBy, sentAs, signedAt, notNegative, naturalAt, intRead}
 use Rattle.misc.specs.Lenenc.{lenencAt, lenencBytes}
-use Rattle.misc.specs.Output.{refused, bytes, answerOf}
+use Rattle.misc.specs.Output.{refused, bytes}
 use Rattle.misc.proofs.ParseLaws.{split}
 use Rattle.misc.proofs.LeLaws.{le-gone}
 use Rattle.misc.proofs.VarlenLaws.{varlen-past}
@@ -26,11 +26,11 @@ use Rattle.gtid_event.specs.declared.GtidEvent.{GtidEvent}
 use Rattle.gtid_event_write.specs.Writable.{writable}
 use Rattle.gtid_event_write.specs.Write.{eventBytes, eventOutput, lengthOf}
 use Rattle.promises.specs.Faults.{CutForm}
-use Rattle.promises.specs.PlainFaults.{FixedFault, VarlenFault, NaturalFault, LenencFault, TagFault, RecordFault, WriteFault}
-use Rattle.promises.specs.Exact.{RefusesExactly, WritesExactly, IntegersExact, EventsExact}
+use Rattle.promises.specs.PlainFaults.{FixedFault, VarlenFault, NaturalFault, LenencFault, TagFault, RecordFault}
+use Rattle.promises.specs.Exact.{RefusesExactly, IntegersExact, EventsExact}
 use Rattle.promises.proofs.Places.{lenenc, Ends}
 use Rattle.promises.proofs.Gives.{Gives, le-gives, varlen-gives, lenenc-gives, then-gives, mapped-gives, parsed-gives, refuse-gives}
-use Rattle.promises.proofs.Forces.{Refuses, is-refused, lenenc-ends, lead-refused}
+use Rattle.promises.proofs.Forces.{Refuses, WriterRefuses, is-refused, lenenc-ends, lead-refused}
 use Rattle.promises.proofs.Exactly.{reads-exactly, judges-exactly, short-exactly, writes-exactly}
 use Rattle.promises.proofs.FormsRead.{from-first, form-some, form-reads, form-read}
 use Rattle.promises.proofs.TaggedRefused.{cut-ends}
@@ -170,24 +170,36 @@ unfolding lengthOf
 length-exact e =
     judges-exactly _ 12 (RecordFault e) (writable e) (λ can. rw can) (λ cannot. rw cannot) RecordFault.notWritable (record-only e) (λ zero. omega arith)
 
-write-exact : (e : GtidEvent) (out : List ℕ)
-    → WritesExactly (answerOf out (eventOutput e)) (WriteFault (RecordFault e) (λ bs. (writable e ≡ true) × (bs ≡ eventBytes e)) (length out))
-unfolding eventOutput
-write-exact e out = tests.split (writable e)
-    (λ can. rw can (writes-exactly (bytes (eventBytes e)) out (RecordFault e) _ (λ r h. absurd (let z : _≡_ {A = ℕ} 0 1 = cc in omega arith))
-    (λ n fault. tests.clash can (record-only e n fault .1)) (λ bs h. (refl, cc)) (λ bs (_, is). rw is)))
-    (λ cannot. rw cannot (writes-exactly (refused notWritable) out (RecordFault e) _ (λ r h. given cannot r h)
-    (λ n fault. (notWritable, refl, sym (record-only e n fault .0)))
-    (λ bs h. absurd (let z : _≡_ {A = ℕ} 0 1 = cc in omega arith)) (λ bs (can, _). tests.clash can refl)))
-  where
-    given : writable e ≡ false → (r : Refusal) → refused notWritable ≡ refused r → RecordFault e (number r)
-    given cannot r h = let same : notWritable ≡ r = cc in rw (← same) (RecordFault.notWritable cannot)
+-- writing: what is refused, and what is written
+module _ (e : GtidEvent) where
+  pub write-given : (r : Refusal) → eventOutput e ≡ refused r → RecordFault e (number r)
+  unfolding eventOutput
+  write-given r h = tests.split (writable e)
+      (λ can. let two : bytes (eventBytes e) ≡ refused r = rw can at h in absurd (let z : _≡_ {A = ℕ} 0 1 = cc in omega arith))
+      (λ cannot.
+      let two : refused notWritable ≡ refused r = rw cannot at h in
+      let same : notWritable ≡ r = cc in
+      rw (← same) (RecordFault.notWritable cannot))
+
+  pub write-forced : (n : ℕ) → RecordFault e n → WriterRefuses (eventOutput e) n
+  unfolding eventOutput
+  write-forced n (RecordFault.notWritable cannot) = (notWritable, rw cannot, refl)
+
+  pub write-writes : (bs : List ℕ) → eventOutput e ≡ bytes bs → (writable e ≡ true) × (bs ≡ eventBytes e)
+  unfolding eventOutput
+  write-writes bs h = tests.split (writable e)
+      (λ can. let two : bytes (eventBytes e) ≡ bytes bs = rw can at h in (can, cc))
+      (λ cannot. let two : refused notWritable ≡ bytes bs = rw cannot at h in absurd (let z : _≡_ {A = ℕ} 0 1 = cc in omega arith))
+
+  pub write-written : (bs : List ℕ) → (writable e ≡ true) × (bs ≡ eventBytes e) → eventOutput e ≡ bytes bs
+  unfolding eventOutput
+  write-written bs (can, is) = rw (can, is)
 
 pub events-exact : EventsExact
 events-exact = record {
   «with_tag» = tag-exact;
   «new_tagged» = new-exact;
   read = event-exact;
-  write = write-exact;
+  write = λ e out. writes-exactly (eventOutput e) out (RecordFault e) _ (write-given e) (write-forced e) (write-writes e) (write-written e);
   length = length-exact;
 }

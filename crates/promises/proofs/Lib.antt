@@ -33,6 +33,7 @@ pub mod LaidBody
 pub mod IntegersExact
 pub mod SetsExact
 pub mod BodiesExact
+pub mod ArchiveExact
 pub mod OrdersHold
 pub mod OneOutcome
 pub mod ShutOut

@@ -1,7 +1,7 @@
 -- What follows from `specs/Exact.antt`: no two cases with different numbers hold at once, and a call accepts exactly where no case holds. And by the
 -- layouts alone: every event either is laid out, as one record of one length, or has a fault, of one number; never both.
 use Prim.Native.Nat.{ℕ}
-use mathlib.Core.Path.{_≡_, refl, sym, ap, _∙_}
+use mathlib.Core.Path.{_≡_, refl, sym, _∙_}
 use mathlib.Core.List.{List}
 use mathlib.Core.Logic.{_⊎_, inl, inr}
 use lib.Dec.{eqb}
@@ -33,10 +33,9 @@ accepted {refusal} exactly = (
 pub one-write-case : {wrote : Wrote} {Fault : ℕ → ℕ → Type 0} → WritesExactly wrote Fault → {n m len other : ℕ} → Fault n len → Fault m other
     → (n ≡ m) × (len ≡ other)
 one-write-case exactly {n} {m} {len} {other} a b =
-    let first = exactly n len .1 a .0 in
-    let second = exactly m other .1 b .0 in
-    let same = sym first ∙ second in
-    (ap (λ (w : Wrote). w .refusal) same, ap (λ (w : Wrote). w .len) same)
+    let (first, long, _) = exactly n len .1 a in
+    let (second, wide, _) = exactly m other .1 b in
+    (sym first ∙ second, sym long ∙ wide)
 
 -- ---- of events
 

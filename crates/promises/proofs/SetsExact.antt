@@ -51,7 +51,7 @@ apart e = absurd (omega arith)
 -- ---- a lent set
 
 -- the bytes are a set, or they are none
-unfit-fault : (set : List ℕ) → lentSet set ≡ unfit → SetFault set 14
+pub unfit-fault : (set : List ℕ) → lentSet set ≡ unfit → SetFault set 14
 unfit-fault set lent = SetFault.noSet (λ s laid. apart (let clash : unfit ≡ form s = sym lent ∙ is-lent set s laid in cc))
 
 pub fault-unfit : (set : List ℕ) (n : ℕ) → SetFault set n → (n ≡ 14) × (lentSet set ≡ unfit)

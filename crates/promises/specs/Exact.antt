@@ -14,10 +14,10 @@ use Rattle.misc.specs.Le.{leAt, leBytes}
 use Rattle.misc.specs.Varlen.{varlenAt, varlenBytes}
 use Rattle.misc.specs.Signed.{sentAs, signedAt, naturalAt, intRead}
 use Rattle.misc.specs.Lenenc.{lenencAt, lenencBytes}
-use Rattle.misc.specs.Output.{bytes, answerOf}
+use Rattle.misc.specs.Output.{bytes, outputOf, answerOf}
 use Rattle.previous_gtids_event.specs.Entry.{Entry}
 use Rattle.previous_gtids_event.specs.Previous.{noneOrTag, intervalAt, previous}
-use Rattle.previous_gtids_event.specs.Rewrite.{bodyBytes, rewritten}
+use Rattle.previous_gtids_event.specs.Rewrite.{rewritten}
 use Rattle.previous_gtids_event.specs.Answers.{previousRead, headerRead, intervalRead}
 use Rattle.gtid_event.specs.Event.{withTag, newTagged}
 use Rattle.gtid_event.specs.declared.GtidEvent.{GtidEvent}
@@ -25,14 +25,20 @@ use Rattle.gtid_event_read.specs.Read.{gtid, gtidRead}
 use Rattle.gtid_event_write.specs.Writable.{writable}
 use Rattle.gtid_event_write.specs.Write.{eventBytes, eventOutput, lengthOf}
 use Rattle.gtid_sets.specs.Lent.{lentSet}
+use Rattle.gtid_sets.proofs.LentLaws.{Lends}
 use Rattle.set_check.specs.Check.{checkedOf}
-use Rattle.resume_set.specs.Answers.{setRead, contained, takenIn}
+use Rattle.resume_set.specs.Answers.{setRead, contained, takenIn, eventOf, offered, output}
 use Rattle.resume_set.specs.declared.Offered.{Offered}
+use Rattle.listing.specs.SetText.{setText, listedSet}
+use Rattle.listing.specs.EventText.{eventText, listing}
+use Rattle.abi.specs.Answers.{numbersOf}
+use Rattle.abi.specs.Flat.{flat, flatRead, readOutput, readUsed, writeOutput}
 use Rattle.resume_set_laws.specs.History.{Turn, Offering, member}
+use Rattle.promises.specs.Meaning.{RecordLaid}
 use Rattle.promises.specs.Faults.{EventFault}
 use Rattle.promises.specs.LaidBodyFaults.{BodyBad}
 use Rattle.promises.specs.PlainFaults.{FixedFault, VarlenFault, NaturalFault, LenencFault, OfBody, TagFault, RecordFault, ShortFault, WriteFault}
-use Rattle.promises.specs.SetFaults.{SetFault, BodyIs, TakeInFault, TakenInAs, OfferAnswer}
+use Rattle.promises.specs.SetFaults.{SetFault, RewrittenAs, TakeInFault, TakenInAs, OfferAnswer}
 
 -- either holds just if the other does
 abbrev pub Exactly : Type 0 → Type 0 → Type 0
@@ -42,9 +48,9 @@ Exactly A B = (A → B) × (B → A)
 abbrev pub RefusesExactly : ℕ → (ℕ → Type 0) → Type 0
 RefusesExactly refusal Fault = (n : ℕ) → Exactly ((refusal ≡ n) × (n ≡ 0 → ⊥)) (Fault n)
 
--- what a call that writes answers
+-- the same of a call that writes, with the length that it answers
 abbrev pub WritesExactly : Wrote → (ℕ → ℕ → Type 0) → Type 0
-WritesExactly wrote Fault = (n len : ℕ) → Exactly ((wrote ≡ record { refusal = n; len = len }) × (n ≡ 0 → ⊥)) (Fault n len)
+WritesExactly wrote Fault = (n len : ℕ) → Exactly ((wrote .refusal ≡ n) × (wrote .len ≡ len) × (n ≡ 0 → ⊥)) (Fault n len)
 
 -- ---- misc
 
@@ -84,7 +90,7 @@ pub record BodiesExact : Type 0 where
       → RefusesExactly (intervalRead (ofBody body (intervalAt body (first + 16 * index))) .refusal) (OfBody body (FixedFault 16 (drop (first + 16 * index) body)))
   pub rewrite : (body out : List ℕ) → Bytes body
       → WritesExactly (answerOf out (rewritten (previous body)))
-      (WriteFault (BodyBad body) (λ bs. (es : List Entry) × BodyIs body es × (bs ≡ bodyBytes es)) (length out))
+      (WriteFault (BodyBad body) (RewrittenAs body) (length out))
 
 -- ---- set_check and resume_set
 
@@ -94,6 +100,15 @@ pub record SetsExact : Type 0 where
   pub contains : (set uuid tag : List ℕ) (gno : ℕ) → RefusesExactly (contained (lentSet set) uuid tag gno .refusal) (SetFault set)
   pub «take_in» : (body out : List ℕ) → Bytes body
       → WritesExactly (answerOf out (takenIn (previous body))) (WriteFault (TakeInFault body) (TakenInAs body) (length out))
+
+-- ---- listing
+
+pub record ListingExact : Type 0 where
+  pub «list_set» : (word set out : List ℕ)
+      → WritesExactly (answerOf out (listedSet word (lentSet set)))
+      (WriteFault (SetFault set) (λ bs. (s : List Entry) × Lends set s × (bs ≡ setText word s)) (length out))
+  pub list : (type : ℕ) (body out : List ℕ) → WritesExactly (answerOf out (bytes (eventText type body))) (ShortFault (eventText type body) (length out))
+  pub «list_input» : (input out : List ℕ) → WritesExactly (answerOf out (bytes (listing input))) (ShortFault (listing input) (length out))
 
 -- ---- `offer`, and any in its place: every answer, and what it leaves in the output, exactly where its case holds
 
@@ -114,3 +129,33 @@ pub record AsksExactly (ask : Asking) : Type 0 where
 -- the one that `contains` promises
 abbrev pub asks : Asking
 asks set uuid tag gno = contained (lentSet set) uuid tag gno .present
+
+-- ---- the archive's calls (crate abi)
+
+-- a record in 116 bytes that is to be written
+pub data FlatFault (fields : List ℕ) : ℕ → Type 0 where
+  -- 12: it has another length, or isn't writable
+  otherSize : (length fields ≡ 116 → ⊥) → FlatFault fields 12
+  badRecord : {n : ℕ} → length fields ≡ 116 → RecordFault (flatRead fields) n → FlatFault fields n
+
+pub record ArchiveExact : Type 0 where
+  pub «gtid_read_varlen_uint» : (s : List ℕ) → Bytes s → RefusesExactly (uintRead (varlenAt s 0) .refusal) (VarlenFault s)
+  pub «gtid_check_set» : (set : List ℕ) → RefusesExactly (setRead (lentSet set) .refusal) (SetFault set)
+  pub «gtid_contains» : (set uuid tag : List ℕ) (gno : ℕ) → RefusesExactly (contained (lentSet set) uuid tag gno .refusal) (SetFault set)
+  pub «gtid_take_in» : (body out : List ℕ) → Bytes body
+      → WritesExactly (answerOf out (takenIn (previous body))) (WriteFault (TakeInFault body) (TakenInAs body) (length out))
+  pub «gtid_read_previous» : (body : List ℕ) → Bytes body → RefusesExactly (previousRead (previous body) .refusal) (BodyBad body)
+  pub «gtid_rewrite» : (body out : List ℕ) → Bytes body
+      → WritesExactly (answerOf out (rewritten (previous body))) (WriteFault (BodyBad body) (RewrittenAs body) (length out))
+  pub «gtid_list» : (input out : List ℕ) → WritesExactly (answerOf out (bytes (listing input))) (ShortFault (listing input) (length out))
+  -- its numbers tell every answer from every other
+  pub «gtid_offer» : (set : List ℕ) (type : ℕ) (body out : List ℕ) (a : Offered) (l : List ℕ) → Bytes body
+      → Exactly ((numbersOf (offered (lentSet set) (eventOf type body) (length out)) ≡ numbersOf a)
+      × (outputOf out (output (lentSet set) (eventOf type body)) ≡ l)) (OfferAnswer set type body out a l)
+  -- what it answers for 13 in the place of the bytes used is the length that is needed
+  pub «gtid_read» : (type : ℕ) (body out : List ℕ) → Bytes body
+      → WritesExactly (record { refusal = answerOf out (readOutput (gtid type body)) .refusal; len = readUsed (gtid type body) (length out) })
+      (WriteFault (EventFault type body) (λ bs. (e : GtidEvent) × (used : ℕ) × RecordLaid type body e used × (bs ≡ flat e)) (length out))
+  pub «gtid_write» : (fields out : List ℕ)
+      → WritesExactly (answerOf out (writeOutput fields))
+      (WriteFault (FlatFault fields) (λ bs. (length fields ≡ 116) × (writable (flatRead fields) ≡ true) × (bs ≡ eventBytes (flatRead fields))) (length out))

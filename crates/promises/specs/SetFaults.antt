@@ -31,10 +31,14 @@ pub data SetFault (set : List ℕ) : ℕ → Type 0 where
   -- 14: the bytes are no set
   noSet : ((s : List Entry) → Lends set s → ⊥) → SetFault set 14
 
--- ---- `take_in`
+-- ---- a body: its entries as they stand, and the set of all their ids
 
 abbrev pub BodyIs : List ℕ → List Entry → Type 0
 BodyIs body es = (length body ≤ bodyLimit) × WellFormed es × ((used : ℕ) × BodyLaid body es used)
+
+-- what `rewrite` writes
+pub data RewrittenAs (body : List ℕ) : List ℕ → Type 0 where
+  entries : {es : List Entry} → BodyIs body es → RewrittenAs body (bodyBytes es)
 
 pub data TakeInFault (body : List ℕ) : ℕ → Type 0 where
   -- 1, 6, 11: a fault of the body
@@ -44,7 +48,7 @@ pub data TakeInFault (body : List ℕ) : ℕ → Type 0 where
   -- 16: the set of all its ids breaks the set limits
   overLimits : {es : List Entry} → BodyIs body es → lawful es ≡ true → limits (takeIn es) ≡ breaks full → TakeInFault body 16
 
--- otherwise the set of all its ids is written
+-- what `take_in` writes
 pub data TakenInAs (body : List ℕ) : List ℕ → Type 0 where
   joined : {es : List Entry} → BodyIs body es → lawful es ≡ true → limits (takeIn es) ≡ fine → TakenInAs body (bodyBytes (takeIn es))
 
