@@ -5,42 +5,96 @@ use mathlib.Core.List.{List}
 use Prim.Native.Nat.{ℕ, zero, suc, _+_, _-_, _≤_, _<_}
 use native.Mathlib.Omega.{arith}
 use lib.ListN.{length}
-use lib.Dec.{leb}
+use lib.Dec.{eqb}
 use borrow.Author.Tests.{eq-eqb, ne-eqb}
-use Rattle.misc.specs.Refusal.{number, tooLong}
+use Rattle.misc.specs.Pick.{pick}
+use Rattle.misc.specs.Refusal.{Refusal, number}
 use Rattle.misc.specs.Parse.{Parse, refuse, parsed, refusalOf}
-use Rattle.misc.specs.Body.{bodyLimit, ofBody}
+use Rattle.misc.specs.Body.{ofBody}
 use Rattle.misc.specs.Le.{leAt}
 use Rattle.misc.proofs.BodyLaws.{body-fits, body-too-long}
 use Rattle.misc.proofs.LeLaws.{le-gone, le-here}
-use Rattle.misc.proofs.ParseLaws.{split, pick-parsed, no-zero}
+use Rattle.misc.proofs.ParseLaws.{split, no-zero}
 use Rattle.previous_gtids_event.specs.Entry.{Entry, entry}
 use Rattle.previous_gtids_event.specs.Previous.{entryAt}
 use Rattle.previous_gtids_event.specs.Answers.{headerRead, entryRead}
 use Rattle.previous_gtids_event.specs.declared.HeaderRead.{HeaderRead}
 use Rattle.previous_gtids_event.specs.declared.EntryRead.{EntryRead}
-use Rattle.previous_gtids_event.proofs.Reading.{was-read, was-not-read}
+use Rattle.previous_gtids_event.proofs.Reading.{was-read, was-not-read, headed}
 use Rattle.previous_gtids_reader.specs.declared.Cursor.{Cursor}
 use Rattle.previous_gtids_reader.specs.declared.Step.{Step}
-use Rattle.previous_gtids_reader.specs.Steps.{cursorAt, refusedCursor, cursorOf, startOf, refusedStep, endStep, entryStep, stepped, stepOf, onwards, cursorAfter, stepAfter}
+use Rattle.previous_gtids_reader.specs.Steps.{cursorAt, refusedCursor, cursorOf, startOf, refusedStep, endStep, entryStep, stepped, headedStep, stepOf, onwards, cursorAfter, stepAfter}
 
--- ---- the start
+-- what the body's header says
+abbrev pub says : List ℕ → HeaderRead
+says s = headerRead (ofBody s (leAt 8 s 0))
+
 header-says : (p : Parse ℕ) → headerRead p .refusal ≡ refusalOf p
 header-says (refuse x) = refl
 header-says (parsed h next) = refl
 
-module _ (s : List ℕ) (r : HeaderRead) (is : r ≡ headerRead (ofBody s (leAt 8 s 0))) where
-  pub start-refused : (r .refusal ≡ 0 → ⊥) → refusedCursor (r .refusal) ≡ startOf s
-  unfolding startOf
-  start-refused z =
-      let (x, e, told) = was-not-read headerRead (λ y. y .refusal) header-says (ofBody s (leAt 8 s 0)) r is z in
-      ap (λ (y : HeaderRead). refusedCursor (y .refusal)) told ∙ ap cursorOf (sym e)
+entry-says : (p : Parse Entry) → entryRead p .refusal ≡ refusalOf p
+entry-says (refuse x) = refl
+entry-says (parsed (entry k is) next) = refl
 
-  pub start-read : r .refusal ≡ 0 → cursorAt (r .tagged) (r .entries) 8 ≡ startOf s
-  unfolding startOf
-  start-read z =
-      let (h, next, e, told) = was-read headerRead (λ y. y .refusal) header-says (ofBody s (leAt 8 s 0)) r is z in
-      ap (λ (y : HeaderRead). cursorAt (y .tagged) (y .entries) 8) told ∙ ap cursorOf (sym e)
+module _ (s : List ℕ) (r : HeaderRead) (is : r ≡ says s) where
+  -- ---- from the answer for the header: where it is refused
+  module _ (z : r .refusal ≡ 0 → ⊥) where
+    -- the body's refusal
+    headerless : (x : Refusal) × (ofBody s (leAt 8 s 0) ≡ refuse x) × (r ≡ headerRead (refuse x))
+    headerless = was-not-read headerRead (λ y. y .refusal) header-says (ofBody s (leAt 8 s 0)) r is z
+
+    pub start-refused : refusedCursor (r .refusal) ≡ startOf s
+    unfolding startOf
+    start-refused = let (x, e, told) = headerless in ap (λ (y : HeaderRead). refusedCursor (y .refusal)) told ∙ ap cursorOf (sym e)
+
+    pub step-unbegun : (c : Cursor) → refusedStep (r .refusal) ≡ stepOf s c
+    unfolding stepOf
+    step-unbegun c = let (x, e, told) = headerless in ap (λ (y : HeaderRead). refusedStep (y .refusal)) told ∙ ap (headedStep s c) (sym e)
+
+  -- ---- and where it was read
+  module _ (z : r .refusal ≡ 0) where
+    header-read : (h : ℕ) × (next : ℕ) × (ofBody s (leAt 8 s 0) ≡ parsed h next) × (r ≡ headerRead (parsed h next))
+    header-read = was-read headerRead (λ y. y .refusal) header-says (ofBody s (leAt 8 s 0)) r is z
+
+    pub start-read : cursorAt (r .entries) 8 ≡ startOf s
+    unfolding startOf
+    start-read = let (h, next, e, told) = header-read in ap (λ (y : HeaderRead). cursorAt (y .entries) 8) told ∙ ap cursorOf (sym e)
+
+    module _ (c : Cursor) where
+      step-begun : stepOf s c ≡ pick (eqb (c .left) 0) (endStep (c .at)) (stepped (c .left) (entryAt (r .tagged) s (c .at)))
+      unfolding stepOf
+      step-begun =
+          let (h, next, e, told) = header-read in
+          ap (headedStep s c) e
+          ∙ sym (ap (λ (y : HeaderRead). pick (eqb (c .left) 0) (endStep (c .at)) (stepped (c .left) (entryAt (y .tagged) s (c .at)))) told)
+
+      pub step-end : c .left ≡ 0 → stepOf s c ≡ endStep (c .at)
+      step-end none = step-begun ∙ rw (eq-eqb (c .left) 0 none)
+
+      module _ (some : c .left ≡ 0 → ⊥) where
+        pub step-there : (p : Parse Entry) → entryAt (r .tagged) s (c .at) ≡ p → stepOf s c ≡ stepped (c .left) p
+        step-there p e = step-begun ∙ rw (ne-eqb (c .left) 0 some, e)
+
+        module _ (q : EntryRead) (told : q ≡ entryRead (ofBody s (entryAt (r .tagged) s (c .at)))) where
+          inside : q ≡ entryRead (entryAt (r .tagged) s (c .at))
+          inside = told ∙ ap entryRead (body-fits s (entryAt (r .tagged) s (c .at)) (headed s r is z .2))
+
+          pub step-refused : (q .refusal ≡ 0 → ⊥) → refusedStep (q .refusal) ≡ stepOf s c
+          step-refused ne =
+              let (x, e, are) = was-not-read entryRead (λ y. y .refusal) entry-says (entryAt (r .tagged) s (c .at)) q inside ne in
+              ap (λ (y : EntryRead). refusedStep (y .refusal)) are ∙ sym (step-there (refuse x) e)
+
+          pub step-read : q .refusal ≡ 0 → record { more = true; entry = q; cursor = cursorAt (c .left - 1) (q .next) } ≡ stepOf s c
+          step-read none =
+              let (a, next, e, are) = was-read entryRead (λ y. y .refusal) entry-says (entryAt (r .tagged) s (c .at)) q inside none in
+              go a next e are
+            where
+              go : (a : Entry) (next : ℕ) → entryAt (r .tagged) s (c .at) ≡ parsed a next → q ≡ entryRead (parsed a next)
+                  → record { more = true; entry = q; cursor = cursorAt (c .left - 1) (q .next) } ≡ stepOf s c
+              go (entry k is) next e are =
+                  ap (λ (y : EntryRead). record { more = true; entry = y; cursor = cursorAt (c .left - 1) (y .next) }) are
+                  ∙ sym (step-there (parsed (entry k is) next) e)
 
 -- a reader that is made of too long a body, or of one whose header is cut off, has the refusal at once; any other has none
 module _ (s : List ℕ) where
@@ -56,70 +110,65 @@ module _ (s : List ℕ) where
   unfolding startOf
   start-begun h k = ap (λ (p : Parse ℕ). cursorOf p .refusal) (body-fits s (leAt 8 s 0) k ∙ le-here 8 s 0 (omega arith))
 
--- ---- one step
-entry-says : (p : Parse Entry) → entryRead p .refusal ≡ refusalOf p
-entry-says (refuse x) = refl
-entry-says (parsed (entry k is) next) = refl
-
+-- the same refusal at every cursor, also at one that a caller made up
 module _ (s : List ℕ) (c : Cursor) where
-  pub step-unbegun : (c .refusal ≡ 0 → ⊥) → stepOf s c ≡ refusedStep (c .refusal)
+  pub step-too-long : 65536 < length s → stepOf s c ≡ refusedStep 11
   unfolding stepOf
-  step-unbegun h = rw (ne-eqb (c .refusal) 0 h)
+  step-too-long h = ap (headedStep s c) (body-too-long s (leAt 8 s 0) h)
 
-  module _ (begun : c .refusal ≡ 0) where
-    pub step-end : c .left ≡ 0 → stepOf s c ≡ endStep c
-    unfolding stepOf
-    step-end h = rw (eq-eqb (c .refusal) 0 begun, eq-eqb (c .left) 0 h)
+  pub step-cut : length s < 8 → stepOf s c ≡ refusedStep 1
+  unfolding stepOf
+  step-cut h = ap (headedStep s c) (body-fits s (leAt 8 s 0) (omega arith) ∙ le-gone 8 s 0 (omega arith))
 
-    module _ (some : c .left ≡ 0 → ⊥) where
-      pub step-there : (p : Parse Entry) → ofBody s (entryAt (c .tagged) s (c .at)) ≡ p → stepOf s c ≡ stepped c p
-      unfolding stepOf
-      step-there p e = rw (eq-eqb (c .refusal) 0 begun, ne-eqb (c .left) 0 some, e)
-
-      module _ (r : EntryRead) (is : r ≡ entryRead (ofBody s (entryAt (c .tagged) s (c .at)))) where
-        pub step-refused : (r .refusal ≡ 0 → ⊥) → refusedStep (r .refusal) ≡ stepOf s c
-        step-refused z =
-            let (x, e, told) = was-not-read entryRead (λ y. y .refusal) entry-says (ofBody s (entryAt (c .tagged) s (c .at))) r is z in
-            ap (λ (y : EntryRead). refusedStep (y .refusal)) told ∙ sym (step-there (refuse x) e)
-
-        pub step-read : r .refusal ≡ 0 → record { more = true; entry = r; cursor = cursorAt (c .tagged) (c .left - 1) (r .next) } ≡ stepOf s c
-        step-read z =
-            let (a, next, e, told) = was-read entryRead (λ y. y .refusal) entry-says (ofBody s (entryAt (c .tagged) s (c .at))) r is z in
-            go a next e told
-          where
-            go : (a : Entry) (next : ℕ) → ofBody s (entryAt (c .tagged) s (c .at)) ≡ parsed a next → r ≡ entryRead (parsed a next)
-                → record { more = true; entry = r; cursor = cursorAt (c .tagged) (c .left - 1) (r .next) } ≡ stepOf s c
-            go (entry k is) next e told =
-                ap (λ (y : EntryRead). record { more = true; entry = y; cursor = cursorAt (c .tagged) (c .left - 1) (y .next) }) told
-                ∙ sym (step-there (parsed (entry k is) next) e)
+  -- the refusal that a cursor tells changes no step
+  pub step-blind : stepOf s c ≡ stepOf s (cursorAt (c .left) (c .at))
+  unfolding stepOf
+  step-blind = go (ofBody s (leAt 8 s 0))
+    where
+      go : (p : Parse ℕ) → headedStep s c p ≡ headedStep s (cursorAt (c .left) (c .at)) p
+      go (refuse x) = refl
+      go (parsed h next) = refl
 
 -- ---- every step hands out an entry, refuses, or is the end
 
 -- the step at a cursor hands out an entry: the one that lies there, the whole of it
 pub record Hands (s : List ℕ) (c : Cursor) (e : Entry) : Type 0 where
   pub next : ℕ
-  pub whole : entryAt (c .tagged) s (c .at) ≡ parsed e next
-  pub is : stepOf s c ≡ entryStep (c .tagged) (c .left - 1) e next
+  pub whole : entryAt (says s .tagged) s (c .at) ≡ parsed e next
+  pub is : stepOf s c ≡ entryStep (c .left - 1) e next
 
--- what a step does: it hands out an entry, or refuses and tells nothing but the number, which is not 0, or is the end
+-- where a step's refusal comes from: the body's header, or the entry at the cursor's place
+pub data Faulty (s : List ℕ) (c : Cursor) : ℕ → Type 0 where
+  unheaded : (x : Refusal) → ofBody s (leAt 8 s 0) ≡ refuse x → Faulty s c (number x)
+  unread : (x : Refusal) → entryAt (says s .tagged) s (c .at) ≡ refuse x → Faulty s c (number x)
+
+-- what a step does: it hands out an entry, or refuses and tells nothing but the number, which is the body's, or is the end
 pub data Kind (s : List ℕ) (c : Cursor) : Type 0 where
   hands : (e : Entry) → Hands s c e → Kind s c
-  refuses : (n : ℕ) → (n ≡ 0 → ⊥) → stepOf s c ≡ refusedStep n → Kind s c
-  ends : stepOf s c ≡ endStep c → Kind s c
+  refuses : (n : ℕ) → Faulty s c n → stepOf s c ≡ refusedStep n → Kind s c
+  ends : stepOf s c ≡ endStep (c .at) → Kind s c
 
 pub step-kind : (s : List ℕ) (c : Cursor) → Kind s c
 step-kind s c =
-    split (c .refusal) 0
-    (λ h. split (c .left) 0
-    (λ k. ends (step-end s c (omega arith) (omega arith)))
-    (λ k. go (omega arith) (λ none. omega arith) (ofBody s (entryAt (c .tagged) s (c .at))) refl))
-    (λ h. refuses (c .refusal) (λ none. omega arith) (step-unbegun s c (λ none. omega arith)))
+    split (says s .refusal) 0
+    (λ h.
+    let z : says s .refusal ≡ 0 = omega arith in
+    split (c .left) 0
+    (λ k. ends (step-end s (says s) refl z c (omega arith)))
+    (λ k. read z (λ none. omega arith) (entryAt (says s .tagged) s (c .at)) refl))
+    (λ h.
+    let z : says s .refusal ≡ 0 → ⊥ = λ none. omega arith in
+    let (x, e, told) = headerless s (says s) refl z in
+    refuses (number x) (unheaded x e) (sym (step-unbegun s (says s) refl z c) ∙ ap (λ (y : HeaderRead). refusedStep (y .refusal)) told))
   where
-    go : c .refusal ≡ 0 → (c .left ≡ 0 → ⊥) → (p : Parse Entry) → ofBody s (entryAt (c .tagged) s (c .at)) ≡ p → Kind s c
-    go begun some (refuse x) e = refuses (number x) (no-zero x) (step-there s c begun some (refuse x) e)
-    go begun some (parsed a next) e =
-        let there = pick-parsed (leb (length s) bodyLimit) (entryAt (c .tagged) s (c .at)) tooLong a next e .1 in
-        hands a (record { next = next; whole = there; is = step-there s c begun some (parsed a next) e })
+    read : says s .refusal ≡ 0 → (c .left ≡ 0 → ⊥) → (p : Parse Entry) → entryAt (says s .tagged) s (c .at) ≡ p → Kind s c
+    read z some (refuse x) e = refuses (number x) (unread x e) (step-there s (says s) refl z c some (refuse x) e)
+    read z some (parsed a next) e = hands a (record { next = next; whole = e; is = step-there s (says s) refl z c some (parsed a next) e })
+
+-- a refusal is never 0
+pub faulty-told : {s : List ℕ} {c : Cursor} {n : ℕ} → Faulty s c n → n ≡ 0 → ⊥
+faulty-told (unheaded x e) = no-zero x
+faulty-told (unread x e) = no-zero x
 
 -- an entry that is handed out is no refusal, and not the end
 pub hands-told : (s : List ℕ) (c : Cursor) (e : Entry) → Hands s c e → (stepOf s c .more ≡ true) × (stepOf s c .entry .refusal ≡ 0)

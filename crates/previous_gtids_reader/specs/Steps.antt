@@ -1,6 +1,6 @@
 -- How the entries of a body are handed out, one step after another.
 use Prim.Native.Nat.{ℕ, zero, suc, _-_}
-use mathlib.Core.Bool.{Bool, true, false}
+use mathlib.Core.Bool.{true, false}
 use mathlib.Core.List.{List}
 use lib.Dec.{eqb}
 use Rattle.misc.specs.Pick.{pick}
@@ -15,17 +15,17 @@ use Rattle.previous_gtids_reader.specs.declared.Cursor.{Cursor}
 use Rattle.previous_gtids_reader.specs.declared.Step.{Step}
 
 -- a cursor with so many entries left at a place
-abbrev pub cursorAt : Bool → ℕ → ℕ → Cursor
-cursorAt tagged left at = record { refusal = 0; at = at; left = left; tagged = tagged }
+abbrev pub cursorAt : ℕ → ℕ → Cursor
+cursorAt left at = record { refusal = 0; at = at; left = left }
 
 abbrev pub refusedCursor : ℕ → Cursor
-refusedCursor refusal = record { refusal = refusal; at = 0; left = 0; tagged = false }
+refusedCursor refusal = record { refusal = refusal; at = 0; left = 0 }
 
 -- ---- the start: the first entry lies behind the header's eight bytes
 
 abbrev pub cursorOf : Parse ℕ → Cursor
 cursorOf (refuse r) = refusedCursor (number r)
-cursorOf (parsed header next) = cursorAt (saysTagged header) (saysCount header) 8
+cursorOf (parsed header next) = cursorAt (saysCount header) 8
 
 unfoldable pub startOf : List ℕ → Cursor
 startOf s = cursorOf (ofBody s (leAt 8 s 0))
@@ -38,26 +38,31 @@ emptyStep refusal c = record { more = false; entry = refusedEntry refusal; curso
 
 -- a refusal: all zero but for its number
 abbrev pub refusedStep : ℕ → Step
-refusedStep refusal = emptyStep refusal (cursorAt false 0 0)
+refusedStep refusal = emptyStep refusal (cursorAt 0 0)
 
--- nothing is left: no refusal, and the cursor is handed back
-abbrev pub endStep : Cursor → Step
-endStep c = emptyStep 0 c
+-- nothing is left at a place: no refusal
+abbrev pub endStep : ℕ → Step
+endStep at = emptyStep 0 (cursorAt 0 at)
 
 -- an entry that ends at a place, with so many left behind it
-abbrev pub entryStep : Bool → ℕ → Entry → ℕ → Step
-entryStep tagged left e next = record { more = true; entry = entryRead (parsed e next); cursor = cursorAt tagged left next }
+abbrev pub entryStep : ℕ → Entry → ℕ → Step
+entryStep left e next = record { more = true; entry = entryRead (parsed e next); cursor = cursorAt left next }
 
--- what reading the next entry gives
-abbrev pub stepped : Cursor → Parse Entry → Step
-stepped c (refuse r) = refusedStep (number r)
-stepped c (parsed e next) = entryStep (c .tagged) (c .left - 1) e next
+-- what reading the next entry gives, with so many left
+abbrev pub stepped : ℕ → Parse Entry → Step
+stepped left (refuse r) = refusedStep (number r)
+stepped left (parsed e next) = entryStep (left - 1) e next
 
+-- what the body's header comes to: a body that is refused is refused at every cursor; else the entry at the cursor's place is read as the
+-- header says
+abbrev pub headedStep : List ℕ → Cursor → Parse ℕ → Step
+headedStep s c (refuse r) = refusedStep (number r)
+headedStep s c (parsed header next) =
+    pick (eqb (c .left) 0) (endStep (c .at)) (stepped (c .left) (entryAt (saysTagged header) s (c .at)))
+
+-- the cursor's own refusal isn't looked at: a step's number comes from the body
 unfoldable pub stepOf : List ℕ → Cursor → Step
-stepOf s c =
-    pick (eqb (c .refusal) 0)
-    (pick (eqb (c .left) 0) (endStep c) (stepped c (ofBody s (entryAt (c .tagged) s (c .at)))))
-    (refusedStep (c .refusal))
+stepOf s c = headedStep s c (ofBody s (leAt 8 s 0))
 
 -- ---- steps one after another
 

@@ -7,17 +7,16 @@ ghost use mathlib.Core.Path.{_≡_};
 ghost use Rattle.previous_gtids_reader.specs.Steps.{startOf, emptyStep, stepOf, stepAfter};
 ghost use Rattle.previous_gtids_reader.specs.Held.{readerAt};
 
-// Where the next entry lies, how many are left, and whether they have tags. With a refusal the body could not be begun, and
-// every step repeats it.
+// Where the next entry lies, and how many are left. The refusal tells whoever makes a reader that its body could not be begun. No step
+// goes by it: each judges the body's header itself, so that the number of its refusal is the body's at any cursor.
 pub struct Cursor {
     pub refusal: u8,
     pub at: usize,
     pub left: u64,
-    pub tagged: bool,
 }
 
 // One step: whether it hands out an entry, the entry, and the cursor behind it. A caller moves on only if it does. Else the
-// entry is all zero but for its refusal, which tells a refusal from the end: at the end it is 0, and the cursor is the one
+// entry is all zero but for its refusal, which tells a refusal from the end: at the end it is 0, and the cursor has the place
 // that was asked at; with a refusal the cursor too is all zero.
 pub struct Step {
     pub more: bool,
@@ -55,14 +54,12 @@ pub fn start(body: &[u8]) -> Cursor
             refusal,
             at: 0,
             left: 0,
-            tagged: false,
         };
     }
     Cursor {
         refusal: 0,
         at: 8,
         left: header.entries,
-        tagged: header.tagged,
     }
 }
 
@@ -74,18 +71,25 @@ pub fn step_at(body: &[u8], cursor: Cursor) -> Step
         refusal: 0,
         at: 0,
         left: 0,
-        tagged: false,
     };
-    let refusal = cursor.refusal;
+    let header = header_of(body);
+    let refusal = header.refusal;
     if refusal != 0 {
         return empty_step(refusal, zero);
     }
+    let at = cursor.at;
     let left = cursor.left;
     if left == 0 {
-        return empty_step(0, cursor);
+        return empty_step(
+            0,
+            Cursor {
+                refusal: 0,
+                at,
+                left: 0,
+            },
+        );
     }
-    let tagged = cursor.tagged;
-    let entry = entry_at(body, cursor.at, tagged);
+    let entry = entry_at(body, at, header.tagged);
     let refused = entry.refusal;
     if refused != 0 {
         return empty_step(refused, zero);
@@ -98,7 +102,6 @@ pub fn step_at(body: &[u8], cursor: Cursor) -> Step
             refusal: 0,
             at: next,
             left: left - 1,
-            tagged,
         },
     }
 }

@@ -29,6 +29,7 @@ pub mod BodyPlaces
 pub mod BodyFaults
 pub mod BodyForced
 pub mod LaidBody
+pub mod StepNumbers
 -- every public function
 pub mod IntegersExact
 pub mod SetsExact
