@@ -12,11 +12,15 @@ use Rattle.misc.specs.Parse.{Bytes, refuse, parsed, many, part, bytesAt}
 use Rattle.misc.specs.Body.{bodyLimit}
 use Rattle.misc.specs.Le.{leAt}
 use Rattle.misc.specs.Varlen.{varlenAt}
+use Rattle.misc.specs.Forms.{Number, Form}
 use Rattle.misc.proofs.ParseLaws.{split, never, then-parsed, mapped-parsed, judged-parsed, bytes-parsed, bytes-here, bytes-gone, part-length}
 use Rattle.misc.proofs.BodyLaws.{bodyLimit-is}
 use Rattle.misc.proofs.LeLaws.{le-gone}
 use Rattle.misc.proofs.Forward.{varlen-forward}
 use Rattle.misc.proofs.Walk.{ahead, many-none, many-next}
+use Rattle.misc.proofs.Places.{From, from-start, from-size, from-room, from-next, from-part, part-from, Found, found-both}
+use Rattle.misc.proofs.FormsRead.{form-reads, number-reads}
+use Rattle.misc.proofs.Accepted.{form-read, number-found}
 use Rattle.packets.specs.Gno.{Interval}
 use Rattle.packets.specs.Key.{Key}
 use Rattle.previous_gtids_event.specs.Entry.{Entry, entry}
@@ -24,16 +28,10 @@ use Rattle.previous_gtids_event.specs.Previous.{noneOrTag, tagAt, keyAt, Head, 
 use Rattle.previous_gtids_event.proofs.Reading.{intervalsOf, intervals-here, intervals-gone, head-here, entry-here}
 use Rattle.promises.specs.Faults.{Item, Ends, AtEntry, AtInterval, Body, BodyFault}
 use Rattle.promises.specs.Exact.{Refuses, BodyLaidExact}
-use Rattle.promises.specs.Forms.{Form}
-use Rattle.promises.specs.UntaggedLayout.{Number}
 use Rattle.promises.specs.LaidFaults.{CutForm}
 use Rattle.promises.specs.LaidBodyFaults.{TagFront, EntryFront, EntriesFront, EntryBad, BodyBad}
 use Rattle.promises.proofs.Forces.{is-refused, many-stops}
-use Rattle.promises.proofs.FormsRead.{From, from-start, from-size, from-room, from-next, from-part, form-reads, part-from, Found, form-read}
 use Rattle.promises.proofs.BodyFaults.{body-faults}
-use Rattle.promises.proofs.UntaggedReads.{number-reads}
-use Rattle.promises.proofs.UntaggedAccepted.{number-found}
-use Rattle.promises.proofs.TaggedAccepted.{found-both}
 use Rattle.promises.proofs.LaidFaulty.{cut-form}
 use Rattle.promises.proofs.LaidRefused.{cut-ends}
 

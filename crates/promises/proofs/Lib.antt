@@ -15,7 +15,6 @@ pub mod EventForced
 pub mod BodyForced
 pub mod CallsForced
 -- the layouts of records: what is laid out is read, what is read is laid out
-pub mod FormsRead
 pub mod TaggedSaid
 pub mod TaggedReads
 pub mod TaggedAccepted

@@ -6,9 +6,8 @@ use mathlib.Core.Bool.{Bool, true, false}
 use mathlib.Core.List.{List, [], _++_}
 use lib.ListN.{length}
 use Rattle.misc.specs.Body.{bodyLimit}
+use Rattle.misc.specs.Forms.{Number, Form}
 use Rattle.previous_gtids_event.specs.Previous.{noneOrTag, saysTagged, saysCount}
-use Rattle.promises.specs.Forms.{Form}
-use Rattle.promises.specs.UntaggedLayout.{Number}
 use Rattle.promises.specs.LaidFaults.{CutForm}
 
 -- ---- entries that are in order
