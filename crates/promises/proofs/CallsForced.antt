@@ -7,6 +7,7 @@ use native.Mathlib.Omega.{arith}
 use lib.ListN.{length}
 use borrow.Author.Tests.{lt-leb}
 use Rattle.misc.specs.Refusal.{Refusal, ended, negative, badLead, badGno, full, notWritable}
+use Rattle.misc.specs.Parse.{Bytes}
 use Rattle.misc.specs.Signed.{signedAt, naturalAt}
 use Rattle.misc.specs.Lenenc.{lenencAt}
 use Rattle.misc.specs.declared.Wrote.{Wrote}
@@ -35,13 +36,13 @@ use Rattle.promises.proofs.PlainFaultsGiven.{integer-faults, write-faul
 
 -- ---- `take_in`
 
-take-in-forced : (body : List ℕ) (n : ℕ) → TakeInFault body n → WriterRefuses (takenIn (previous body)) n
-take-in-forced body n (TakeInFault.unread fault) = let (r, e, is) = body-forced body n fault in (r, rw e, is)
-take-in-forced body n (TakeInFault.gnoRule read bad) = (badGno, rw (read, bad), refl)
-take-in-forced body n (TakeInFault.overLimits read good over) = (full, rw (read, good, over), refl)
+take-in-forced : (body : List ℕ) (n : ℕ) → Bytes body → TakeInFault body n → WriterRefuses (takenIn (previous body)) n
+take-in-forced body n are (TakeInFault.unread fault) = let (r, e, is) = body-forced body are n fault in (r, rw e, is)
+take-in-forced body n are (TakeInFault.gnoRule read bad) = (badGno, rw (read, bad), refl)
+take-in-forced body n are (TakeInFault.overLimits read good over) = (full, rw (read, good, over), refl)
 
 pub take-in-exact : TakeInExact
-take-in-exact body n = ((λ (r, e, is). rw is at (take-in-faults body r e)), take-in-forced body n)
+take-in-exact body n are = ((λ (r, e, is). rw is at (take-in-faults body are r e)), take-in-forced body n are)
 
 -- ---- `offer`
 
@@ -129,9 +130,9 @@ plain-exact = record {
     λ (twelve, cannot). (notWritable, event-not-written e cannot, sym twelve),
   );
   measured = λ e n. answered (lengthOf e .refusal) 12 n (write-faults .measured e) (not-measured e) (λ z. omega arith);
-  rewrite = λ s n. (
-    λ (r, e, is). rw is at (body-faults s r (write-faults .rewrite s r e)),
-    λ fault. let (r, e, is) = body-forced s n fault in (r, rw e, is),
+  rewrite = λ s n are. (
+    λ (r, e, is). rw is at (body-faults s are r (write-faults .rewrite s r e)),
+    λ fault. let (r, e, is) = body-forced s are n fault in (r, rw e, is),
   );
   set = λ bs n. answered (setRead (lentSet bs) .refusal) 14 n (check-faults .set bs) (λ lent. rw lent) (λ z. omega arith);
   member = λ bs uuid tag gno n.

@@ -1,4 +1,4 @@
--- The demands hold of what our functions promise. Demand 1: `event-exact`, `event-laid-exact`, `body-exact`, `body-laid-exact`, `take-in-exact`, `offer-exact`,
+-- The demands hold of what our functions promise. Demand 1: `event-exact`, `event-laid-exact`, `body-laid-exact`, `take-in-exact`, `offer-exact`,
 -- `plain-exact`, `orders` and `zeros`. Demand 2: `records-mean`, `records-back`, `records-again`, `least-size`, `entries-back`, `entries-mean`.
 -- An event is laid out or has a fault, never both (`OneOutcome`). Wrong programs don't meet the demands (`ShutOut`).
 pub mod EdgesAgree
@@ -20,11 +20,10 @@ pub mod TaggedReads
 pub mod TaggedAccepted
 pub mod UntaggedReads
 pub mod UntaggedAccepted
--- the faults of events and bodies by the layouts
+-- the faults of events by the layouts
 pub mod LaidRefused
 pub mod LaidFaulty
 pub mod LaidUntagged
-pub mod LaidBody
 pub mod Demand2
 pub mod Demand3
 pub mod OneOutcome

@@ -8,7 +8,7 @@ use lib.Dec.{leb, eqb}
 use lib.ListN.{length}
 use borrow.Author.Tests.{leb-false, lt-leb}
 use Rattle.misc.specs.Refusal.{Refusal, number, smallPayload, tooLong, badGno, full}
-use Rattle.misc.specs.Parse.{Parse, refuse, parsed}
+use Rattle.misc.specs.Parse.{Bytes, Parse, refuse, parsed}
 use Rattle.misc.specs.Body.{bodyLimit}
 use Rattle.misc.specs.Output.{refused, outputOf, answerOf}
 use Rattle.misc.proofs.ParseLaws.{pick-either, byte-here}
@@ -47,8 +47,8 @@ limits-full s e = pick-either (leb (length s) maxEntries && leb (intervals s) ma
 
 -- ---- `take_in`
 
-pub take-in-faults : (body : List ℕ) (r : Refusal) → takenIn (previous body) ≡ refused r → TakeInFault body (number r)
-take-in-faults body r = go (previous body) refl
+pub take-in-faults : (body : List ℕ) → Bytes body → (r : Refusal) → takenIn (previous body) ≡ refused r → TakeInFault body (number r)
+take-in-faults body are r = go (previous body) refl
   where
     joined : (es : List Entry) (used : ℕ) (j : Judged) → previous body ≡ parsed es used → lawful es ≡ true → limits (takeIn es) ≡ j
         → savedIf j (bodyBytes (takeIn es)) ≡ refused r → TakeInFault body (number r)
@@ -59,7 +59,7 @@ take-in-faults body r = go (previous body) refl
         rw same (TakeInFault.overLimits read good (rw x-full at told))
 
     go : (p : Parse (List Entry)) → previous body ≡ p → takenIn p ≡ refused r → TakeInFault body (number r)
-    go (refuse x) read e = let same : x ≡ r = cc in TakeInFault.unread (body-faults body r (rw same at read))
+    go (refuse x) read e = let same : x ≡ r = cc in TakeInFault.unread (body-faults body are r (rw same at read))
     go (parsed es used) read e = pick-either (lawful es) e
         (λ good f. joined es used (limits (takeIn es)) read good refl f)
         (λ bad f. let same : r ≡ badGno = cc in rw same (TakeInFault.gnoRule read bad))

@@ -22,9 +22,9 @@ use Rattle.gtid_event_write.specs.Write.{eventOutput, lengthOf}
 use Rattle.gtid_sets.specs.Lent.{unfit, lentSet}
 use Rattle.resume_set.specs.Answers.{setRead, contained, takenIn, eventOf, offered}
 use Rattle.resume_set.specs.declared.Offered.the-variants.{Refused}
-use Rattle.promises.specs.Faults.{plain, varlen, Ends, EventFault, BodyFault}
+use Rattle.promises.specs.Faults.{plain, varlen, Ends, EventFault}
 use Rattle.promises.specs.LaidFaults.{EventBad}
-use Rattle.promises.specs.LaidBodyFaults.{BodyBad}
+use Rattle.promises.specs.BodyFaults.{BodyFault}
 use Rattle.promises.specs.PlainFaults.{NaturalFault, LenencFault, WriteFault}
 use Rattle.promises.specs.SetFaults.{TakeInFault, OfferFault}
 
@@ -49,17 +49,13 @@ EventExact = (type : ℕ) (s : List ℕ) (n : ℕ) → Bytes s → Exactly (Refu
 abbrev pub EventLaidExact : Type 0
 EventLaidExact = (type : ℕ) (s : List ℕ) (n : ℕ) → Bytes s → Exactly (Refuses (gtid type s) n) (EventBad type s n)
 
-abbrev pub BodyExact : Type 0
-BodyExact = (s : List ℕ) (n : ℕ) → Exactly (Refuses (previous s) n) (BodyFault s n)
-
--- the same by the layout alone
 abbrev pub BodyLaidExact : Type 0
-BodyLaidExact = (s : List ℕ) (n : ℕ) → Bytes s → Exactly (Refuses (previous s) n) (BodyBad s n)
+BodyLaidExact = (s : List ℕ) (n : ℕ) → Bytes s → Exactly (Refuses (previous s) n) (BodyFault s n)
 
 -- ---- `take_in` and `offer`
 
 abbrev pub TakeInExact : Type 0
-TakeInExact = (body : List ℕ) (n : ℕ) → Exactly (WriterRefuses (takenIn (previous body)) n) (TakeInFault body n)
+TakeInExact = (body : List ℕ) (n : ℕ) → Bytes body → Exactly (WriterRefuses (takenIn (previous body)) n) (TakeInFault body n)
 
 abbrev pub OfferExact : Type 0
 OfferExact = (set : List ℕ) (type : ℕ) (body : List ℕ) (room n len : ℕ)
@@ -76,7 +72,7 @@ pub record PlainExact : Type 0 where
       → Exactly ((answerOf out o ≡ record { refusal = n; len = len }) × (n ≡ 0 → ⊥)) (WriteFault out o n len)
   pub event : (e : GtidEvent) (n : ℕ) → Exactly (WriterRefuses (eventOutput e) n) ((n ≡ 12) × (writable e ≡ false))
   pub measured : (e : GtidEvent) (n : ℕ) → Exactly ((lengthOf e .refusal ≡ n) × (n ≡ 0 → ⊥)) ((n ≡ 12) × (writable e ≡ false))
-  pub rewrite : (s : List ℕ) (n : ℕ) → Exactly (WriterRefuses (rewritten (previous s)) n) (BodyFault s n)
+  pub rewrite : (s : List ℕ) (n : ℕ) → Bytes s → Exactly (WriterRefuses (rewritten (previous s)) n) (BodyFault s n)
   pub set : (bs : List ℕ) (n : ℕ) → Exactly ((setRead (lentSet bs) .refusal ≡ n) × (n ≡ 0 → ⊥)) ((n ≡ 14) × (lentSet bs ≡ unfit))
   pub member : (bs uuid tag : List ℕ) (gno n : ℕ)
       → Exactly ((contained (lentSet bs) uuid tag gno .refusal ≡ n) × (n ≡ 0 → ⊥)) ((n ≡ 14) × (lentSet bs ≡ unfit))

@@ -32,7 +32,8 @@ use Rattle.gtid_sets.specs.Run.{names, answer, after}
 use Rattle.gtid_sets.specs.Lent.{form, unfit, lentSet}
 use Rattle.resume_set.specs.Answers.{setRead, contained, saved, takenIn, eventOf, offered, output}
 use Rattle.resume_set.specs.declared.Offered.the-variants.{Refused}
-use Rattle.promises.specs.Faults.{Envelope, BodyFault}
+use Rattle.promises.specs.Faults.{Envelope}
+use Rattle.promises.specs.BodyFaults.{BodyFault}
 
 -- ---- `take_in`
 
