@@ -12,38 +12,39 @@ use Rattle.misc.specs.Parse.{Bytes, Parse, refuse, parsed}
 use Rattle.misc.specs.Output.{refused, bytes, answerOf}
 use Rattle.packets.proofs.Tests.{split}
 use Rattle.previous_gtids_event.specs.Entry.{Entry}
+use Rattle.previous_gtids_event.specs.Answers.{entryRead}
 use Rattle.gtid_event.specs.declared.GtidEvent.{GtidEvent}
 use Rattle.gtid_event_read.specs.Read.{gtid}
 use Rattle.gtid_event_write.specs.Writable.{writable}
 use Rattle.gtid_event_write.specs.Write.{eventBytes, eventOutput}
 use Rattle.gtid_event_laws.proofs.ReadWritable.{read-fits}
-use Rattle.gtid_sets.specs.Lent.{Lent, form, unfit, lentSet}
-use Rattle.gtid_sets.proofs.LentLaws.{Lends, lent-is, is-lent}
+use Rattle.gtid_sets.specs.Lent.{Lent, form, unfit, lentSet, SetLaid}
+use Rattle.gtid_sets.proofs.LentLaws.{lent-is, is-lent}
 use Rattle.resume_set.specs.declared.Offered.{Offered}
 use Rattle.resume_set.specs.declared.Offered.the-variants.{NoId, AlreadyThere, Taken, Refused}
 use Rattle.listing.specs.SetText.{setText, listedSet}
 use Rattle.listing.specs.EventText.{eventText, listing}
-use Rattle.abi.specs.Answers.{numbersOf}
+use Rattle.abi.specs.Answers.{numbersOf, entryIn}
 use Rattle.abi.specs.Flat.{flat, flatRead, readOutput, readUsed, writeOutput}
 use Rattle.abi.proofs.FlatLaws.{length-flat}
 use Rattle.promises.specs.Meaning.{RecordLaid}
 use Rattle.promises.specs.Faults.{EventFault}
-use Rattle.promises.specs.PlainFaults.{WriteFault}
+use Rattle.promises.specs.PlainFaults.{OfBody, HeadedFault, WriteFault}
 use Rattle.promises.specs.SetFaults.{SetFault}
-use Rattle.promises.specs.Exact.{WritesExactly, ListingExact, FlatFault, ArchiveExact}
+use Rattle.promises.specs.Exact.{RefusesExactly, WritesExactly, ListingExact, FlatFault, ArchiveExact}
 use Rattle.promises.proofs.Forces.{WriterRefuses}
 use Rattle.promises.proofs.Exactly.{short-exactly, writes-exactly}
 use Rattle.promises.proofs.Demand2.{records-mean}
 use Rattle.promises.proofs.EventExact.{event-refused, event-faulty}
 use Rattle.promises.proofs.IntegersExact.{write-given, write-forced, write-writes, write-written, integers-exact}
 use Rattle.promises.proofs.SetsExact.{apart, unfit-fault, fault-unfit, sets-exact, offers-exactly}
-use Rattle.promises.proofs.BodiesExact.{bodies-exact}
+use Rattle.promises.proofs.BodiesExact.{entry-good, headed-exact, bodies-exact}
 
 -- ---- a set's text
 
 module _ (word set : List ℕ) where
   abbrev Text : List ℕ → Type 0
-  Text bs = (s : List Entry) × Lends set s × (bs ≡ setText word s)
+  Text bs = (s : List Entry) × SetLaid set s × (bs ≡ setText word s)
 
   text-given : (r : Refusal) → listedSet word (lentSet set) ≡ refused r → SetFault set (number r)
   text-given r = go (lentSet set) refl
@@ -183,6 +184,12 @@ module _ (fields : List ℕ) where
   flat-written : (bs : List ℕ) → Event bs → writeOutput fields ≡ bytes bs
   flat-written bs (size, can, these) = this-size size ∙ write-written (flatRead fields) bs (can, these)
 
+-- ---- an entry at a place
+
+read-entry-exact : (body : List ℕ) (at : ℕ) → Bytes body → RefusesExactly (entryRead (entryIn body at) .refusal) (OfBody body (HeadedFault 1 at body))
+unfolding entryIn
+read-entry-exact body at are = headed-exact 1 body at are (λ p. entryRead p .refusal) (λ r. refl) entry-good
+
 pub archive-exact : ArchiveExact
 archive-exact = record {
   «gtid_read_varlen_uint» = λ s. integers-exact .«read_varlen_uint» s 0;
@@ -190,6 +197,7 @@ archive-exact = record {
   «gtid_contains» = sets-exact .contains;
   «gtid_take_in» = sets-exact .«take_in»;
   «gtid_read_previous» = bodies-exact .read;
+  «gtid_read_entry» = read-entry-exact;
   «gtid_rewrite» = bodies-exact .rewrite;
   «gtid_list» = listing-exact .«list_input»;
   «gtid_offer» = λ set type body out a l are.

@@ -102,4 +102,4 @@ entries-back body es used are read = read-again body are es used read
 
 pub entries-mean : EntriesMean previous
 unfolding bodyLimit
-entries-mean s es used are small = (read-laid s es used are, laid-read s es used small)
+entries-mean s es used are small = (read-laid s es used are, laid-read s es used are small)

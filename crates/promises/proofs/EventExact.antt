@@ -17,7 +17,7 @@ use Rattle.promises.specs.Faults.{EventFault}
 use Rattle.promises.specs.Exact.{RefusesExactly}
 use Rattle.promises.proofs.Gives.{Gives, refuse-gives, pick-gives}
 use Rattle.promises.proofs.Forces.{Refuses, is-refused, same-refused}
-use Rattle.promises.proofs.PlacesGiven.{untagged-stops, tagged-stops}
+use Rattle.promises.proofs.StopsGiven.{untagged-stops, tagged-stops}
 use Rattle.promises.proofs.UntaggedForced.{untagged-forced}
 use Rattle.promises.proofs.UntaggedFaulty.{untagged-stop, untagged-faulty}
 use Rattle.promises.proofs.TaggedRefused.{tagged-refused}

@@ -17,7 +17,7 @@ use Rattle.misc.proofs.LeLaws.{le-gone}
 use Rattle.misc.proofs.VarlenLaws.{varlen-past, varlen-cut}
 use Rattle.misc.proofs.LenencLaws.{lenenc-past, lenenc-led, led-2, led-3, led-8, led-none}
 use Rattle.packets.proofs.Tests as tests
-use Rattle.promises.proofs.Places.{varlen, lenenc, Ends}
+use Rattle.promises.proofs.Stops.{varlen, lenenc, Ends}
 
 -- ---- the language of reading and writing
 

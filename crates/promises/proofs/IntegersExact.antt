@@ -15,6 +15,9 @@ use Rattle.misc.specs.Signed.{meantBy, sentAs, signedAt, notNegative, naturalAt
 use Rattle.misc.specs.Lenenc.{lenencAt, lenencBytes}
 use Rattle.misc.specs.Output.{refused, bytes}
 use Rattle.misc.proofs.ParseLaws.{split}
+use Rattle.misc.proofs.Places.{from-first}
+use Rattle.misc.proofs.FormsRead.{form-some, form-reads}
+use Rattle.misc.proofs.Accepted.{form-read}
 use Rattle.misc.proofs.LeLaws.{le-gone}
 use Rattle.misc.proofs.VarlenLaws.{varlen-past}
 use Rattle.misc.proofs.SignedLaws.{natural-odd}
@@ -28,11 +31,10 @@ use Rattle.gtid_event_write.specs.Write.{eventBytes, eventOutput, lengthOf}
 use Rattle.promises.specs.Faults.{CutForm}
 use Rattle.promises.specs.PlainFaults.{FixedFault, VarlenFault, NaturalFault, LenencFault, TagFault, RecordFault}
 use Rattle.promises.specs.Exact.{RefusesExactly, IntegersExact, EventsExact}
-use Rattle.promises.proofs.Places.{lenenc, Ends}
+use Rattle.promises.proofs.Stops.{lenenc, Ends}
 use Rattle.promises.proofs.Gives.{Gives, le-gives, varlen-gives, lenenc-gives, then-gives, mapped-gives, parsed-gives, refuse-gives}
 use Rattle.promises.proofs.Forces.{Refuses, WriterRefuses, is-refused, lenenc-ends, lead-refused}
 use Rattle.promises.proofs.Exactly.{reads-exactly, judges-exactly, short-exactly, writes-exactly}
-use Rattle.promises.proofs.FormsRead.{from-first, form-some, form-reads, form-read}
 use Rattle.promises.proofs.TaggedRefused.{cut-ends}
 use Rattle.promises.proofs.TaggedFaulty.{gone, cut-form, signed-sent}
 use Rattle.promises.proofs.UntaggedFaulty.{lenenc-cut, cut-lenenc}

@@ -1,4 +1,5 @@
--- The demands hold of what our functions promise. Demand 1: `integers-exact`, `events-exact`, `bodies-exact`, `sets-exact`, `offers-exactly`, `asks-exactly`;
+-- The demands hold of what our functions promise. Demand 1: `integers-exact`, `events-exact`, `bodies-exact`, `reader-exact`, `sets-exact`,
+-- `offers-exactly`, `asks-exactly`, `listing-exact`, `archive-exact`;
 -- `orders`, `zeros` and `outputs`. Demand 2: `records-mean`, `records-back`, `records-again`, `least-size`, `entries-back`, `entries-mean`.
 -- Demand 3: `tells-history`, `replays`, `refusals-keep`. What is laid out has no fault, and one outcome (`OneOutcome`). Wrong programs don't meet the
 -- demands (`ShutOut`).
@@ -8,7 +9,6 @@ pub mod Gives
 pub mod Forces
 pub mod Exactly
 -- the layouts of records: what is laid out is read, what is read is laid out
-pub mod FormsRead
 pub mod TaggedSaid
 pub mod TaggedReads
 pub mod TaggedAccepted
@@ -17,23 +17,21 @@ pub mod UntaggedAccepted
 pub mod Demand2
 pub mod Demand3
 -- the faults of events
-pub mod Places
-pub mod PlacesGiven
+pub mod Stops
+pub mod StopsGiven
 pub mod UntaggedForced
 pub mod TaggedRefused
 pub mod TaggedFaulty
 pub mod UntaggedFaulty
 pub mod EventExact
 -- those of bodies
-pub mod BodyPlaces
 pub mod BodyFaults
 pub mod BodyForced
-pub mod LaidBody
-pub mod StepNumbers
 -- every public function
 pub mod IntegersExact
 pub mod SetsExact
 pub mod BodiesExact
+pub mod ReaderExact
 pub mod ArchiveExact
 pub mod OrdersHold
 pub mod OneOutcome

@@ -1,5 +1,5 @@
--- What follows from `specs/Exact.antt`: no two cases with different numbers hold at once, and a call accepts exactly where no case holds. And by the
--- layouts alone: every event either is laid out, as one record of one length, or has a fault, of one number; never both.
+-- What follows from `specs/Exact.antt`: no two cases with different numbers hold at once, a call accepts exactly where no case holds, and there is one
+-- offer. And by the layouts alone: every event either is laid out, as one record of one length, or has a fault, of one number; never both.
 use Prim.Native.Nat.{ℕ}
 use mathlib.Core.Path.{_≡_, refl, sym, _∙_}
 use mathlib.Core.List.{List}
@@ -12,9 +12,10 @@ use Rattle.misc.specs.declared.Wrote.{Wrote}
 use Rattle.packets.proofs.Tests.{split}
 use Rattle.gtid_event.specs.declared.GtidEvent.{GtidEvent}
 use Rattle.gtid_event_read.specs.Read.{gtid}
+use Rattle.resume_set_laws.specs.History.{Turn, Offering}
 use Rattle.promises.specs.Faults.{EventFault}
 use Rattle.promises.specs.Meaning.{RecordLaid}
-use Rattle.promises.specs.Exact.{Exactly, RefusesExactly, WritesExactly}
+use Rattle.promises.specs.Exact.{Exactly, RefusesExactly, WritesExactly, OffersExactly}
 use Rattle.promises.proofs.Forces.{refused-not-read}
 use Rattle.promises.proofs.EventExact.{event-refused, event-faulty}
 use Rattle.promises.proofs.Demand2.{records-mean}
@@ -36,6 +37,21 @@ one-write-case exactly {n} {m} {len} {other} a b =
     let (first, long, _) = exactly n len .1 a in
     let (second, wide, _) = exactly m other .1 b in
     (sym first ∙ second, sym long ∙ wide)
+
+pub accepted-write : {wrote : Wrote} {Fault : ℕ → ℕ → Type 0} → WritesExactly wrote Fault → Exactly (wrote .refusal ≡ 0) ((n len : ℕ) → Fault n len → ⊥)
+accepted-write {wrote} exactly = (
+  λ zero n len fault. let (is, _, some) = exactly n len .1 fault in some (sym is ∙ zero),
+  λ none. split (eqb (wrote .refusal) 0)
+      (λ zero. eqb-true (wrote .refusal) 0 zero)
+      (λ some. absurd (none (wrote .refusal) (wrote .len) (exactly (wrote .refusal) (wrote .len) .0 (refl, refl, eqb-false (wrote .refusal) 0 some)))),
+)
+
+-- ---- of offers: two that answer exactly by the cases are one
+
+pub same-offers : {f g : Offering} → OffersExactly f → OffersExactly g → (set : List ℕ) (t : Turn) → Bytes (t .body)
+    → (f .answers set t ≡ g .answers set t) × (f .leaves set t ≡ g .leaves set t)
+same-offers {f} {g} first second set t are =
+    first set t (g .answers set t) (g .leaves set t) are .1 (second set t (g .answers set t) (g .leaves set t) are .0 (refl, refl))
 
 -- ---- of events
 

@@ -11,6 +11,7 @@ use borrow.Author.Tests.{le-leb, lt-leb, le-ltb}
 use Rattle.misc.specs.Refusal.{Refusal, smallPayload, tooLong}
 use Rattle.misc.specs.Parse.{refuse}
 use Rattle.misc.specs.Body.{bodyLimit}
+use Rattle.misc.specs.Forms.{Form}
 use Rattle.misc.specs.Output.{outputOf, answerOf}
 use Rattle.packets.specs.Gno.{gnoTop, isGno}
 use Rattle.previous_gtids_event.specs.Entry.{Entry}
@@ -22,12 +23,11 @@ use Rattle.gtid_event_read.specs.Read.{gtid}
 use Rattle.gtid_event_read.proofs.TaggedLaws.{payload-small}
 use Rattle.gtid_event_write.specs.Writable.{writable}
 use Rattle.gtid_event_write.specs.Write.{eventOutput, lengthOf}
-use Rattle.gtid_sets.specs.Lent.{unfit, lentSet}
-use Rattle.gtid_sets.proofs.LentLaws.{Lends, is-lent}
+use Rattle.gtid_sets.specs.Lent.{unfit, lentSet, SetLaid}
+use Rattle.gtid_sets.proofs.LentLaws.{is-lent}
 use Rattle.resume_set.specs.Answers.{eventOf, offered}
 use Rattle.resume_set.specs.declared.Offered.the-variants.{Refused}
 use Rattle.promises.specs.Faults.{EventFault}
-use Rattle.promises.specs.Forms.{Form}
 use Rattle.promises.specs.Orders.{LongFirst, Orders, Zeros, Outputs}
 use Rattle.promises.proofs.TaggedRefused.{read-envelope, payload}
 use Rattle.promises.proofs.EventExact.{event-refused}
@@ -77,7 +77,7 @@ no-gno : (n : ℕ) → (n ≡ 0) ⊎ (gnoTop ≤ n) → isGno n ≡ false
 no-gno n (inl zero) = rw zero
 no-gno n (inr over) = rw (le-ltb n gnoTop over) (and-false (leb 1 n))
 
-event-next : (set : List ℕ) (s : List Entry) (type : ℕ) (body : List ℕ) (n room : ℕ) → Lends set s → EventFault type body n
+event-next : (set : List ℕ) (s : List Entry) (type : ℕ) (body : List ℕ) (n room : ℕ) → SetLaid set s → EventFault type body n
     → offered (lentSet set) (eventOf type body) room ≡ Refused n 0
 event-next set s type body n room laid fault =
     let (r, e, is) = event-refused type body n fault in
@@ -109,6 +109,9 @@ zeros r =
       header = refl;
       entry = refl;
       interval = refl;
+      start = refl;
+      step-header = λ s c. refl;
+      step-entry = λ left. refl;
       event-rest = λ s. refl;
       previous-rest = λ s. refl;
       checked = refl;

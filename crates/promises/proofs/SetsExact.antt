@@ -25,8 +25,8 @@ use Rattle.gtid_sets.specs.Set.{has, SetForm}
 use Rattle.gtid_sets.specs.TakeIn.{lawful, takeIn}
 use Rattle.gtid_sets.specs.Limits.{Judged, fine, breaks, isFine, limits, intervals, maxEntries, maxIntervals}
 use Rattle.gtid_sets.specs.Run.{anonymous, broken, names, after}
-use Rattle.gtid_sets.specs.Lent.{Lent, form, unfit, lentSet}
-use Rattle.gtid_sets.proofs.LentLaws.{Lends, lent-is, is-lent, lent-none}
+use Rattle.gtid_sets.specs.Lent.{Lent, form, unfit, lentSet, SetLaid}
+use Rattle.gtid_sets.proofs.LentLaws.{lent-is, is-lent, lent-none}
 use Rattle.gtid_sets.proofs.RunLaws.{answer-cases}
 use Rattle.set_check.specs.Check.{checkedOf}
 use Rattle.resume_set.specs.Answers.{setRead, contained, savedIf, takenIn, says, eventOf, fitting, offeredOf, outputFor, offered, output}
@@ -41,7 +41,8 @@ use Rattle.promises.specs.Exact.{RefusesExactly, SetsExact, OffersExactl
 use Rattle.promises.proofs.Forces.{WriterRefuses}
 use Rattle.promises.proofs.Exactly.{writes-exactly}
 use Rattle.promises.proofs.EventExact.{event-refused, event-faulty}
-use Rattle.promises.proofs.LaidBody.{body-laid-exact}
+use Rattle.promises.proofs.BodyFaults.{body-faults}
+use Rattle.promises.proofs.BodyForced.{body-forced}
 use Rattle.promises.proofs.Demand2.{records-mean, entries-mean}
 
 -- what two constructors make is not the same: `apart cc`
@@ -84,11 +85,10 @@ module _ (body : List ℕ) (are : Bytes body) where
   pub body-is : {es : List Entry} {used : ℕ} → previous body ≡ parsed es used → BodyIs body es
   body-is {es} {used} read =
       let short = body-short body read in
-      let (laid, formed) = entries-mean body es used are short .0 read in
-      (short, formed, (used, laid))
+      (short, (used, entries-mean body es used are short .0 read))
 
   pub body-read : {es : List Entry} → BodyIs body es → (used : ℕ) × (previous body ≡ parsed es used)
-  body-read {es} (short, formed, (used, laid)) = (used, entries-mean body es used are short .1 formed laid)
+  body-read {es} (short, (used, laid)) = (used, entries-mean body es used are short .1 laid)
 
   take-in-given : (r : Refusal) → takenIn (previous body) ≡ refused r → TakeInFault body (number r)
   take-in-given r = go (previous body) refl
@@ -104,13 +104,13 @@ module _ (body : List ℕ) (are : Bytes body) where
       go : (p : Parse (List Entry)) → previous body ≡ p → takenIn p ≡ refused r → TakeInFault body (number r)
       go (refuse x) read e =
           let same : x ≡ r = cc in
-          TakeInFault.badBody (body-laid-exact body (number r) are .0 (r, rw same at read, refl))
+          TakeInFault.badBody (body-faults body are r (rw same at read))
       go (parsed es used) read e = pick-either (lawful es) e
           (λ good f. joined es (body-is read) (limits (takeIn es)) good refl f)
           (λ bad f. let same : r ≡ badGno = cc in rw same (TakeInFault.gnoRule (body-is read) bad))
 
   take-in-forced : (n : ℕ) → TakeInFault body n → WriterRefuses (takenIn (previous body)) n
-  take-in-forced n (TakeInFault.badBody fault) = let (r, e, is) = body-laid-exact body n are .1 fault in (r, rw e, is)
+  take-in-forced n (TakeInFault.badBody fault) = let (r, e, is) = body-forced body are n fault in (r, rw e, is)
   take-in-forced n (TakeInFault.gnoRule is bad) = let (used, read) = body-read is in (badGno, rw (read, bad), refl)
   take-in-forced n (TakeInFault.overLimits is good over) = let (used, read) = body-read is in (full, rw (read, good, over), refl)
 
@@ -170,7 +170,7 @@ module _ (set : List ℕ) (type : ℕ) (body : List ℕ) (out : List ℕ) (are :
   abbrev Ours : Offered → List ℕ → Type 0
   Ours a l = (offered (lentSet set) (eventOf type body) (length out) ≡ a) × (outputOf out (output (lentSet set) (eventOf type body)) ≡ l)
 
-  module _ {s : List Entry} (laid : Lends set s) where
+  module _ {s : List Entry} (laid : SetLaid set s) where
     accepts : {after : List Entry} {case : ℕ → Offered} → Accepts s type body case after
         → (offered (lentSet set) (eventOf type body) (length out) ≡ fitting case (length (bodyBytes after)) (length out))
         × (output (lentSet set) (eventOf type body) ≡ bytes (bodyBytes after))
@@ -202,7 +202,7 @@ module _ (set : List ℕ) (type : ℕ) (body : List ℕ) (out : List ℕ) (are :
 
   -- ---- and an answer has its case
 
-  module _ {s : List Entry} (laid : Lends set s) where
+  module _ {s : List Entry} (laid : SetLaid set s) where
     fits-or-not : {after : List Entry} {case : ℕ → Offered} → Accepts s type body case after
         → OfferAnswer set type body out (fitting case (length (bodyBytes after)) (length out)) (outputOf out (bytes (bodyBytes after)))
     fits-or-not {after} ok = split (leb (length (bodyBytes after)) (length out))

@@ -47,6 +47,7 @@ use Rattle.promises.proofs.Demand2.{records-mean, one-record}
 use Rattle.promises.specs.WrongOnes.{refusesAll, constantRecord, madeUpCount, swapsClock, equalId, ignoresEqual, writesNothing, copiesItsSet, addsOnlyTheFirst, alwaysNoId, noIdForZero, asksTaggedOnly}
 use Rattle.promises.specs.Exact.{OffersExactly, AsksExactly}
 use Rattle.promises.proofs.SetsExact.{offers-exactly}
+use Rattle.promises.proofs.OneOutcome.{same-offers}
 
 -- ---- records: one that can be written, gno 2
 
@@ -239,10 +240,7 @@ small-0 (suc i) = omega arith
 -- an offer whose answers are exactly those of the cases answers as ours
 same-answer : (f : Offering) → OffersExactly f → (gno : ℕ) → Bytes (gno ∷ []) → (room : ℕ)
     → ours .answers none (offer gno room) ≡ f .answers none (offer gno room)
-same-answer f exactly gno small room =
-    let t = offer gno room in
-    let case = exactly none t (f .answers none t) (f .leaves none t) (body-bytes gno small) .0 (refl, refl) in
-    offers-exactly none t (f .answers none t) (f .leaves none t) (body-bytes gno small) .1 case .0
+same-answer f exactly gno small room = same-offers offers-exactly exactly none (offer gno room) (body-bytes gno small) .0
 
 takes-1 : ours .answers none (offer 1 48) ≡ Taken 48
 unfolding eventOf gtid bodyLimit untagged openingAt byteAt bytesAt leAt leOf lentSet previous saysTagged saysCount many limits maxEntries maxIntervals bodyBytes anyTag headerBytes entriesBytes leBytes entryBytes intervalsBytes uuidOf tagOf gnoTop

@@ -11,20 +11,21 @@ use lib.Seq.{drop-cons}
 use Rattle.misc.specs.Parse.{Bytes, parsed, part}
 use Rattle.misc.specs.Varlen.{trailingOnes, varlenAt}
 use Rattle.misc.specs.Signed.{sentAs, meantBy, signedAt}
+use Rattle.misc.specs.Forms.{Form}
 use Rattle.misc.proofs.ParseLaws.{split, mapped-parsed, part-length}
 use Rattle.misc.proofs.Bounds.{part-bytes}
 use Rattle.misc.proofs.SignedLaws.{sent-meant}
 use Rattle.misc.proofs.VarlenLaws.{trailingOnes-le}
 use Rattle.misc.proofs.Forward.{varlen-forward}
+use Rattle.misc.proofs.Places.{part-from, Found, found-size}
+use Rattle.misc.proofs.Accepted.{ones-low, ones-full, form-read}
 use Rattle.gtid_event_read.specs.declared.Fields.{Fields}
 use Rattle.gtid_event_read.specs.Fields.{Kind, anyNumber, upTo, natural, uuid, tag, unknown, fieldTable, kindOf, noFields}
-use Rattle.promises.proofs.Places.{Item, varlen, Ends, Reached, AtValue, Wanted, FieldStop, Envelope, TaggedStop}
-use Rattle.promises.specs.Forms.{Form}
+use Rattle.promises.proofs.Stops.{Item, varlen, Ends, Reached, AtValue, Wanted, FieldStop, Envelope, TaggedStop}
 use Rattle.promises.specs.TaggedLayout.{Sent, Value, hasTag}
 use Rattle.promises.specs.Faults.{CutForm, FieldsFront, ValueFault, FieldFault, TaggedFault}
-use Rattle.promises.proofs.FormsRead.{part-from, ones-low, ones-full, Found, form-read}
 use Rattle.promises.proofs.TaggedSaid.{tag-there}
-use Rattle.promises.proofs.TaggedAccepted.{found-size, items-found, Next, field-parts, fields-found}
+use Rattle.promises.proofs.TaggedAccepted.{items-found, Next, field-parts, fields-found}
 
 -- ---- the table of kinds, read backwards
 abbrev Of : Kind → ℕ → Type 0
@@ -192,7 +193,7 @@ module _ (s : List ℕ) (are : Bytes s) where
         size-is = x .holds;
         last-is = y .holds;
         whole = two-first some (v .version) ∙ ap (λ (l : List ℕ). 2 ∷ l) (x .is ∙ ap (λ (l : List ℕ). x .bytes ++ l) (y .is));
-        place = omega (arith, found-size s are x some, found-size s are y (x .inside), length-append (x .bytes) (y .bytes));
+        place = omega (arith, found-size s x some, found-size s y (x .inside), length-append (x .bytes) (y .bytes));
       }
 
   -- the payload's fields, and what is behind them

@@ -11,21 +11,22 @@ use Rattle.misc.specs.Refusal.{Refusal, ended, tooLarge, negative, unknownField
 use Rattle.misc.specs.Parse.{refuse, parsed, part}
 use Rattle.misc.specs.Varlen.{trailingOnes, varlenAt}
 use Rattle.misc.specs.Signed.{signedAt, naturalAt}
+use Rattle.misc.specs.Forms.{Form}
 use Rattle.misc.proofs.ParseLaws.{no-zero, bytes-here, bytes-gone}
 use Rattle.misc.proofs.SignedLaws.{natural-odd}
 use Rattle.misc.proofs.VarlenLaws.{varlen-past, varlen-cut}
+use Rattle.misc.proofs.Places.{From, from-start, from-size, from-room, from-next, from-part, from-first}
+use Rattle.misc.proofs.FormsRead.{ones-are, form-some, form-reads}
 use Rattle.gtid_event_read.specs.declared.Fields.{Fields}
 use Rattle.gtid_event_read.specs.Fields.{unknown, fieldTable, kindOf, noFields, limitedAt, uuidAt, tagAt, valueAt, fieldAt, fieldsOf}
 use Rattle.gtid_event_read.specs.Tagged.{payloadAt, tagged}
 use Rattle.gtid_event_read.proofs.Telling.{stopped, refused-by}
 use Rattle.gtid_event_read.proofs.FieldLaws.{FieldsSoFar, fields-start, fields-next, fields-stop}
 use Rattle.gtid_event_read.proofs.TaggedLaws.{tagged-gone, tagged-other, tagged-here, version-here, payload-small, payload-cut}
-use Rattle.promises.proofs.Places.{Reached, AtValue}
-use Rattle.promises.specs.Forms.{Form}
+use Rattle.promises.proofs.Stops.{Reached, AtValue}
 use Rattle.promises.specs.TaggedLayout.{Items}
 use Rattle.promises.specs.Faults.{CutForm, FieldsFront, ValueFault, FieldFault, TaggedFault}
 use Rattle.promises.proofs.Forces.{Refuses, is-refused, same-refused, many-stops}
-use Rattle.promises.proofs.FormsRead.{From, from-start, from-size, from-room, from-next, from-part, from-first, ones-are, form-some, form-reads}
 use Rattle.promises.proofs.TaggedSaid.{keptIn, keptAll, tag-there}
 use Rattle.promises.proofs.TaggedReads.{items-read, value-reads, valued, fields-read}
 

@@ -12,16 +12,17 @@ use Rattle.misc.specs.Pick.{pick}
 use Rattle.misc.specs.Parse.{Bytes, parsed, part}
 use Rattle.misc.specs.Le.{leOf}
 use Rattle.misc.specs.Mark.{hasBit, clearBit}
+use Rattle.misc.specs.Forms.{Number}
 use Rattle.misc.proofs.ParseLaws.{part-length}
 use Rattle.misc.proofs.LeLaws.{le-here, pow-bytes}
 use Rattle.misc.proofs.Bounds.{le-below}
+use Rattle.misc.proofs.Places.{From, from-size, from-room, from-next, from-part, from-first, part-from, Found}
 use Rattle.packets.proofs.Tests as tests
 use Rattle.packets.proofs.Tests.{and-true}
 use Rattle.gtid_event_read.specs.Untagged.{Pair, pair, timestampsAt}
-use Rattle.promises.proofs.Places.{Item, plain, lenenc, Ends, Later, Untagged, UntaggedStop}
-use Rattle.promises.specs.UntaggedLayout.{Number, PairIfLeft, LengthIfLeft}
+use Rattle.promises.proofs.Stops.{Item, plain, lenenc, Ends, Later, Untagged, UntaggedStop}
+use Rattle.promises.specs.UntaggedLayout.{PairIfLeft, LengthIfLeft}
 use Rattle.promises.specs.Faults.{CutLenenc, UntaggedFault}
-use Rattle.promises.proofs.FormsRead.{From, from-size, from-room, from-next, from-part, from-first, part-from, Found}
 use Rattle.promises.proofs.UntaggedReads.{marked, left-reads, length-reads}
 use Rattle.promises.proofs.UntaggedAccepted.{typecode, marked-is, left-found, length-found}
 use Rattle.promises.proofs.UntaggedForced.{timestamps-forward, length-forward}

@@ -20,7 +20,7 @@ use Rattle.gtid_event.specs.declared.GtidEvent.{GtidEvent}
 use Rattle.gtid_event_read.specs.Told.{laterAt}
 use Rattle.gtid_event_read.specs.Untagged.{Pair, pair, originalAfter, pairAt, timestampsAt, lengthAt, versionsAt, opened, clockAt, untagged}
 use Rattle.gtid_event_read.proofs.UntaggedLaws.{opening-here, untagged-gone, untagged-clock, clock-later}
-use Rattle.promises.proofs.Places.{Item, Ends, Later, Untagged, UntaggedStop}
+use Rattle.promises.proofs.Stops.{Item, Ends, Later, Untagged, UntaggedStop}
 use Rattle.promises.proofs.Forces.{Refuses, is-refused, lenenc-ends, lead-refused}
 
 module _ (s : List ℕ) where

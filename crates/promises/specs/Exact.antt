@@ -16,28 +16,29 @@ use Rattle.misc.specs.Signed.{sentAs, signedAt, naturalAt, intRead}
 use Rattle.misc.specs.Lenenc.{lenencAt, lenencBytes}
 use Rattle.misc.specs.Output.{bytes, outputOf, answerOf}
 use Rattle.previous_gtids_event.specs.Entry.{Entry}
-use Rattle.previous_gtids_event.specs.Previous.{noneOrTag, intervalAt, previous}
+use Rattle.previous_gtids_event.specs.Previous.{noneOrTag, intervalAt, entryAt, previous}
 use Rattle.previous_gtids_event.specs.Rewrite.{rewritten}
-use Rattle.previous_gtids_event.specs.Answers.{previousRead, headerRead, intervalRead}
+use Rattle.previous_gtids_event.specs.Answers.{previousRead, headerRead, entryRead, intervalRead}
+use Rattle.previous_gtids_reader.specs.declared.Cursor.{Cursor}
+use Rattle.previous_gtids_reader.specs.Steps.{startOf, stepOf, stepAfter}
 use Rattle.gtid_event.specs.Event.{withTag, newTagged}
 use Rattle.gtid_event.specs.declared.GtidEvent.{GtidEvent}
 use Rattle.gtid_event_read.specs.Read.{gtid, gtidRead}
 use Rattle.gtid_event_write.specs.Writable.{writable}
 use Rattle.gtid_event_write.specs.Write.{eventBytes, eventOutput, lengthOf}
-use Rattle.gtid_sets.specs.Lent.{lentSet}
-use Rattle.gtid_sets.proofs.LentLaws.{Lends}
+use Rattle.gtid_sets.specs.Lent.{lentSet, SetLaid}
 use Rattle.set_check.specs.Check.{checkedOf}
 use Rattle.resume_set.specs.Answers.{setRead, contained, takenIn, eventOf, offered, output}
 use Rattle.resume_set.specs.declared.Offered.{Offered}
 use Rattle.listing.specs.SetText.{setText, listedSet}
 use Rattle.listing.specs.EventText.{eventText, listing}
-use Rattle.abi.specs.Answers.{numbersOf}
+use Rattle.abi.specs.Answers.{numbersOf, entryIn}
 use Rattle.abi.specs.Flat.{flat, flatRead, readOutput, readUsed, writeOutput}
 use Rattle.resume_set_laws.specs.History.{Turn, Offering, member}
 use Rattle.promises.specs.Meaning.{RecordLaid}
 use Rattle.promises.specs.Faults.{EventFault}
-use Rattle.promises.specs.LaidBodyFaults.{BodyBad}
-use Rattle.promises.specs.PlainFaults.{FixedFault, VarlenFault, NaturalFault, LenencFault, OfBody, TagFault, RecordFault, ShortFault, WriteFault}
+use Rattle.promises.specs.BodyFaults.{EntryFault, BodyFault}
+use Rattle.promises.specs.PlainFaults.{FixedFault, VarlenFault, NaturalFault, LenencFault, OfBody, HeadedFault, NumberFault, TagFault, RecordFault, ShortFault, WriteFault}
 use Rattle.promises.specs.SetFaults.{SetFault, RewrittenAs, TakeInFault, TakenInAs, OfferAnswer}
 
 -- either holds just if the other does
@@ -84,13 +85,25 @@ pub record EventsExact : Type 0 where
 -- ---- previous_gtids_event
 
 pub record BodiesExact : Type 0 where
-  pub read : (body : List ℕ) → Bytes body → RefusesExactly (previousRead (previous body) .refusal) (BodyBad body)
+  pub read : (body : List ℕ) → Bytes body → RefusesExactly (previousRead (previous body) .refusal) (BodyFault body)
   pub «header_of» : (body : List ℕ) → RefusesExactly (headerRead (ofBody body (leAt 8 body 0)) .refusal) (OfBody body (FixedFault 8 body))
+  pub «entry_at» : (body : List ℕ) (at : ℕ) (tagged : Bool) → Bytes body
+      → RefusesExactly (entryRead (ofBody body (entryAt tagged body at)) .refusal) (OfBody body (EntryFault tagged (drop at body)))
   pub «interval_at» : (body : List ℕ) (first index : ℕ)
       → RefusesExactly (intervalRead (ofBody body (intervalAt body (first + 16 * index))) .refusal) (OfBody body (FixedFault 16 (drop (first + 16 * index) body)))
   pub rewrite : (body out : List ℕ) → Bytes body
       → WritesExactly (answerOf out (rewritten (previous body)))
-      (WriteFault (BodyBad body) (RewrittenAs body) (length out))
+      (WriteFault (BodyFault body) (RewrittenAs body) (length out))
+
+-- ---- previous_gtids_reader: a step's number comes from the body, whatever its cursor says of refusals
+
+pub record ReaderExact : Type 0 where
+  pub start : (body : List ℕ) → RefusesExactly (startOf body .refusal) (OfBody body (FixedFault 8 body))
+  pub «step_at» : (body : List ℕ) (c : Cursor) → Bytes body
+      → RefusesExactly (stepOf body c .entry .refusal) (OfBody body (HeadedFault (c .left) (c .at) body))
+  pub next : (body : List ℕ) (c : Cursor) → Bytes body → RefusesExactly (stepOf body c .entry .refusal) (OfBody body (HeadedFault (c .left) (c .at) body))
+  pub «entry_number» : (body : List ℕ) (index : ℕ) → Bytes body
+      → RefusesExactly (stepAfter body index .entry .refusal) (OfBody body (NumberFault index body))
 
 -- ---- set_check and resume_set
 
@@ -106,7 +119,7 @@ pub record SetsExact : Type 0 where
 pub record ListingExact : Type 0 where
   pub «list_set» : (word set out : List ℕ)
       → WritesExactly (answerOf out (listedSet word (lentSet set)))
-      (WriteFault (SetFault set) (λ bs. (s : List Entry) × Lends set s × (bs ≡ setText word s)) (length out))
+      (WriteFault (SetFault set) (λ bs. (s : List Entry) × SetLaid set s × (bs ≡ setText word s)) (length out))
   pub list : (type : ℕ) (body out : List ℕ) → WritesExactly (answerOf out (bytes (eventText type body))) (ShortFault (eventText type body) (length out))
   pub «list_input» : (input out : List ℕ) → WritesExactly (answerOf out (bytes (listing input))) (ShortFault (listing input) (length out))
 
@@ -144,9 +157,10 @@ pub record ArchiveExact : Type 0 where
   pub «gtid_contains» : (set uuid tag : List ℕ) (gno : ℕ) → RefusesExactly (contained (lentSet set) uuid tag gno .refusal) (SetFault set)
   pub «gtid_take_in» : (body out : List ℕ) → Bytes body
       → WritesExactly (answerOf out (takenIn (previous body))) (WriteFault (TakeInFault body) (TakenInAs body) (length out))
-  pub «gtid_read_previous» : (body : List ℕ) → Bytes body → RefusesExactly (previousRead (previous body) .refusal) (BodyBad body)
+  pub «gtid_read_previous» : (body : List ℕ) → Bytes body → RefusesExactly (previousRead (previous body) .refusal) (BodyFault body)
+  pub «gtid_read_entry» : (body : List ℕ) (at : ℕ) → Bytes body → RefusesExactly (entryRead (entryIn body at) .refusal) (OfBody body (HeadedFault 1 at body))
   pub «gtid_rewrite» : (body out : List ℕ) → Bytes body
-      → WritesExactly (answerOf out (rewritten (previous body))) (WriteFault (BodyBad body) (RewrittenAs body) (length out))
+      → WritesExactly (answerOf out (rewritten (previous body))) (WriteFault (BodyFault body) (RewrittenAs body) (length out))
   pub «gtid_list» : (input out : List ℕ) → WritesExactly (answerOf out (bytes (listing input))) (ShortFault (listing input) (length out))
   -- its numbers tell every answer from every other
   pub «gtid_offer» : (set : List ℕ) (type : ℕ) (body out : List ℕ) (a : Offered) (l : List ℕ) → Bytes body

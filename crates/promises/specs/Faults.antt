@@ -6,10 +6,10 @@ use mathlib.Core.List.{List, [], _∷_, _++_}
 use mathlib.Core.Logic.{_⊎_}
 use lib.ListN.{length}
 use Rattle.misc.specs.Body.{bodyLimit}
+use Rattle.misc.specs.Forms.{Number, Ones, Form}
 use Rattle.packets.specs.Tag.{isTag}
-use Rattle.promises.specs.Forms.{Ones, Form}
 use Rattle.promises.specs.TaggedLayout.{Sent, Items, Value, FieldsLaid, hasTag}
-use Rattle.promises.specs.UntaggedLayout.{Number, PairIfLeft, LengthIfLeft}
+use Rattle.promises.specs.UntaggedLayout.{PairIfLeft, LengthIfLeft}
 
 -- ---- integers that the bytes end inside
 

@@ -11,13 +11,16 @@ use Rattle.misc.specs.Parse.{Bytes, refuse, uintRead}
 use Rattle.misc.specs.Signed.{intRead}
 use Rattle.misc.specs.Body.{bodyLimit, ofBody, unreadOf}
 use Rattle.misc.specs.Le.{leAt}
+use Rattle.misc.specs.Forms.{Form}
 use Rattle.misc.specs.Output.{refused, bytes, outputOf, answerOf}
 use Rattle.packets.specs.Gno.{gnoTop}
 use Rattle.packets.specs.Tag.{isTag}
 use Rattle.previous_gtids_event.specs.Entry.{Entry}
 use Rattle.previous_gtids_event.specs.Previous.{intervalAt, entryAt, previous}
 use Rattle.previous_gtids_event.specs.Rewrite.{rewritten}
-use Rattle.previous_gtids_event.specs.Answers.{previousRead, headerRead, entryRead, intervalRead}
+use Rattle.previous_gtids_event.specs.Answers.{previousRead, headerRead, refusedEntry, entryRead, intervalRead}
+use Rattle.previous_gtids_reader.specs.declared.Cursor.{Cursor}
+use Rattle.previous_gtids_reader.specs.Steps.{cursorOf, stepped, headedStep}
 use Rattle.gtid_event.specs.Event.{noEvent, withTag, newTagged}
 use Rattle.gtid_event.specs.declared.GtidEvent.{GtidEvent}
 use Rattle.gtid_event_read.specs.Tagged.{tagged}
@@ -25,12 +28,10 @@ use Rattle.gtid_event_read.specs.Read.{gtid, gtidRead}
 use Rattle.gtid_event_write.specs.Writable.{writable}
 use Rattle.gtid_event_write.specs.Write.{eventOutput, lengthOf}
 use Rattle.gtid_sets.specs.TakeIn.{lawful, takeIn}
-use Rattle.gtid_sets.specs.Lent.{unfit, lentSet}
-use Rattle.gtid_sets.proofs.LentLaws.{Lends}
+use Rattle.gtid_sets.specs.Lent.{unfit, lentSet, SetLaid}
 use Rattle.set_check.specs.Check.{checkedOf}
 use Rattle.resume_set.specs.Answers.{setRead, contained, saved, takenIn, eventOf, offered, output}
 use Rattle.resume_set.specs.declared.Offered.the-variants.{Refused}
-use Rattle.promises.specs.Forms.{Form}
 use Rattle.promises.specs.Faults.{EventFault}
 use Rattle.promises.specs.SetFaults.{SetFault, BodyIs, Names}
 
@@ -60,10 +61,10 @@ pub record Orders : Type 0 where
   pub set-first : (set : List ℕ) → SetFault set 14 → (type : ℕ) (body : List ℕ) (room : ℕ)
       → (offered (lentSet set) (eventOf type body) room ≡ Refused 14 0) × (output (lentSet set) (eventOf type body) ≡ refused notASet)
   -- then the event's own refusals, whatever the output
-  pub event-next : (set : List ℕ) (s : List Entry) (type : ℕ) (body : List ℕ) (n room : ℕ) → Lends set s → EventFault type body n
+  pub event-next : (set : List ℕ) (s : List Entry) (type : ℕ) (body : List ℕ) (n room : ℕ) → SetLaid set s → EventFault type body n
       → offered (lentSet set) (eventOf type body) room ≡ Refused n 0
   -- then 15, whatever the set holds and whatever the output: "already there" and 16 are judged after it
-  pub gno-next : (set : List ℕ) (s : List Entry) (type : ℕ) (body : List ℕ) (e : GtidEvent) (room : ℕ) → Bytes body → Lends set s → Names type body e
+  pub gno-next : (set : List ℕ) (s : List Entry) (type : ℕ) (body : List ℕ) (e : GtidEvent) (room : ℕ) → Bytes body → SetLaid set s → Names type body e
       → (e .gno ≡ 0) ⊎ (gnoTop ≤ e .gno) → offered (lentSet set) (eventOf type body) room ≡ Refused 15 0
 
 -- ---- what else a refusal answers: `noEvent` is the record that is all zero
@@ -79,6 +80,10 @@ pub record Zeros (r : Refusal) : Type 0 where
       entryRead (refuse r)
       ≡ record { refusal = number r; uuid = replicate 16 0; tag = replicate 32 0; «tag_len» = 0; intervals = 0; first = 0; next = 0 }
   pub interval : intervalRead (refuse r) ≡ record { refusal = number r; start = 0; end = 0 }
+  pub start : cursorOf (refuse r) ≡ record { refusal = number r; at = 0; left = 0 }
+  -- a step of the reader: nothing more, no entry, and the cursor at 0 with nothing left
+  pub step-header : (s : List ℕ) (c : Cursor) → headedStep s c (refuse r) ≡ record { more = false; entry = refusedEntry (number r); cursor = record { refusal = 0; at = 0; left = 0 } }
+  pub step-entry : (left : ℕ) → stepped left (refuse r) ≡ record { more = false; entry = refusedEntry (number r); cursor = record { refusal = 0; at = 0; left = 0 } }
   -- nothing is handed out as the unread part
   pub event-rest : (s : List ℕ) → unreadOf {A = GtidEvent} s (refuse r) ≡ []
   pub previous-rest : (s : List ℕ) → unreadOf {A = List Entry} s (refuse r) ≡ []

@@ -2,16 +2,19 @@
 -- call's place on. No parser is named here.
 use Prim.Native.Nat.{ℕ, _+_, _*_, _≤_, _<_}
 use mathlib.Core.Path.{_≡_}
-use mathlib.Core.Bool.{false}
+use mathlib.Core.Bool.{Bool, false}
 use mathlib.Core.List.{List, [], _∷_, _++_}
 use mathlib.Core.Logic.{_⊎_}
-use lib.ListN.{length}
+use lib.ListN.{length, drop}
 use Rattle.misc.specs.Body.{bodyLimit}
+use Rattle.misc.specs.Forms.{Form}
 use Rattle.packets.specs.Tag.{isTag}
+use Rattle.previous_gtids_event.specs.Entry.{Entry}
+use Rattle.previous_gtids_event.specs.Layout.{HeaderLaid, EntriesLaid}
 use Rattle.gtid_event.specs.declared.GtidEvent.{GtidEvent}
 use Rattle.gtid_event_write.specs.Writable.{writable}
-use Rattle.promises.specs.Forms.{Form}
 use Rattle.promises.specs.Faults.{CutForm, CutLenenc}
+use Rattle.promises.specs.BodyFaults.{EntryFault}
 
 -- ---- one integer
 
@@ -44,6 +47,21 @@ pub data OfBody (body : List ℕ) (Fault : ℕ → Type 0) : ℕ → Type 0 wher
   -- 11: a body over 65,536 bytes
   tooLong : bodyLimit < length body → OfBody body Fault 11
   inPart : {n : ℕ} → length body ≤ bodyLimit → Fault n → OfBody body Fault n
+
+-- the entry at a place, with tags if the header says so; `left` says how many entries are wanted there, and where none is, only the header is read
+pub data HeadedFault (left at : ℕ) (body : List ℕ) : ℕ → Type 0 where
+  -- 1: the body ends inside the header
+  cutHeader : length body < 8 → HeadedFault left at body 1
+  -- 1, 6: a fault of the entry
+  inEntry : {tagged : Bool} {count n : ℕ} {header : List ℕ} (rest : List ℕ) → body ≡ header ++ rest → HeaderLaid tagged count header → (left ≡ 0 → ⊥)
+      → EntryFault tagged (drop at body) n → HeadedFault left at body n
+
+-- entry number `index`, from 0 on, behind all before it
+pub data NumberFault (index : ℕ) (body : List ℕ) : ℕ → Type 0 where
+  cutHeader : length body < 8 → NumberFault index body 1
+  -- 1, 6: a fault of this entry or of one before it, among those that the header counts
+  inEntries : {tagged : Bool} {count n : ℕ} {es : List Entry} {header front rest : List ℕ} → body ≡ header ++ (front ++ rest) → HeaderLaid tagged count header
+      → EntriesLaid tagged es front → length es ≤ index → length es < count → EntryFault tagged rest n → NumberFault index body n
 
 -- ---- a tag that is added, and a record that is to be written
 

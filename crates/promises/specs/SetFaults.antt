@@ -11,17 +11,16 @@ use Rattle.packets.specs.Gno.{isGno}
 use Rattle.packets.specs.Key.{Key}
 use Rattle.previous_gtids_event.specs.Entry.{Entry}
 use Rattle.previous_gtids_event.specs.Rewrite.{bodyBytes}
-use Rattle.previous_gtids_event.proofs.Laying.{WellFormed}
-use Rattle.previous_gtids_event.proofs.RoundTrip.{BodyLaid}
+use Rattle.previous_gtids_event.specs.Layout.{BodyLaid}
 use Rattle.gtid_event.specs.declared.GtidEvent.{GtidEvent}
 use Rattle.gtid_sets.specs.Set.{has, add}
 use Rattle.gtid_sets.specs.TakeIn.{lawful, takeIn}
 use Rattle.gtid_sets.specs.Limits.{fine, breaks, limits}
-use Rattle.gtid_sets.proofs.LentLaws.{Lends}
+use Rattle.gtid_sets.specs.Lent.{SetLaid}
 use Rattle.resume_set.specs.declared.Offered.{Offered}
 use Rattle.resume_set.specs.declared.Offered.the-variants.{NoId, AlreadyThere, Taken, Refused}
 use Rattle.promises.specs.Faults.{EventFault}
-use Rattle.promises.specs.LaidBodyFaults.{BodyBad}
+use Rattle.promises.specs.BodyFaults.{BodyFault}
 use Rattle.promises.specs.Meaning.{RecordLaid}
 use Rattle.promises.specs.PlainFaults.{ShortFault}
 
@@ -29,12 +28,12 @@ use Rattle.promises.specs.PlainFaults.{ShortFault}
 
 pub data SetFault (set : List ℕ) : ℕ → Type 0 where
   -- 14: the bytes are no set
-  noSet : ((s : List Entry) → Lends set s → ⊥) → SetFault set 14
+  noSet : ((s : List Entry) → SetLaid set s → ⊥) → SetFault set 14
 
 -- ---- a body: its entries as they stand, and the set of all their ids
 
 abbrev pub BodyIs : List ℕ → List Entry → Type 0
-BodyIs body es = (length body ≤ bodyLimit) × WellFormed es × ((used : ℕ) × BodyLaid body es used)
+BodyIs body es = (length body ≤ bodyLimit) × ((used : ℕ) × BodyLaid body es used)
 
 -- what `rewrite` writes
 pub data RewrittenAs (body : List ℕ) : List ℕ → Type 0 where
@@ -42,7 +41,7 @@ pub data RewrittenAs (body : List ℕ) : List ℕ → Type 0 where
 
 pub data TakeInFault (body : List ℕ) : ℕ → Type 0 where
   -- 1, 6, 11: a fault of the body
-  badBody : {n : ℕ} → BodyBad body n → TakeInFault body n
+  badBody : {n : ℕ} → BodyFault body n → TakeInFault body n
   -- 15: an interval breaks the gno rule
   gnoRule : {es : List Entry} → BodyIs body es → lawful es ≡ false → TakeInFault body 15
   -- 16: the set of all its ids breaks the set limits
@@ -79,18 +78,18 @@ pub data OfferFault (set : List ℕ) (type : ℕ) (body : List ℕ) (room : ℕ)
   -- 14: the lent bytes are no set
   badSet : {n : ℕ} → SetFault set n → OfferFault set type body room n 0
   -- 1 to 11: a fault of the event
-  badEvent : {s : List Entry} {n : ℕ} → Lends set s → EventFault type body n → OfferFault set type body room n 0
+  badEvent : {s : List Entry} {n : ℕ} → SetLaid set s → EventFault type body n → OfferFault set type body room n 0
   -- 15: the event's gno breaks the gno rule, whatever the set holds
-  gnoRule : {s : List Entry} {e : GtidEvent} → Lends set s → Names type body e → isGno (e .gno) ≡ false → OfferFault set type body room 15 0
+  gnoRule : {s : List Entry} {e : GtidEvent} → SetLaid set s → Names type body e → isGno (e .gno) ≡ false → OfferFault set type body room 15 0
   -- 16: the set with the event's id, which it has not, breaks the set limits
-  overLimits : {s : List Entry} {e : GtidEvent} → Lends set s → Names type body e → isGno (e .gno) ≡ true → has s (keyOf e) (e .gno) ≡ false
+  overLimits : {s : List Entry} {e : GtidEvent} → SetLaid set s → Names type body e → isGno (e .gno) ≡ true → has s (keyOf e) (e .gno) ≡ false
       → limits (add (keyOf e) (e .gno) s) ≡ breaks full → OfferFault set type body room 16 0
   -- 13: the set after the event has more bytes than the output
-  noRoom : {s after : List Entry} {case : ℕ → Offered} {n len : ℕ} → Lends set s → Accepts s type body case after → ShortFault (bodyBytes after) room n len
+  noRoom : {s after : List Entry} {case : ℕ → Offered} {n len : ℕ} → SetLaid set s → Accepts s type body case after → ShortFault (bodyBytes after) room n len
       → OfferFault set type body room n len
 
 -- every answer, and what the output holds then: as it was after a refusal, else the set after the event at its front
 pub data OfferAnswer (set : List ℕ) (type : ℕ) (body : List ℕ) (out : List ℕ) : Offered → List ℕ → Type 0 where
   refused : {n len : ℕ} → OfferFault set type body (length out) n len → OfferAnswer set type body out (Refused n len) out
-  accepted : {s after : List Entry} {case : ℕ → Offered} → Lends set s → Accepts s type body case after → length (bodyBytes after) ≤ length out
+  accepted : {s after : List Entry} {case : ℕ → Offered} → SetLaid set s → Accepts s type body case after → length (bodyBytes after) ≤ length out
       → OfferAnswer set type body out (case (length (bodyBytes after))) (bodyBytes after ++ drop (length (bodyBytes after)) out)

@@ -23,7 +23,7 @@ use Rattle.gtid_event_read.specs.declared.Fields.{Fields}
 use Rattle.gtid_event_read.specs.Fields.{Kind, anyNumber, upTo, natural, uuid, tag, unknown, fieldTable, kindOf, noFields, limitedAt, uuidAt, tagAt, valueAt, fieldAt, fieldsFrom, fieldsOf}
 use Rattle.gtid_event_read.specs.Untagged.{pair, ifLeft, originalAfter, pairAt, timestampsAt, lengthAt, versionsAt, openingAt, clockAt, typecodeAt, untagged}
 use Rattle.gtid_event_read.specs.Tagged.{finished, payloadAt, tagged}
-use Rattle.promises.proofs.Places.{plain, varlen, lenenc, Ends, Later, AtLength, AtVersions, Untagged, UntaggedStop, Reached, AtValue, AtUuidItem, Wanted, FieldStop, Envelope, TaggedStop}
+use Rattle.promises.proofs.Stops.{plain, varlen, lenenc, Ends, Later, AtLength, AtVersions, Untagged, UntaggedStop, Reached, AtValue, AtUuidItem, Wanted, FieldStop, Envelope, TaggedStop}
 use Rattle.promises.proofs.Gives.{Gives, le-parsed, refuse-gives, parsed-gives, then-gives, then-at-gives, mapped-gives, pick-gives, judged-gives, many-gives, bytes-gives, byte-gives, le-gives, then-le-gives, varlen-gives, sized-gives, lenenc-gives}
 
 -- ---- an untagged event
