@@ -23,7 +23,7 @@ use Rattle.gtid_sets.specs.Interval.{Gapped}
 use Rattle.gtid_sets.specs.Set.{SetForm, inSetForm, join}
 use Rattle.gtid_sets.specs.TakeIn.{Lawful, joinAll, union, takeIn}
 use Rattle.gtid_sets.specs.Limits.{intervals, fine, isFine, limits, longestSet}
-use Rattle.gtid_sets.specs.Lent.{Lent, form, unfit, isForm, lentRead, lentSet, GoodKeys}
+use Rattle.gtid_sets.specs.Lent.{Lent, form, unfit, isForm, lentRead, lentSet, GoodKeys, SetLaid}
 use Rattle.gtid_sets.proofs.SetLaws.{join-before, join-into, join-after}
 use Rattle.gtid_sets.proofs.TakeInLaws.{form-takeIn}
 use Rattle.gtid_sets.proofs.FormLaws.{form-holds, form-tests}
@@ -64,21 +64,14 @@ module _ (s : List Entry) (f : SetForm s) (g : GoodKeys s) (h : limits s ≡ fin
 
 -- ---- what is lent is a set
 
--- the bytes are those of a set in set form, within the limits
-pub record Lends (bs : List ℕ) (s : List Entry) : Type 0 where
-  pub written : bs ≡ bodyBytes s
-  pub formed : SetForm s
-  pub keyed : GoodKeys s
-  pub limited : limits s ≡ fine
-
 no-form : {P : Type 0} {s : List Entry} → unfit ≡ form s → P
 no-form h = let z : _≡_ {A = ℕ} 0 1 = cc in absurd (omega arith)
 
-pub lent-is : (bs : List ℕ) (s : List Entry) → lentSet bs ≡ form s → Lends bs s
+pub lent-is : (bs : List ℕ) (s : List Entry) → lentSet bs ≡ form s → SetLaid bs s
 unfolding lentSet
 lent-is bs s = go (previous bs) refl
   where
-    go : (p : Parse (List Entry)) → previous bs ≡ p → lentRead bs p ≡ form s → Lends bs s
+    go : (p : Parse (List Entry)) → previous bs ≡ p → lentRead bs p ≡ form s → SetLaid bs s
     go (refuse r) e h = no-form h
     go (parsed t next) e h = pick-either (isForm bs t) h
         (λ k is. let same-set : t ≡ s = cc in
@@ -93,11 +86,11 @@ lent-is bs s = go (previous bs) refl
         (λ k is. no-form is)
 
 -- and the other way round
-pub is-lent : (bs : List ℕ) (s : List Entry) → Lends bs s → lentSet bs ≡ form s
+pub is-lent : (bs : List ℕ) (s : List Entry) → SetLaid bs s → lentSet bs ≡ form s
 is-lent bs s i = ap lentSet (i .written) ∙ lent-back s (i .formed) (i .keyed) (i .limited)
 
 -- bytes that lend no set are unfit
-pub lent-none : (bs : List ℕ) → ((s : List Entry) → Lends bs s → ⊥) → lentSet bs ≡ unfit
+pub lent-none : (bs : List ℕ) → ((s : List Entry) → SetLaid bs s → ⊥) → lentSet bs ≡ unfit
 lent-none bs none = go (lentSet bs) refl
   where
     go : (l : Lent) → lentSet bs ≡ l → l ≡ unfit

@@ -1,30 +1,34 @@
--- What the reader accepts is an item of the layout: the bytes used are those of the value, in the form of their number.
+-- What the readers accept are forms of the layout (`specs/Forms.antt`), and so is what is written.
 use mathlib.Core.Path.{_≡_, refl, sym, ap, _∙_}
-use mathlib.Core.List.{List, [], _∷_}
+use mathlib.Core.Bool.{Bool, true, false}
+use mathlib.Core.List.{List, [], _∷_, _++_, append-nil}
 use Prim.Native.Nat.{ℕ, zero, suc, _+_, _-_, _*_, _/_, _%_, _^_, _≤_, _<_}
-use native.Mathlib.Nat.{pow-suc}
+use native.Mathlib.Nat.{pow-suc, zero-add}
 use native.Mathlib.Numerals.{add-one}
-use native.Mathlib.Decide.{decLt, decLe}
 use native.Mathlib.Omega.{arith}
-use lib.Pow.{pow-pos, split, mod-pow-add}
+use lib.Pow.{pow-pos, mod-pow-add}
 use lib.ListN.{length, getD}
 use lib.Seq.{drop-cons}
-use borrow.Author.Tests.{lt-ltb, ltb-true, eqb-true}
+use borrow.Author.Tests.{lt-ltb, le-ltb, ltb-true, eqb-true}
 use lib.Dec.{ltb, eqb}
 use lib.IntN.{ℤ}
+use Rattle.misc.specs.Pick.{pick}
 use Rattle.misc.specs.Parse.{Bytes, parsed, part, bytesAt, byteAt}
 use Rattle.misc.specs.Le.{leOf, leBytes, leAt}
 use Rattle.misc.specs.Lenenc.{ledAt, lenencAt}
 use Rattle.misc.specs.Signed.{sentAs, meantBy, signedAt}
-use Rattle.misc.proofs.ParseLaws.{never, pick-either, then-parsed, mapped-parsed, bytes-parsed, byte-parsed, part-length}
-use Rattle.misc.proofs.Bounds.{part-bytes}
+use Rattle.misc.specs.Varlen.{above, trailingOnes, itemValue, varlenAt, varlenSize, itemOf, varlenBytes}
+use Rattle.misc.specs.Forms.{Number, Ones, Form, LenencForm}
+use Rattle.misc.proofs.ParseLaws.{split, never, pick-either, then-parsed, mapped-parsed, bytes-parsed, byte-parsed, part-length}
+use Rattle.misc.proofs.Bounds.{part-bytes, leBytes-bytes}
+use Rattle.misc.proofs.LeLaws.{length-leBytes, leOf-leBytes}
 use Rattle.misc.proofs.SignedLaws.{sent-meant}
-use Rattle.misc.specs.Varlen.{above, trailingOnes, varlenAt, itemOf}
-use Rattle.misc.proofs.RoundTrip.{ones-mod}
-use Rattle.misc.proofs.VarlenLaws.{varlen-past, varlen-cut, varlen-narrow, varlen-nine, trailingOnes-le}
+use Rattle.misc.proofs.RoundTrip.{varlen-written}
+use Rattle.misc.proofs.VarlenLaws.{trailingOnes-le}
+use Rattle.misc.proofs.Places.{Found, part-from, found-whole}
 
 -- a number with t trailing ones has those ones and a zero for its lowest bits
-ones-low : (k x t : ℕ) → t ≡ trailingOnes k x → t < k → x % 2 ^ (t + 1) ≡ 2 ^ t - 1
+pub ones-low : (k x t : ℕ) → t ≡ trailingOnes k x → t < k → Ones t x
 unfolding trailingOnes
 ones-low zero x t e h = absurd (omega arith)
 ones-low (suc k) x t e h = go (ones-low k (x / 2) (trailingOnes k (x / 2)) refl) (x % 2) refl e
@@ -41,7 +45,7 @@ ones-low (suc k) x t e h = go (ones-low k (x / 2) (trailingOnes k (x / 2)) refl)
         let same : suc u + 1 ≡ u + 1 + 1 = omega arith in
         rw (q, same, parts, ih, odd) (omega (arith, pow-suc 2 u))
 
-ones-full : (k x : ℕ) → k ≡ trailingOnes k x → x % 2 ^ k ≡ 2 ^ k - 1
+pub ones-full : (k x : ℕ) → k ≡ trailingOnes k x → x % 2 ^ k ≡ 2 ^ k - 1
 unfolding trailingOnes
 ones-full zero x e = omega arith
 ones-full (suc k) x e = go (ones-full k (x / 2)) (x % 2) refl e
@@ -64,88 +68,11 @@ all-bytes (b ∷ bs) h =
     let others : (b + 256 * leOf bs) / 256 ≡ leOf bs = omega arith in
     rw (first, others, all-bytes bs (λ i. h (suc i)))
 
-narrow-item : (t v : ℕ) → t < 8 → itemOf (t + 1) v ≡ leBytes (t + 1) (v * 2 ^ (t + 1) + (2 ^ t - 1))
-unfolding itemOf
-narrow-item t v h =
-    let e : t + 1 - 1 ≡ t = omega arith in
-    simp (lt-ltb (t + 1) 9 (omega arith), e)
-
--- what is accepted: n bytes from position at on, which are v as an item of n bytes
-pub record Item (s : List ℕ) (at v next : ℕ) : Type 0 where
-  pub size : ℕ
-  pub some : 1 ≤ size
-  pub most : size ≤ 9
-  pub ends : next ≡ at + size
-  pub within : next ≤ length s
-  pub bytes : part s at size ≡ itemOf size v
-
 module _ (s : List ℕ) (at : ℕ) (are-bytes : Bytes s) where
   -- the bytes are those of the number that they spell
   pub part-is : (n : ℕ) → at + n ≤ length s → leBytes n (leOf (part s at n)) ≡ part s at n
   part-is n h = ap (λ (k : ℕ). leBytes k (leOf (part s at n))) (sym (part-length n s at h)) ∙ all-bytes (part s at n) (part-bytes s at n are-bytes)
 
-  first-is : (n : ℕ) → at < length s → leOf (part s at (n + 1)) % 256 ≡ getD s at 0
-  unfolding leOf
-  first-is n h = rw (add-one, drop-cons s at 0 h) (omega (arith, are-bytes at))
-
-module _ (s : List ℕ) (at : ℕ) (are-bytes : Bytes s) (v next : ℕ) (read : varlenAt s at ≡ parsed v next) where
-  accepted-narrow : (t : ℕ) → t ≡ trailingOnes 8 (getD s at 0) → at < length s → at + (t + 1) ≤ length s → t < 8 → Item s at v next
-  accepted-narrow t ones inside room small =
-      let x = leOf (part s at (t + 1)) in
-      let law = varlen-narrow s at t inside ones room small in
-      let value : v ≡ x / 2 ^ (t + 1) = cc in
-      let end : next ≡ at + (t + 1) = cc in
-      let first : getD s at 0 ≡ x % 256 = sym (first-is s at are-bytes t inside) in
-      let low : x % 2 ^ (t + 1) ≡ 2 ^ t - 1 = ones-low 8 x t (ones ∙ ap (trailingOnes 8) first ∙ ones-mod 8 x) small in
-      let whole : v * 2 ^ (t + 1) + (2 ^ t - 1) ≡ x =
-      ap (λ (y : ℕ). y * 2 ^ (t + 1) + (2 ^ t - 1)) value ∙ ap (λ (y : ℕ). x / 2 ^ (t + 1) * 2 ^ (t + 1) + y) (sym low) ∙ split x (t + 1) in
-      record {
-        size = t + 1;
-        some = omega arith;
-        most = omega arith;
-        ends = end;
-        within = omega arith;
-        bytes = sym (part-is s at are-bytes (t + 1) room) ∙ sym (narrow-item t v small ∙ ap (leBytes (t + 1)) whole);
-      }
-
-  accepted-nine : (t : ℕ) → t ≡ trailingOnes 8 (getD s at 0) → at < length s → at + 9 ≤ length s → t ≡ 8 → Item s at v next
-  unfolding itemOf
-  accepted-nine t ones inside room e =
-      let law = varlen-nine s at t inside ones room e in
-      let value : v ≡ leOf (part s (at + 1) 8) = cc in
-      let end : next ≡ at + 9 = cc in
-      let full = ones-full 8 (getD s at 0) (sym e ∙ ones) in
-      let lead : getD s at 0 ≡ 255 = omega (arith, are-bytes at) in
-      let rest : part s (at + 1) 8 ≡ leBytes 8 v = sym (part-is s (at + 1) are-bytes 8 (omega arith)) ∙ ap (leBytes 8) (sym value) in
-      let split-lead : part s at 9 ≡ getD s at 0 ∷ part s (at + 1) 8 = rw (drop-cons s at 0 inside, add-one) in
-      record {
-        size = 9;
-        some = omega arith;
-        most = omega arith;
-        ends = end;
-        within = omega arith;
-        bytes = split-lead ∙ ap (λ (b : ℕ). b ∷ part s (at + 1) 8) lead ∙ ap (λ (l : List ℕ). 255 ∷ l) rest;
-      }
-
-  -- every accepted item is one of the layout
-  pub accepted : Item s at v next
-  accepted = go (trailingOnes 8 (getD s at 0)) refl (trailingOnes-le 8 (getD s at 0)) (decLt at (length s))
-    where
-      go : (t : ℕ) → t ≡ trailingOnes 8 (getD s at 0) → t ≤ 8 → Dec (at < length s) → Item s at v next
-      go t ones most (no out) =
-          never (sym (varlen-past s at (omega (arith, out))) ∙ read)
-      go t ones most (yes inside) = inner (decLe (at + (t + 1)) (length s)) (decLt t 8)
-        where
-          inner : Dec (at + (t + 1) ≤ length s) → Dec (t < 8) → Item s at v next
-          inner (no short) b =
-              never (sym (varlen-cut s at t inside ones (omega (arith, short))) ∙ read)
-          inner (yes room) (yes small) = accepted-narrow t ones inside room small
-          inner (yes room) (no big) =
-              let nine : t ≡ 8 = omega (arith, big) in
-              accepted-nine t ones inside (omega arith) nine
-
--- ---- fixed, signed and length-encoded integers
-module _ (s : List ℕ) (at : ℕ) (are-bytes : Bytes s) where
   -- n bytes, which are those of the value
   pub le-accepted : (n v next : ℕ) → leAt n s at ≡ parsed v next → (part s at n ≡ leBytes n v) × (next ≡ at + n) × (next ≤ length s)
   unfolding leAt
@@ -153,50 +80,123 @@ module _ (s : List ℕ) (at : ℕ) (are-bytes : Bytes s) where
       let (bs, p, q) = mapped-parsed leOf (bytesAt n s at) v next e in
       let h = bytes-parsed n s at bs next p in
       let spelt : leOf (part s at n) ≡ v = ap leOf (h .1) ∙ sym q in
-      (sym (part-is s at are-bytes n (h .0)) ∙ ap (leBytes n) spelt, sym (h .2), omega arith)
+      (sym (part-is n (h .0)) ∙ ap (leBytes n) spelt, sym (h .2), omega arith)
 
-  -- an item of the number as it is sent
-  pub signed-accepted : (z : ℤ) (next : ℕ) → signedAt s at ≡ parsed z next → Item s at (sentAs z) next
+-- ---- fixed and length-encoded integers
+module _ (s : List ℕ) where
+  pub number-found : (n at v next : ℕ) → leAt n s at ≡ parsed v next → Found (Number n v) s at next
+  unfolding leAt
+  number-found n at v next e =
+      let (bs, read, spelt) = mapped-parsed leOf (bytesAt n s at) v next e in
+      let (room, these, end) = bytes-parsed n s at bs next read in
+      record {
+        bytes = part s at n;
+        holds = record { long = part-length n s at room; spells = ap leOf these ∙ sym spelt };
+        is = part-from s at n ∙ rw end;
+        inside = omega arith;
+      }
+
+  led-found : (lead n at v next : ℕ) → at < length s → getD s at 0 ≡ lead → leAt n s (at + 1) ≡ parsed v next
+      → ((more : List ℕ) → length more ≡ n → leOf more ≡ v → LenencForm v (lead ∷ more)) → Found (LenencForm v) s at next
+  led-found lead n at v next inside first e mk =
+      let x = number-found n (at + 1) v next e in
+      record {
+        bytes = lead ∷ x .bytes;
+        holds = mk (x .bytes) (x .holds .long) (x .holds .spells);
+        is = drop-cons s at 0 inside ∙ rw (first, ← add-one at, x .is);
+        inside = x .inside;
+      }
+
+  pub lenenc-found : (at v next : ℕ) → lenencAt s at ≡ parsed v next → Found (LenencForm v) s at next
+  unfolding lenencAt ledAt
+  lenenc-found at v next e =
+      let (lead, m, p, q) = then-parsed (byteAt s at) _ v next e in
+      let (inside, is, after) = byte-parsed s at lead m p in
+      go lead inside (sym is) (rw after at q)
+    where
+      go : (lead : ℕ) → at < length s → getD s at 0 ≡ lead → ledAt lead s (at + 1) ≡ parsed v next → Found (LenencForm v) s at next
+      go lead inside first q =
+          pick-either (ltb lead 251) q
+          (λ low r.
+          let same : lead ≡ v = cc in
+          let end : at + 1 ≡ next = cc in
+          record {
+            bytes = v ∷ [];
+            holds = LenencForm.itself (rw same at (ltb-true lead 251 low));
+            is = drop-cons s at 0 inside ∙ rw (first, same, ← end, add-one at);
+            inside = omega arith;
+          })
+          (λ _ r. pick-either (eqb lead 0xFC) r (λ t u. led-found 0xFC 2 at v next inside (first ∙ eqb-true lead 0xFC t) u LenencForm.led-by-FC)
+          (λ _ u. pick-either (eqb lead 0xFD) u (λ t w. led-found 0xFD 3 at v next inside (first ∙ eqb-true lead 0xFD t) w LenencForm.led-by-FD)
+          (λ _ w. pick-either (eqb lead 0xFE) w (λ t x. led-found 0xFE 8 at v next inside (first ∙ eqb-true lead 0xFE t) x LenencForm.led-by-FE)
+          (λ _ x. never x))))
+
+-- ---- variable-length integers
+module _ (s : List ℕ) (are : Bytes s) (at : ℕ) where
+  formed : (b t v : ℕ) → t ≡ trailingOnes 8 b → at < length s → b ≡ getD s at 0 → at + (t + 1) ≤ length s → v ≡ itemValue t (b ∷ part s (at + 1) t)
+      → Form v (b ∷ part s (at + 1) t)
+  unfolding itemValue
+  formed b t v ones inside first room value =
+      let size : length (part s (at + 1) t) ≡ t = part-length t s (at + 1) (omega arith) in
+      split 8 t
+      (λ big.
+      let eight : t ≡ 8 = omega (arith, trailingOnes-le 8 b) in
+      let full = ones-full 8 b (sym eight ∙ ones) in
+      let lead : b ≡ 0xFF = omega (arith, are at) in
+      let is : v ≡ leOf (part s (at + 1) t) = rw (le-ltb t 8 big) at value in
+      rw lead (Form.nine (part s (at + 1) t) (size ∙ eight) (sym is)))
+      (λ small.
+      let is : v ≡ leOf (b ∷ part s (at + 1) t) / 2 ^ (t + 1) = rw (lt-ltb t 8 small) at value in
+      Form.few t b (part s (at + 1) t) small (ones-low 8 b t ones small) size (sym is))
+
+  cons-part : (b t : ℕ) → at < length s → b ≡ getD s at 0 → part s at (t + 1) ≡ b ∷ part s (at + 1) t
+  cons-part b t inside first = rw (add-one t, drop-cons s at 0 inside, ← first, ← add-one at)
+
+  pub form-read : (v next : ℕ) → varlenAt s at ≡ parsed v next → Found (Form v) s at next
+  unfolding varlenAt
+  form-read v next e =
+      let (b, m, one, rest) = then-parsed (byteAt s at) _ v next e in
+      let (inside, first, _) = byte-parsed s at b m one in
+      let (item, whole, value) = mapped-parsed (itemValue (trailingOnes 8 b)) (bytesAt (trailingOnes 8 b + 1) s at) v next rest in
+      let (room, these, end) = bytes-parsed (trailingOnes 8 b + 1) s at item next whole in
+      go b (trailingOnes 8 b) item refl inside first room these end value
+    where
+      go : (b t : ℕ) (item : List ℕ) → t ≡ trailingOnes 8 b → at < length s → b ≡ getD s at 0 → at + (t + 1) ≤ length s → part s at (t + 1) ≡ item
+          → at + (t + 1) ≡ next → v ≡ itemValue t item → Found (Form v) s at next
+      go b t item ones inside first room these end value =
+          let cons = cons-part b t inside first in
+          let same : item ≡ b ∷ part s (at + 1) t = sym these ∙ cons in
+          record {
+            bytes = b ∷ part s (at + 1) t;
+            holds = formed b t v ones inside first room (rw same at value);
+            is = part-from s at (t + 1) ∙ rw (cons, end);
+            inside = omega arith;
+          }
+
+  -- a form of the number as it is sent
+  pub signed-read : (z : ℤ) (next : ℕ) → signedAt s at ≡ parsed z next → Found (Form (sentAs z)) s at next
   unfolding signedAt
-  signed-accepted z next e =
+  signed-read z next e =
       let (sent, p, q) = mapped-parsed meantBy (varlenAt s at) z next e in
       let same : sentAs z ≡ sent = ap sentAs q ∙ sent-meant sent in
-      rw same (accepted s at are-bytes sent next p)
+      rw same (form-read sent next p)
 
--- the forms of a length-encoded integer
-pub data LenencForm (v : ℕ) : List ℕ → Type 0 where
-  itself : v < 251 → LenencForm v (v ∷ [])
-  led-by-FC : LenencForm v (0xFC ∷ leBytes 2 v)
-  led-by-FD : LenencForm v (0xFD ∷ leBytes 3 v)
-  led-by-FE : LenencForm v (0xFE ∷ leBytes 8 v)
+-- ---- what is written is a form
+pub number-written : (w v : ℕ) → v < 256 ^ w → Number w v (leBytes w v)
+number-written w v h = record { long = length-leBytes w v; spells = leOf-leBytes w v h }
 
-module _ (s : List ℕ) (at : ℕ) (are-bytes : Bytes s) (v next : ℕ) where
-  -- the lead byte and n bytes after it
-  led-form : (lead n : ℕ) → at < length s → getD s at 0 ≡ lead → leAt n s (at + 1) ≡ parsed v next → part s at (next - at) ≡ lead ∷ leBytes n v
-  led-form lead n inside first e =
-      let h = le-accepted s (at + 1) are-bytes n v next e in
-      let size : next - at ≡ suc n = omega arith in
-      rw (size, drop-cons s at 0 inside, first, ← add-one at, h .0)
+varlen-bytes : (v : ℕ) → Bytes (varlenBytes v)
+unfolding varlenBytes itemOf
+varlen-bytes v = either (ltb (varlenSize v) 9)
+  where
+    either : (b : Bool) → Bytes (pick b (leBytes (varlenSize v) (v * 2 ^ varlenSize v + (2 ^ (varlenSize v - 1) - 1))) (255 ∷ leBytes 8 v))
+    either true i = leBytes-bytes (varlenSize v) (v * 2 ^ varlenSize v + (2 ^ (varlenSize v - 1) - 1)) i
+    either false zero = omega arith
+    either false (suc i) = leBytes-bytes 8 v i
 
-  pub lenenc-accepted : lenencAt s at ≡ parsed v next → LenencForm v (part s at (next - at))
-  unfolding lenencAt ledAt
-  lenenc-accepted e =
-      let (lead, m, p, q) = then-parsed (byteAt s at) _ v next e in
-      let h = byte-parsed s at lead m p in
-      let after : m ≡ at + 1 = h .2 in
-      from-lead lead (h .0) (sym (h .1)) (rw after at q)
-    where
-      from-lead : (lead : ℕ) → at < length s → getD s at 0 ≡ lead → ledAt lead s (at + 1) ≡ parsed v next → LenencForm v (part s at (next - at))
-      from-lead lead inside first q =
-          pick-either (ltb lead 251) q
-          (λ t r.
-          let same : lead ≡ v = cc in
-          let size : next - at ≡ 1 = let k : at + 1 ≡ next = cc in omega arith in
-          rw (size, drop-cons s at 0 inside, first, same) (itself (rw same at (ltb-true lead 251 t))))
-          (λ _ r. pick-either (eqb lead 0xFC) r
-          (λ t u. rw (led-form 0xFC 2 inside (first ∙ eqb-true lead 0xFC t) u) led-by-FC)
-          (λ _ u. pick-either (eqb lead 0xFD) u
-          (λ t w. rw (led-form 0xFD 3 inside (first ∙ eqb-true lead 0xFD t) w) led-by-FD)
-          (λ _ w. pick-either (eqb lead 0xFE) w
-          (λ t x. rw (led-form 0xFE 8 inside (first ∙ eqb-true lead 0xFE t) x) led-by-FE)
-          (λ _ x. never x))))
+pub varlen-form : (v : ℕ) → v < 2 ^ 64 → Form v (varlenBytes v)
+varlen-form v h =
+    let bs = varlenBytes v in
+    let alone : bs ++ [] ≡ bs = append-nil bs in
+    let read : varlenAt bs 0 ≡ parsed v (length bs) = rw (alone, zero-add) at (varlen-written [] [] v h) in
+    found-whole bs (form-read bs (varlen-bytes v) 0 v (length bs) read)

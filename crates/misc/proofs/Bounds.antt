@@ -12,7 +12,7 @@ use lib.ListN.{length, drop, getD, replicate, length-take, length-drop, List·ge
 use lib.Seq.{getD-take, getD-drop}
 use borrow.Author.Tests.{ltb-true, lt-ltb, le-ltb}
 use Rattle.misc.specs.Parse.{Bytes, parsed, part, mapped, byteAt, bytesAt}
-use Rattle.misc.specs.Le.{leOf, leAt}
+use Rattle.misc.specs.Le.{leOf, leBytes, leAt}
 use Rattle.misc.specs.Lenenc.{ledAt, lenencAt}
 use Rattle.misc.specs.Mark.{hasBit, clearBit}
 use Rattle.misc.specs.Varlen.{trailingOnes, itemValue, varlenAt}
@@ -27,6 +27,21 @@ pub append-bytes : (a b : List ℕ) → Bytes a → Bytes b → Bytes (a ++ b)
 append-bytes [] b p q i = q i
 append-bytes (x ∷ a) b p q zero = p 0
 append-bytes (x ∷ a) b p q (suc i) = append-bytes a b (λ j. p (suc j)) q i
+
+pub front-bytes : (a b : List ℕ) → Bytes (a ++ b) → Bytes a
+front-bytes [] b h i = omega arith
+front-bytes (x ∷ a) b h zero = h 0
+front-bytes (x ∷ a) b h (suc i) = front-bytes a b (λ j. h (suc j)) i
+
+pub behind-bytes : (a b : List ℕ) → Bytes (a ++ b) → Bytes b
+behind-bytes [] b h i = h i
+behind-bytes (x ∷ a) b h i = behind-bytes a b (λ j. h (suc j)) i
+
+pub leBytes-bytes : (n v : ℕ) → Bytes (leBytes n v)
+unfolding leBytes
+leBytes-bytes zero v i = omega arith
+leBytes-bytes (suc n) v zero = omega arith
+leBytes-bytes (suc n) v (suc i) = leBytes-bytes n (v / 256) i
 
 pub zero-at : (n i : ℕ) → getD {A = ℕ} (replicate n 0) i 0 ≡ 0
 zero-at zero i = refl
@@ -47,7 +62,7 @@ part-bytes s at n h i =
 
 -- ---- numbers
 
-leOf-below : (bs : List ℕ) → Bytes bs → leOf bs < 256 ^ length bs
+pub leOf-below : (bs : List ℕ) → Bytes bs → leOf bs < 256 ^ length bs
 unfolding leOf
 leOf-below [] h = omega arith
 leOf-below (b ∷ bs) h = rw pow-suc (omega (arith, h 0, leOf-below bs (λ i. h (suc i))))

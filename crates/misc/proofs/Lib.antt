@@ -9,5 +9,7 @@ pub mod LenencLaws
 pub mod MarkLaws
 pub mod RoundTrip
 pub mod Bounds
+pub mod Places
+pub mod FormsRead
 pub mod Accepted
 pub mod Forward

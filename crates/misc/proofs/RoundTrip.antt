@@ -25,7 +25,7 @@ use Rattle.misc.proofs.LeLaws.{le-here, length-leBytes, leOf-leBytes, p
 use Rattle.misc.proofs.VarlenLaws.{varlen-narrow, varlen-nine, size-range, size-holds, length-varlenBytes}
 
 -- bits above the k that are looked at don't matter
-pub ones-mod : (k x : ℕ) → trailingOnes k (x % 2 ^ k) ≡ trailingOnes k x
+ones-mod : (k x : ℕ) → trailingOnes k (x % 2 ^ k) ≡ trailingOnes k x
 unfolding trailingOnes
 ones-mod zero x = refl
 ones-mod (suc k) x =

@@ -4,6 +4,6 @@ pub mod Reading
 pub mod Counting
 pub mod Writing
 pub mod Rewriting
-pub mod Standing
 pub mod Laying
+pub mod Accepting
 pub mod RoundTrip

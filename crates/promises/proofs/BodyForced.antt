@@ -1,73 +1,82 @@
--- A fault of a Previous-GTIDs body forces its number; so do those of taking it in, and of an offer.
-use Prim.Native.Nat.{ℕ, _+_, _≤_, _<_}
-use mathlib.Core.Path.{_≡_}
-use mathlib.Core.List.{List}
+-- A fault of a Previous-GTIDs body forces its number.
+use Prim.Native.Nat.{ℕ, _+_, _<_}
+use mathlib.Core.Path.{_≡_, refl}
+use mathlib.Core.Bool.{Bool, true, false}
+use mathlib.Core.List.{List, _++_}
 use native.Mathlib.Omega.{arith}
 use lib.ListN.{length}
 use borrow.Author.Tests.{le-leb, lt-leb}
-use Rattle.misc.specs.Refusal.{Refusal, ended, badTag, tooLong}
-use Rattle.misc.specs.Parse.{refuse}
+use Rattle.misc.specs.Refusal.{ended, badTag, tooLong}
+use Rattle.misc.specs.Parse.{Bytes, refuse, part}
 use Rattle.misc.specs.Body.{bodyLimit}
-use Rattle.misc.proofs.ParseLaws.{split, bytes-here, bytes-gone}
-use Rattle.misc.proofs.LeLaws.{le-here, le-gone}
-use Rattle.misc.proofs.Forward.{varlen-forward}
-use Rattle.previous_gtids_event.specs.Previous.{tagAt, keyAt, headAt, intervalAt, entryAt, saysTagged, saysCount, entriesIn, previous}
-use Rattle.promises.specs.Faults.{Item, Ends, AtEntry, AtInterval, Body, BodyFault}
-use Rattle.promises.specs.Exact.{Refuses, BodyExact}
-use Rattle.promises.proofs.Forces.{is-refused, one-number, many-stops, varlen-ends}
-use Rattle.promises.proofs.BodyFaults.{body-faults}
+use Rattle.misc.specs.Forms.{Form}
+use Rattle.misc.proofs.ParseLaws.{bytes-here, bytes-gone}
+use Rattle.misc.proofs.BodyLaws.{bodyLimit-is}
+use Rattle.misc.proofs.LeLaws.{le-gone}
+use Rattle.misc.proofs.Bounds.{front-bytes}
+use Rattle.misc.proofs.Places.{From, from-start, from-size, from-room, from-next, from-part}
+use Rattle.misc.proofs.FormsRead.{form-reads, number-reads}
+use Rattle.previous_gtids_event.specs.Previous.{noneOrTag, tagAt, keyAt, headAt, entryAt, previous}
+use Rattle.previous_gtids_event.proofs.Reading.{intervals-gone}
+use Rattle.previous_gtids_event.proofs.Laying.{header-reads, tag-reads, uuid-there, entries-read}
+use Rattle.promises.specs.Faults.{CutForm}
+use Rattle.promises.specs.BodyFaults.{EntryFault, BodyFault}
+use Rattle.promises.proofs.Forces.{Refuses, is-refused, many-stops}
+use Rattle.promises.proofs.TaggedRefused.{cut-ends}
 
 module _ (s : List ℕ) where
-  -- ---- an entry that is refused, and its parts
-  module _ {h at : ℕ} (here : AtEntry s h at) (x : Refusal) where
-    entry-stops : entryAt (saysTagged h) s at ≡ refuse x → entriesIn s ≡ refuse x
-    entry-stops e =
-        let (es, passed) = here .passed in
-        rw (here .read, many-stops (entryAt (saysTagged h) s) (here .index) (saysCount h) 8 (here .below) passed e)
+  -- a tag that is refused
+  tag-length-ends : (at : ℕ) (rest : List ℕ) → CutForm rest → From s at rest → tagAt true s at ≡ refuse ended
+  unfolding tagAt
+  tag-length-ends at rest cut h = rw (cut-ends s at rest cut h)
 
-    head-stops : headAt (saysTagged h) s at ≡ refuse x → entriesIn s ≡ refuse x
-    head-stops e = entry-stops (unfold entryAt in rw e)
+  tag-ends : (at k : ℕ) (size rest : List ℕ) → Form k size → length rest < k → From s at (size ++ rest) → tagAt true s at ≡ refuse ended
+  unfolding tagAt
+  tag-ends at k size rest form few h =
+      let behind = from-next s at size rest h in
+      rw (form-reads s at k size rest form h, bytes-gone k s (at + length size) (omega (arith, from-size s (at + length size) rest behind)))
 
-    key-stops : keyAt (saysTagged h) s at ≡ refuse x → entriesIn s ≡ refuse x
-    key-stops e = head-stops (unfold headAt in rw e)
+  tag-breaks : (at : ℕ) (t size rest : List ℕ) → Form (length t) size → noneOrTag t ≡ false → From s at (size ++ (t ++ rest)) → tagAt true s at ≡ refuse badTag
+  unfolding tagAt
+  tag-breaks at t size rest form bad h =
+      let behind = from-next s at size (t ++ rest) h in
+      let from = at + length size in
+      let there : part s from (length t) ≡ t = from-part s from t rest behind (length t) refl in
+      rw (form-reads s at (length t) size (t ++ rest) form h, bytes-here (length t) s from (from-room s from t rest behind), there, bad)
 
-    tag-stops : at + 16 ≤ length s → tagAt (saysTagged h) s (at + 16) ≡ refuse x → entriesIn s ≡ refuse x
-    tag-stops there e = key-stops (unfold keyAt in rw (bytes-here 16 s at there, e))
+  pub entry-forced : (tagged : Bool) (at : ℕ) (l : List ℕ) (n : ℕ) → EntryFault tagged l n → From s at l → Refuses (entryAt tagged s at) n
+  unfolding entryAt headAt keyAt
+  entry-forced tagged at l n (EntryFault.cutUuid few) h = is-refused ended (rw (bytes-gone 16 s at (omega (arith, from-size s at l h))))
+  entry-forced tagged at l n (EntryFault.cutTagLength uuid {rest = rest} sixteen cut) h =
+      let (room, second) = uuid-there s at uuid rest sixteen h in
+      is-refused ended (rw (bytes-here 16 s at room, tag-length-ends (at + 16) rest cut second))
+  entry-forced tagged at l n (EntryFault.cutTag {n = k} uuid {size = size} rest sixteen form few) h =
+      let (room, second) = uuid-there s at uuid (size ++ rest) sixteen h in
+      is-refused ended (rw (bytes-here 16 s at room, tag-ends (at + 16) k size rest form few second))
+  entry-forced tagged at l n (EntryFault.cutCount uuid {tag = t} {bytes = tag} rest sixteen tag-is few) h =
+      let (room, second) = uuid-there s at uuid (tag ++ rest) sixteen h in
+      let read = tag-reads s tagged (at + 16) t tag rest tag-is second in
+      let third = from-next s (at + 16) tag rest second in
+      let gone = le-gone 8 s (at + 16 + length tag) (omega (arith, from-size s (at + 16 + length tag) rest third)) in
+      is-refused ended (rw (bytes-here 16 s at room, read, gone))
+  entry-forced tagged at l n (EntryFault.cutIntervals {n = k} uuid {tag = t} {bytes = tag} {count = count} rest sixteen tag-is count-is few) h =
+      let (room, second) = uuid-there s at uuid (tag ++ (count ++ rest)) sixteen h in
+      let read = tag-reads s tagged (at + 16) t tag (count ++ rest) tag-is second in
+      let third = from-next s (at + 16) tag (count ++ rest) second in
+      let m = at + 16 + length tag in
+      let fourth : From s (m + 8) rest = rw (count-is .long) at (from-next s m count rest third) in
+      let counted = number-reads s 8 m k count rest count-is third in
+      is-refused ended (rw (bytes-here 16 s at room, read, counted, intervals-gone s k (m + 8) (fourth .inside) (omega (arith, from-size s (m + 8) rest fourth))))
+  entry-forced tagged at l n (EntryFault.tagRule uuid t {size = size} rest sixteen form bad) h =
+      let (room, second) = uuid-there s at uuid (size ++ (t ++ rest)) sixteen h in
+      is-refused badTag (rw (bytes-here 16 s at room, tag-breaks (at + 16) t size rest form bad second))
 
-  uuid-ends : {h at : ℕ} → AtEntry s h at → length s < at + 16 → entriesIn s ≡ refuse ended
-  uuid-ends {at = at} here over = key-stops here ended (unfold keyAt in rw (bytes-gone 16 s at over))
-
-  interval-stops : {at : ℕ} (x : Refusal) → AtInterval s at → intervalAt s at ≡ refuse x → entriesIn s ≡ refuse x
-  interval-stops x i e =
-      let (is, passed) = i .passed in
-      entry-stops (i .there) x (unfold entryAt in rw (i .announced, many-stops (intervalAt s) (i .index) (i .count) (i .start) (i .below) passed e))
-
-  cut-forced : (at : ℕ) (i : Item) → Body s at i → Ends i s at → entriesIn s ≡ refuse ended
-  cut-forced at i Body.header over = rw (le-gone 8 s 0 over)
-  cut-forced at i (Body.uuidBytes here) over = uuid-ends here over
-  cut-forced at i (Body.tagLength {at = from} here is) over =
-      split (from + 16) (length s)
-      (λ there. tag-stops here ended there (unfold tagAt in rw (is, varlen-ends s (from + 16) over)))
-      (λ none. uuid-ends here none)
-  cut-forced at i (Body.tagBytes {at = from} {n = n} here is told) over =
-      tag-stops here ended (omega (arith, varlen-forward s (from + 16) told)) (unfold tagAt in rw (is, told, bytes-gone n s at over))
-  cut-forced at i (Body.intervalCount here read) over = head-stops here ended (unfold headAt in rw (read, le-gone 8 s at over))
-  cut-forced at i (Body.start here) over = interval-stops ended here (unfold intervalAt in rw (le-gone 8 s at over))
-  cut-forced at i (Body.end {at = from} here) over =
-      split (from + 8) (length s)
-      (λ there. interval-stops ended here (unfold intervalAt in rw (le-here 8 s from there, le-gone 8 s (from + 8) over)))
-      (λ none. interval-stops ended here (unfold intervalAt in rw (le-gone 8 s from none)))
-
-  pub body-forced : (n : ℕ) → BodyFault s n → Refuses (previous s) n
-  unfolding previous
-  body-forced n (BodyFault.tooLong over) = is-refused tooLong (rw (lt-leb (length s) bodyLimit over))
-  body-forced n (BodyFault.cut short at i wanted over) = is-refused ended (rw (le-leb (length s) bodyLimit short) (cut-forced at i wanted over))
-  body-forced n (BodyFault.tagRule {at = from} {n = size} {to = to} short here is told there bad) =
-      is-refused badTag (rw (le-leb (length s) bodyLimit short)
-      (tag-stops here badTag (omega (arith, varlen-forward s (from + 16) told)) (unfold tagAt in rw (is, told, bytes-here size s to there, bad))))
-
-pub body-exact : BodyExact
-body-exact s n = ((λ (r, e, is). rw is at (body-faults s r e)), body-forced s n)
-
-pub body-one : (s : List ℕ) (n m : ℕ) → BodyFault s n → BodyFault s m → n ≡ m
-body-one s n m f g = one-number (body-forced s n f) (body-forced s m g)
+pub body-forced : (s : List ℕ) → Bytes s → (n : ℕ) → BodyFault s n → Refuses (previous s) n
+unfolding previous
+body-forced s are n (BodyFault.tooLong l over) = is-refused tooLong (rw (lt-leb (length s) bodyLimit over))
+body-forced s are n (BodyFault.cutHeader l few) = is-refused ended (rw (le-leb (length s) bodyLimit (omega (arith, bodyLimit-is)), le-gone 8 s 0 few))
+body-forced s are n (BodyFault.inEntries {tagged = tagged} {count = count} {es = es} {header = header} {front = front} {rest = rest} short says entries below bad) =
+    let (h, read, is, counted, second) = header-reads s header (front ++ rest) says (front-bytes header (front ++ rest) are) (from-start s) in
+    let passed = entries-read s tagged es front entries 8 rest second in
+    let (r, e, this) = entry-forced s tagged (8 + length front) rest n bad (from-next s 8 front rest second) in
+    (r, rw (le-leb (length s) bodyLimit short, read, is, counted, many-stops (entryAt tagged s) (length es) count 8 below passed e), this)

@@ -8,9 +8,8 @@ use mathlib.Core.Logic.{_⊎_, inl, inr}
 use lib.Dec.{eqb, leb}
 use lib.ListN.{length, length-append}
 use borrow.Author.Tests.{leb-true, le-leb, eqb-true}
-use Rattle.misc.specs.Refusal.{notWritable, tooLong}
+use Rattle.misc.specs.Refusal.{tooLong}
 use Rattle.misc.specs.Parse.{Bytes, parsed}
-use Rattle.misc.specs.Output.{bytes, refused}
 use Rattle.misc.specs.Body.{bodyLimit}
 use Rattle.misc.specs.Varlen.{sizeFrom, varlenSize, varlenBytes}
 use Rattle.misc.proofs.ParseLaws.{never, pick-either, pick-parsed}
@@ -22,25 +21,18 @@ use Rattle.previous_gtids_event.proofs.RoundTrip.{laid-read, read-laid, read-ag
 use Rattle.gtid_event.specs.declared.GtidEvent.{GtidEvent}
 use Rattle.gtid_event.specs.Event.{tagged}
 use Rattle.gtid_event_read.specs.Read.{gtid}
-use Rattle.gtid_event_write.specs.Writable.{writable}
 use Rattle.gtid_event_write.specs.Size.{payloadSize}
 use Rattle.gtid_event_write.specs.Layout.{fieldBytes, taggedBytes}
 use Rattle.gtid_event_write.specs.Write.{eventBytes, eventOutput}
 use Rattle.gtid_event_write.proofs.SizeLaws.{payload-agrees, payload-least}
 use Rattle.gtid_event_laws.proofs.EventBack.{event-alone}
 use Rattle.gtid_event_laws.proofs.ReadWritable.{read-fits, read-writable}
+use Rattle.promises.proofs.IntegersExact.{write-writes}
 use Rattle.promises.proofs.UntaggedReads.{untagged-reads}
 use Rattle.promises.proofs.UntaggedAccepted.{untagged-accepted}
 use Rattle.promises.proofs.TaggedReads.{tagged-reads}
 use Rattle.promises.proofs.TaggedAccepted.{tagged-accepted}
 use Rattle.promises.specs.Meaning.{RecordLaid, RecordsMean, RecordsBack, RecordsAgain, Declares, LeastSize, EntriesBack, EntriesMean}
-
--- what was written was writable
-written : (e : GtidEvent) (bs : List ℕ) → eventOutput e ≡ bytes bs → (writable e ≡ true) × (eventBytes e ≡ bs)
-unfolding eventOutput
-written e bs w = split (writable e)
-    (λ h. let same : bytes (eventBytes e) ≡ bytes bs = rw h at w in (h, cc))
-    (λ h. let no : refused notWritable ≡ bytes bs = rw h at w in absurd (let z : _≡_ {A = ℕ} 0 1 = cc in omega arith))
 
 -- what is read is laid out, and what is laid out is read
 read-laid-record : (type : ℕ) (s : List ℕ) (e : GtidEvent) (used : ℕ) → Bytes s → gtid type s ≡ parsed e used → RecordLaid type s e used
@@ -103,11 +95,11 @@ declares e is =
     })
 
 pub least-size : LeastSize eventOutput
-least-size e bs is w = rw (← (written e bs w .1)) (declares e is)
+least-size e bs is w = rw (write-writes e bs w .1) (declares e is)
 
 pub entries-back : EntriesBack previous bodyBytes
 entries-back body es used are read = read-again body are es used read
 
 pub entries-mean : EntriesMean previous
 unfolding bodyLimit
-entries-mean s es used are small = (read-laid s es used are, laid-read s es used small)
+entries-mean s es used are small = (read-laid s es used are, laid-read s es used are small)

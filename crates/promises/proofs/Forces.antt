@@ -9,6 +9,7 @@ use lib.ListN.{length, getD}
 use borrow.Author.Tests.{eqb-true}
 use Rattle.misc.specs.Refusal.{Refusal, number, ended, badLead}
 use Rattle.misc.specs.Parse.{Parse, refuse, parsed, many}
+use Rattle.misc.specs.Output.{Output, refused}
 use Rattle.misc.specs.Varlen.{trailingOnes, varlenAt}
 use Rattle.misc.specs.Lenenc.{ledAt, lenencAt}
 use Rattle.misc.proofs.ParseLaws.{split, never, then-parsed}
@@ -16,10 +17,17 @@ use Rattle.misc.proofs.LeLaws.{le-gone}
 use Rattle.misc.proofs.VarlenLaws.{varlen-past, varlen-cut}
 use Rattle.misc.proofs.LenencLaws.{lenenc-past, lenenc-led, led-2, led-3, led-8, led-none}
 use Rattle.packets.proofs.Tests as tests
-use Rattle.promises.specs.Faults.{varlen, lenenc, Ends}
-use Rattle.promises.specs.Exact.{Refuses}
+use Rattle.promises.proofs.Stops.{varlen, lenenc, Ends}
 
--- ---- the language of reading
+-- ---- the language of reading and writing
+
+-- reading refuses with this number
+abbrev pub Refuses : {A : Type 0} → Parse A → ℕ → Type 0
+Refuses p n = (r : Refusal) × (p ≡ refuse r) × (number r ≡ n)
+
+-- so does a call that writes
+abbrev pub WriterRefuses : Output → ℕ → Type 0
+WriterRefuses o n = (r : Refusal) × (o ≡ refused r) × (number r ≡ n)
 
 pub is-refused : {A : Type 0} {p : Parse A} (r : Refusal) → p ≡ refuse r → Refuses p (number r)
 is-refused r e = (r, e, refl)

@@ -17,7 +17,7 @@ use Rattle.misc.specs.Varlen.{trailingOnes, varlenAt}
 use Rattle.misc.specs.Lenenc.{ledAt, lenencAt}
 use Rattle.misc.proofs.ParseLaws.{split, never, then-parsed, mapped-parsed, bytes-parsed, byte-parsed}
 use Rattle.misc.proofs.Walk.{ahead, many-none, many-next}
-use Rattle.promises.specs.Faults.{plain, varlen, lenenc, Ends}
+use Rattle.promises.proofs.Stops.{plain, varlen, lenenc, Ends}
 
 abbrev pub Gives : {A : Type 0} → (ℕ → Type 0) → Parse A → Type 0
 Gives P p = (r : Refusal) → p ≡ refuse r → P (number r)

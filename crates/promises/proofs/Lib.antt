@@ -1,33 +1,38 @@
--- The demands hold of what our functions promise. Demand 1: `event-exact`, `event-laid-exact`, `body-exact`, `body-laid-exact`, `take-in-exact`, `offer-exact`,
--- `plain-exact`, `orders` and `zeros`. Demand 2: `records-mean`, `records-back`, `records-again`, `least-size`, `entries-back`, `entries-mean`.
--- An event is laid out or has a fault, never both (`OneOutcome`). Wrong programs don't meet the demands (`ShutOut`).
+-- The demands hold of what our functions promise. Demand 1: `integers-exact`, `events-exact`, `bodies-exact`, `reader-exact`, `sets-exact`,
+-- `offers-exactly`, `asks-exactly`, `listing-exact`, `archive-exact`;
+-- `orders`, `zeros` and `outputs`. Demand 2: `records-mean`, `records-back`, `records-again`, `least-size`, `entries-back`, `entries-mean`.
+-- Demand 3: `tells-history`, `replays`, `refusals-keep`. What is laid out has no fault, and one outcome (`OneOutcome`). Wrong programs don't meet the
+-- demands (`ShutOut`).
 pub mod EdgesAgree
--- what is refused has its fault
+-- the language: what is refused has its case, and a case forces its number
 pub mod Gives
-pub mod EventFaults
-pub mod BodyFaults
-pub mod StepNumbers
-pub mod SetFaultsGiven
-pub mod PlainFaultsGiven
--- a fault forces its number
 pub mod Forces
-pub mod UntaggedForced
-pub mod EventForced
-pub mod BodyForced
-pub mod CallsForced
+pub mod Exactly
 -- the layouts of records: what is laid out is read, what is read is laid out
-pub mod FormsRead
 pub mod TaggedSaid
 pub mod TaggedReads
 pub mod TaggedAccepted
 pub mod UntaggedReads
 pub mod UntaggedAccepted
--- the faults of events and bodies by the layouts
-pub mod LaidRefused
-pub mod LaidFaulty
-pub mod LaidUntagged
-pub mod LaidBody
 pub mod Demand2
 pub mod Demand3
+-- the faults of events
+pub mod Stops
+pub mod StopsGiven
+pub mod UntaggedForced
+pub mod TaggedRefused
+pub mod TaggedFaulty
+pub mod UntaggedFaulty
+pub mod EventExact
+-- those of bodies
+pub mod BodyFaults
+pub mod BodyForced
+-- every public function
+pub mod IntegersExact
+pub mod SetsExact
+pub mod BodiesExact
+pub mod ReaderExact
+pub mod ArchiveExact
+pub mod OrdersHold
 pub mod OneOutcome
 pub mod ShutOut

@@ -1,40 +1,66 @@
--- By the layouts alone: every event either is laid out, as one record of one length, or has a fault, of one number; never both.
+-- What follows from `specs/Exact.antt`: no two cases with different numbers hold at once, a call accepts exactly where no case holds, and there is one
+-- offer. And by the layouts alone: every event either is laid out, as one record of one length, or has a fault, of one number; never both.
 use Prim.Native.Nat.{ℕ}
-use mathlib.Core.Path.{_≡_, refl}
+use mathlib.Core.Path.{_≡_, refl, sym, _∙_}
 use mathlib.Core.List.{List}
 use mathlib.Core.Logic.{_⊎_, inl, inr}
+use lib.Dec.{eqb}
+use borrow.Author.Tests.{eqb-true, eqb-false}
 use Rattle.misc.specs.Refusal.{number}
 use Rattle.misc.specs.Parse.{Bytes, Parse, refuse, parsed}
+use Rattle.misc.specs.declared.Wrote.{Wrote}
+use Rattle.packets.proofs.Tests.{split}
 use Rattle.gtid_event.specs.declared.GtidEvent.{GtidEvent}
 use Rattle.gtid_event_read.specs.Read.{gtid}
-use Rattle.gtid_sets.specs.Lent.{form, lentSet}
-use Rattle.previous_gtids_event.specs.Entry.{Entry}
-use Rattle.resume_set.specs.Answers.{eventOf, offered}
-use Rattle.resume_set.specs.declared.Offered.the-variants.{Refused}
-use Rattle.promises.specs.LaidFaults.{EventBad}
+use Rattle.resume_set_laws.specs.History.{Turn, Offering}
+use Rattle.promises.specs.Faults.{EventFault}
 use Rattle.promises.specs.Meaning.{RecordLaid}
-use Rattle.promises.specs.SetFaults.{OfferFault}
-use Rattle.promises.proofs.Forces.{one-number, refused-not-read}
-use Rattle.promises.proofs.LaidUntagged.{event-refused, event-laid-exact}
-use Rattle.promises.proofs.CallsForced.{offer-exact}
+use Rattle.promises.specs.Exact.{Exactly, RefusesExactly, WritesExactly, OffersExactly}
+use Rattle.promises.proofs.Forces.{refused-not-read}
+use Rattle.promises.proofs.EventExact.{event-refused, event-faulty}
 use Rattle.promises.proofs.Demand2.{records-mean}
 
-pub laid-or-bad : (type : ℕ) (s : List ℕ) → Bytes s → ((e : GtidEvent) × (used : ℕ) × RecordLaid type s e used) ⊎ ((n : ℕ) × EventBad type s n)
-laid-or-bad type s are = go (gtid type s) refl
+-- ---- of any call
+
+pub one-case : {refusal : ℕ} {Fault : ℕ → Type 0} → RefusesExactly refusal Fault → {n m : ℕ} → Fault n → Fault m → n ≡ m
+one-case exactly {n} {m} a b = sym (exactly n .1 a .0) ∙ exactly m .1 b .0
+
+pub accepted : {refusal : ℕ} {Fault : ℕ → Type 0} → RefusesExactly refusal Fault → Exactly (refusal ≡ 0) ((n : ℕ) → Fault n → ⊥)
+accepted {refusal} exactly = (
+  λ zero n fault. let (is, some) = exactly n .1 fault in some (sym is ∙ zero),
+  λ none. split (eqb refusal 0) (λ zero. eqb-true refusal 0 zero) (λ some. absurd (none refusal (exactly refusal .0 (refl, eqb-false refusal 0 some)))),
+)
+
+pub one-write-case : {wrote : Wrote} {Fault : ℕ → ℕ → Type 0} → WritesExactly wrote Fault → {n m len other : ℕ} → Fault n len → Fault m other
+    → (n ≡ m) × (len ≡ other)
+one-write-case exactly {n} {m} {len} {other} a b =
+    let (first, long, _) = exactly n len .1 a in
+    let (second, wide, _) = exactly m other .1 b in
+    (sym first ∙ second, sym long ∙ wide)
+
+pub accepted-write : {wrote : Wrote} {Fault : ℕ → ℕ → Type 0} → WritesExactly wrote Fault → Exactly (wrote .refusal ≡ 0) ((n len : ℕ) → Fault n len → ⊥)
+accepted-write {wrote} exactly = (
+  λ zero n len fault. let (is, _, some) = exactly n len .1 fault in some (sym is ∙ zero),
+  λ none. split (eqb (wrote .refusal) 0)
+      (λ zero. eqb-true (wrote .refusal) 0 zero)
+      (λ some. absurd (none (wrote .refusal) (wrote .len) (exactly (wrote .refusal) (wrote .len) .0 (refl, refl, eqb-false (wrote .refusal) 0 some)))),
+)
+
+-- ---- of offers: two that answer exactly by the cases are one
+
+pub same-offers : {f g : Offering} → OffersExactly f → OffersExactly g → (set : List ℕ) (t : Turn) → Bytes (t .body)
+    → (f .answers set t ≡ g .answers set t) × (f .leaves set t ≡ g .leaves set t)
+same-offers {f} {g} first second set t are =
+    first set t (g .answers set t) (g .leaves set t) are .1 (second set t (g .answers set t) (g .leaves set t) are .0 (refl, refl))
+
+-- ---- of events
+
+pub laid-or-faulty : (type : ℕ) (s : List ℕ) → Bytes s → ((e : GtidEvent) × (used : ℕ) × RecordLaid type s e used) ⊎ ((n : ℕ) × EventFault type s n)
+laid-or-faulty type s are = go (gtid type s) refl
   where
-    go : (p : Parse GtidEvent) → gtid type s ≡ p → ((e : GtidEvent) × (used : ℕ) × RecordLaid type s e used) ⊎ ((n : ℕ) × EventBad type s n)
-    go (refuse r) read = inr (number r, event-laid-exact type s (number r) are .0 (r, read, refl))
+    go : (p : Parse GtidEvent) → gtid type s ≡ p → ((e : GtidEvent) × (used : ℕ) × RecordLaid type s e used) ⊎ ((n : ℕ) × EventFault type s n)
+    go (refuse r) read = inr (number r, event-faulty type s are r read)
     go (parsed e used) read = inl (e, used, records-mean type s e used are .0 read)
 
-pub not-both : (type : ℕ) (s : List ℕ) (e : GtidEvent) (used n : ℕ) → Bytes s → RecordLaid type s e used → EventBad type s n → ⊥
-not-both type s e used n are laid bad = refused-not-read (event-refused type s n bad) (records-mean type s e used are .1 laid)
-
-pub one-fault : (type : ℕ) (s : List ℕ) (n m : ℕ) → EventBad type s n → EventBad type s m → n ≡ m
-one-fault type s n m a b = one-number (event-refused type s n a) (event-refused type s m b)
-
--- an offer to a set is refused with the event's own number wherever the event has a fault
-pub bad-offer : (set : List ℕ) (s : List Entry) (type : ℕ) (body : List ℕ) (room n : ℕ) → lentSet set ≡ form s → EventBad type body n
-    → offered (lentSet set) (eventOf type body) room ≡ Refused n 0
-bad-offer set s type body room n lent bad =
-    let (r, e, is) = event-refused type body n bad in
-    rw is at (offer-exact set type body room (number r) 0 .1 (OfferFault.badEvent lent e))
+pub not-both : (type : ℕ) (s : List ℕ) (e : GtidEvent) (used n : ℕ) → Bytes s → RecordLaid type s e used → EventFault type s n → ⊥
+not-both type s e used n are laid fault = refused-not-read (event-refused type s n fault) (records-mean type s e used are .1 laid)

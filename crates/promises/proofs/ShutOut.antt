@@ -16,11 +16,11 @@ use Rattle.misc.specs.Varlen.{trailingOnes, itemValue, varlenAt}
 use Rattle.misc.specs.Signed.{meantBy, signedAt, naturalAt}
 use Rattle.misc.proofs.ParseLaws.{never}
 use Rattle.misc.proofs.Bounds.{append-bytes, zeros-bytes}
-use Rattle.previous_gtids_event.specs.Entry.{uuidOf, tagOf}
+use Rattle.previous_gtids_event.specs.Entry.{entry, uuidOf, tagOf}
 use Rattle.packets.specs.Kept.{padded}
 use Rattle.packets.specs.Tag.{isTag, allTagBytes}
 use Rattle.packets.proofs.Tests.{and-true}
-use Rattle.packets.specs.Gno.{gnoTop}
+use Rattle.packets.specs.Gno.{gnoTop, interval}
 use Rattle.previous_gtids_event.specs.Previous as previous-specs
 use Rattle.previous_gtids_event.specs.Previous.{keyAt, headAt, intervalAt, entryAt, saysTagged, saysCount, previous}
 use Rattle.previous_gtids_event.specs.Rewrite.{intervalsBytes, entryBytes, entriesBytes, anyTag, headerBytes, bodyBytes}
@@ -37,12 +37,17 @@ use Rattle.gtid_event_laws.proofs.EventBack.{event-alone}
 use Rattle.gtid_sets.specs.Limits.{maxEntries, maxIntervals, limits}
 use Rattle.gtid_sets.specs.Lent.{lentSet}
 use Rattle.resume_set.specs.Answers.{eventOf}
-use Rattle.resume_set_laws.specs.History.{Turn, TakesIn, TellsHistory}
+use Rattle.resume_set.specs.declared.Offered.the-variants.{NoId, Taken, Refused}
+use Rattle.resume_set_laws.specs.History.{Turn, Offering, member, TakesIn, TellsHistory}
+use Rattle.resume_set_laws.specs.Ours.{ours}
 use Rattle.promises.specs.Meaning.{EventReader, EventWriter, RecordLaid, RecordsMean, RecordsBack}
 use Rattle.promises.specs.UntaggedLayout.{untaggedRecord}
 use Rattle.promises.specs.TaggedLayout.{number, the-tag, said}
 use Rattle.promises.proofs.Demand2.{records-mean, one-record}
-use Rattle.promises.specs.WrongOnes.{refusesAll, constantRecord, madeUpCount, swapsClock, equalId, ignoresEqual, writesNothing, copiesItsSet, addsOnlyTheFirst}
+use Rattle.promises.specs.WrongOnes.{refusesAll, constantRecord, madeUpCount, swapsClock, equalId, ignoresEqual, writesNothing, copiesItsSet, addsOnlyTheFirst, alwaysNoId, noIdForZero, asksTaggedOnly}
+use Rattle.promises.specs.Exact.{OffersExactly, AsksExactly}
+use Rattle.promises.proofs.SetsExact.{offers-exactly}
+use Rattle.promises.proofs.OneOutcome.{same-offers}
 
 -- ---- records: one that can be written, gno 2
 
@@ -225,3 +230,50 @@ adds-only-the-first-out history =
     let (_, members) = history none [] none (offer 1 48 ∷ offer 3 48 ∷ []) none-taken-in (body-bytes 1 small-1, (body-bytes 3 small-3, tt)) in
     let clash : false ≡ true = members (replicate 16 0) 3 in
     false≢true clash
+
+-- ---- offers against their cases
+
+small-0 : Bytes (0 ∷ [])
+small-0 zero = omega arith
+small-0 (suc i) = omega arith
+
+-- an offer whose answers are exactly those of the cases answers as ours
+same-answer : (f : Offering) → OffersExactly f → (gno : ℕ) → Bytes (gno ∷ []) → (room : ℕ)
+    → ours .answers none (offer gno room) ≡ f .answers none (offer gno room)
+same-answer f exactly gno small room = same-offers offers-exactly exactly none (offer gno room) (body-bytes gno small) .0
+
+takes-1 : ours .answers none (offer 1 48) ≡ Taken 48
+unfolding eventOf gtid bodyLimit untagged openingAt byteAt bytesAt leAt leOf lentSet previous saysTagged saysCount many limits maxEntries maxIntervals bodyBytes anyTag headerBytes entriesBytes leBytes entryBytes intervalsBytes uuidOf tagOf gnoTop
+takes-1 = refl
+
+-- one that says "no id" to all
+pub always-no-id-out : OffersExactly alwaysNoId → ⊥
+always-no-id-out exactly =
+    let two : Taken 48 ≡ NoId 8 = sym takes-1 ∙ same-answer alwaysNoId exactly 1 small-1 48 in
+    let clash : _≡_ {A = ℕ} 0 1 = cc in
+    omega arith
+
+refuses-0 : ours .answers none (offer 0 48) ≡ Refused 15 0
+unfolding eventOf gtid bodyLimit untagged openingAt byteAt bytesAt leAt leOf lentSet previous saysTagged saysCount many limits maxEntries maxIntervals bodyBytes anyTag headerBytes entriesBytes leBytes
+refuses-0 = refl
+
+names-zero : noIdForZero .answers none (offer 0 48) ≡ NoId 8
+unfolding eventOf gtid bodyLimit untagged openingAt byteAt bytesAt leAt leOf
+names-zero = refl
+
+-- one that says so to gno 0 only
+pub no-id-for-zero-out : OffersExactly noIdForZero → ⊥
+no-id-for-zero-out exactly =
+    let two : Refused 15 0 ≡ NoId 8 = sym refuses-0 ∙ same-answer noIdForZero exactly 0 small-0 48 ∙ names-zero in
+    let clash : _≡_ {A = ℕ} 0 1 = cc in
+    omega arith
+
+-- one that asks only for ids with a tag: the set holds gno 1 of the zero uuid
+one-member : member (bodyBytes (entry (replicate 16 0) (interval 1 2 ∷ []) ∷ [])) (replicate 16 0) 1 ≡ true
+unfolding bodyLimit byteAt bytesAt leAt leOf lentSet previous saysTagged saysCount many limits maxEntries maxIntervals bodyBytes anyTag headerBytes entriesBytes leBytes entryBytes intervalsBytes uuidOf tagOf entryAt headAt keyAt previous-specs.tagAt intervalAt gnoTop
+one-member = refl
+
+pub asks-tagged-only-out : AsksExactly asksTaggedOnly → ⊥
+asks-tagged-only-out exactly =
+    let no : false ≡ true = exactly .id (bodyBytes (entry (replicate 16 0) (interval 1 2 ∷ []) ∷ [])) (replicate 16 0) [] 1 refl refl ∙ one-member in
+    false≢true no

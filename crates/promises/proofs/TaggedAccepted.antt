@@ -13,9 +13,12 @@ use Rattle.misc.specs.Refusal.{badTag}
 use Rattle.misc.specs.Parse.{Bytes, parsed, many, part, mapped, bytesAt, byteAt}
 use Rattle.misc.specs.Varlen.{varlenAt}
 use Rattle.misc.specs.Signed.{sentAs, meantBy, signedAt, notNegative, naturalAt}
+use Rattle.misc.specs.Forms.{Form}
 use Rattle.misc.proofs.ParseLaws.{never, pick-either, then-parsed, mapped-parsed, judged-parsed, bytes-parsed, byte-parsed, part-length}
 use Rattle.misc.proofs.Bounds.{part-bytes}
 use Rattle.misc.proofs.SignedLaws.{sent-meant}
+use Rattle.misc.proofs.Places.{part-from, Found, found-as, found-both, found-size}
+use Rattle.misc.proofs.Accepted.{form-read}
 use Rattle.packets.specs.Tag.{isTag}
 use Rattle.gtid_event.specs.declared.GtidEvent.{GtidEvent}
 use Rattle.gtid_event_read.specs.declared.Fields.{Fields}
@@ -23,26 +26,8 @@ use Rattle.gtid_event_read.specs.Fields.{kindOf, noFields, withNumber, withUuid
 use Rattle.gtid_event_read.specs.Tagged.{recordOf, tagged}
 use Rattle.gtid_event_read.proofs.FieldLaws.{limited-parsed, field-forward}
 use Rattle.gtid_event_read.proofs.TaggedLaws.{tagged-parsed}
-use Rattle.promises.specs.Forms.{Form}
 use Rattle.promises.specs.TaggedLayout.{Sent, number, the-uuid, the-tag, Items, Value, FieldsLaid, TaggedLaid}
-use Rattle.promises.proofs.FormsRead.{part-from, Found, form-read}
 use Rattle.promises.proofs.TaggedSaid.{keptIn, keptAll, record-said, tag-there}
-
--- ---- what was found
-
-module _ (s : List ℕ) where
-  -- the same bytes have another property
-  pub found-as : {P Q : List ℕ → Type 0} {at next : ℕ} → ((bs : List ℕ) → P bs → Q bs) → Found P s at next → Found Q s at next
-  found-as f x = record { bytes = x .bytes; holds = f (x .bytes) (x .holds); is = x .is; inside = x .inside }
-
-  -- one part behind another
-  pub found-both : {P Q R : List ℕ → Type 0} {at m next : ℕ} → ((a b : List ℕ) → P a → Q b → R (a ++ b)) → Found P s at m → Found Q s m next → Found R s at next
-  found-both f x y = record {
-    bytes = x .bytes ++ y .bytes;
-    holds = f (x .bytes) (y .bytes) (x .holds) (y .holds);
-    is = x .is ∙ rw (y .is) (sym (append-assoc (x .bytes) (y .bytes) _));
-    inside = y .inside;
-  }
 
 module _ (s : List ℕ) (are : Bytes s) where
   -- ---- values
@@ -212,12 +197,6 @@ module _ (s : List ℕ) (are : Bytes s) where
       let sum : start + (size - start) ≡ size = omega arith in
       part-from s start (size - start) ∙ ap (λ (n : ℕ). part s start (size - start) ++ drop n s) sum
 
-  pub found-size : {P : List ℕ → Type 0} {at next : ℕ} → (x : Found P s at next) → at ≤ length s → next ≡ at + length (x .bytes)
-  found-size {at = at} {next = next} x h =
-      let sizes : length s - at ≡ length (x .bytes) + (length s - next) =
-      sym (length-drop at s) ∙ ap length (x .is) ∙ length-append (x .bytes) (drop next s) ∙ ap (λ (n : ℕ). length (x .bytes) + n) (length-drop next s) in
-      omega (arith, x .inside)
-
   pub tagged-accepted : (e : GtidEvent) (used : ℕ) → tagged s ≡ parsed e used → TaggedLaid s e used
   tagged-accepted e used read =
       let p = tagged-parsed s read in
@@ -245,7 +224,7 @@ module _ (s : List ℕ) (are : Bytes s) where
                 (a .is ∙ ap (λ (l : List ℕ). a .bytes ++ l) (b .is ∙ ap (λ (l : List ℕ). b .bytes ++ l) (split-at-size start size large))) ∙ simp append-assoc;
             size-is = a .holds;
             last-is = b .holds;
-            counts = simp length-append (omega (arith, long, found-size a (omega arith), found-size b (a .inside)));
+            counts = simp length-append (omega (arith, long, found-size s a (omega arith), found-size s b (a .inside)));
             told = told;
             fields-are = laid;
             tagged = sym (tag-there laid) ∙ ap (λ (y : Fields). getD (y .present) 3 false) (sym kept) ∙ there;

@@ -10,18 +10,19 @@ use borrow.Author.Tests.{lt-ltb, le-ltb, le-leb, lt-leb}
 use Rattle.misc.specs.Parse.{parsed, many, part, mapped}
 use Rattle.misc.specs.Varlen.{varlenAt}
 use Rattle.misc.specs.Signed.{naturalAt}
+use Rattle.misc.specs.Forms.{Form}
 use Rattle.misc.proofs.ParseLaws.{bytes-here}
 use Rattle.misc.proofs.SignedLaws.{natural-even}
 use Rattle.misc.proofs.Walk.{ahead, many-none, many-next}
+use Rattle.misc.proofs.Places.{From, from-start, from-size, from-room, from-next, from-part, from-first}
+use Rattle.misc.proofs.FormsRead.{form-some, form-reads}
 use Rattle.packets.specs.Tag.{isTag}
 use Rattle.gtid_event.specs.declared.GtidEvent.{GtidEvent}
 use Rattle.gtid_event_read.specs.declared.Fields.{Fields}
 use Rattle.gtid_event_read.specs.Fields.{unknown, fieldTable, kindOf, noFields, withUuid, limitedAt, uuidAt, tagAt, valueAt, fieldAt, fieldsFrom, fieldsOf}
 use Rattle.gtid_event_read.specs.Tagged.{tagged}
 use Rattle.gtid_event_read.proofs.TaggedLaws.{tagged-here}
-use Rattle.promises.specs.Forms.{Form}
 use Rattle.promises.specs.TaggedLayout.{Sent, Items, Value, FieldsLaid, hasTag, said, TaggedLaid}
-use Rattle.promises.proofs.FormsRead.{From, from-start, from-size, from-room, from-next, from-part, from-first, form-some, form-reads}
 use Rattle.promises.proofs.TaggedSaid.{keptIn, keptAll, record-said, tag-there}
 
 module _ (s : List ℕ) where

@@ -12,24 +12,22 @@ use lib.ListN.{length, drop, getD, length-append, length-drop}
 use lib.Seq.{drop-cons}
 use borrow.Author.Tests.{ltb-true, eqb-true, eqb-false, leb-false, ltb-false}
 use Rattle.misc.specs.Pick.{pick}
-use Rattle.misc.specs.Parse.{Bytes, parsed, part, bytesAt, byteAt}
-use Rattle.misc.specs.Le.{leOf, leAt}
+use Rattle.misc.specs.Parse.{Bytes, parsed, bytesAt, byteAt}
+use Rattle.misc.specs.Le.{leAt}
 use Rattle.misc.specs.Mark.{hasBit, clearBit}
-use Rattle.misc.specs.Lenenc.{ledAt, lenencAt}
-use Rattle.misc.proofs.ParseLaws.{split, never, pick-either, then-parsed, mapped-parsed, bytes-parsed, byte-parsed, part-length}
+use Rattle.misc.proofs.ParseLaws.{split, pick-either, then-parsed, mapped-parsed, bytes-parsed, byte-parsed, part-length}
 use Rattle.misc.proofs.LeLaws.{pow-bytes}
 use Rattle.misc.proofs.Bounds.{le-below, unmarked-below}
 use Rattle.misc.proofs.MarkLaws.{top-bit-clear, top-bit-set}
+use Rattle.misc.proofs.Places.{part-from, Found, found-as, found-both, found-size}
+use Rattle.misc.proofs.Accepted.{number-found, lenenc-found}
 use Rattle.packets.proofs.Tests as tests
 use Rattle.packets.proofs.Tests.{clash, and-true}
 use Rattle.gtid_event.specs.declared.GtidEvent.{GtidEvent}
 use Rattle.gtid_event_read.specs.Untagged.{Pair, pair, ifLeft, originalAfter, pairAt, timestampsAt, lengthAt, versionsAt, openingAt, clocked, clockAt, typecodeAt, untagged}
 use Rattle.gtid_event_read.proofs.UntaggedLaws.{OpeningParts, opening-parsed, clock-parsed}
-use Rattle.promises.specs.Forms.{LenencForm}
-use Rattle.promises.specs.UntaggedLayout.{Number, PairLaid, PairIfLeft, LengthIfLeft, NoTypecode, ShortLaid, LongLaid, UntaggedLaid}
-use Rattle.promises.proofs.FormsRead.{part-from, Found}
+use Rattle.promises.specs.UntaggedLayout.{PairLaid, PairIfLeft, LengthIfLeft, NoTypecode, ShortLaid, LongLaid, UntaggedLaid}
 use Rattle.promises.proofs.Gives.{le-parsed}
-use Rattle.promises.proofs.TaggedAccepted.{found-as, found-both, found-size}
 
 module _ (s : List ℕ) where
   -- ---- bytes
@@ -44,58 +42,13 @@ module _ (s : List ℕ) where
       let (room, these, end) = bytes-parsed n s at bs next e in
       (part-from s at n ∙ rw (these, end), ap length (sym these) ∙ part-length n s at room, sym end)
 
-  pub number-found : (n at v next : ℕ) → leAt n s at ≡ parsed v next → Found (Number n v) s at next
-  number-found n at v next e =
-      let (room, value, end) = le-parsed n s at v next e in
-      record {
-        bytes = part s at n;
-        holds = record { long = part-length n s at room; spells = sym value };
-        is = part-from s at n ∙ rw (← end);
-        inside = omega arith;
-      }
-
-  -- ---- a length-encoded integer
-
-  led-found : (lead n at v next : ℕ) → at < length s → getD s at 0 ≡ lead → leAt n s (at + 1) ≡ parsed v next
-      → ((more : List ℕ) → length more ≡ n → leOf more ≡ v → LenencForm v (lead ∷ more)) → Found (LenencForm v) s at next
-  led-found lead n at v next inside first e mk =
-      let x = number-found n (at + 1) v next e in
-      record {
-        bytes = lead ∷ x .bytes;
-        holds = mk (x .bytes) (x .holds .long) (x .holds .spells);
-        is = drop-cons s at 0 inside ∙ rw (first, ← add-one at, x .is);
-        inside = x .inside;
-      }
-
-  lenenc-found : (at v next : ℕ) → lenencAt s at ≡ parsed v next → Found (LenencForm v) s at next
-  unfolding lenencAt ledAt
-  lenenc-found at v next e =
-      let (lead, m, p, q) = then-parsed (byteAt s at) _ v next e in
-      let (inside, is, after) = byte-parsed s at lead m p in
-      go lead inside (sym is) (rw after at q)
-    where
-      go : (lead : ℕ) → at < length s → getD s at 0 ≡ lead → ledAt lead s (at + 1) ≡ parsed v next → Found (LenencForm v) s at next
-      go lead inside first q =
-          pick-either (ltb lead 251) q
-          (λ low r.
-          let same : lead ≡ v = cc in
-          let end : at + 1 ≡ next = cc in
-          record {
-            bytes = v ∷ [];
-            holds = LenencForm.itself (rw same at (ltb-true lead 251 low));
-            is = drop-cons s at 0 inside ∙ rw (first, same, ← end, add-one at);
-            inside = omega arith;
-          })
-          (λ _ r. pick-either (eqb lead 0xFC) r (λ t u. led-found 0xFC 2 at v next inside (first ∙ eqb-true lead 0xFC t) u LenencForm.led-by-FC)
-          (λ _ u. pick-either (eqb lead 0xFD) u (λ t w. led-found 0xFD 3 at v next inside (first ∙ eqb-true lead 0xFD t) w LenencForm.led-by-FD)
-          (λ _ w. pick-either (eqb lead 0xFE) w (λ t x. led-found 0xFE 8 at v next inside (first ∙ eqb-true lead 0xFE t) x LenencForm.led-by-FE)
-          (λ _ x. never x))))
+  -- ---- a transaction length
 
   pub length-found : (at v next : ℕ) → at ≤ length s → lengthAt s at ≡ parsed v next → Found (λ bs. LengthIfLeft v bs (drop next s)) s at next
   unfolding lengthAt
   length-found at v next inside e =
       pick-either (leb 1 (length s - at)) e
-      (λ _ p. found-as s (λ bs. LengthIfLeft.there) (lenenc-found at v next p))
+      (λ _ p. found-as s (λ bs. LengthIfLeft.there) (lenenc-found s at v next p))
       (λ few p.
       let none : 0 ≡ v = cc in
       let end : at ≡ next = cc in
@@ -130,7 +83,7 @@ module _ (s : List ℕ) where
         go : (v m : ℕ) → leAt w s at ≡ parsed v m → originalAfter w s v m ≡ parsed (pair i o) next → Found (PairLaid w i o) s at next
         go v m p q =
             let below : v < 2 ^ (8 * w) = rw (pow-bytes w) at (le-below s are w at p) in
-            let first = number-found w at v m p in
+            let first = number-found s w at v m p in
             pick-either (hasBit (8 * w - 1) v) q
             (λ bit r.
             let (original, read, is) = mapped-parsed (pair (clearBit (8 * w - 1) v)) (leAt w s m) (pair i o) next r in
@@ -138,7 +91,7 @@ module _ (s : List ℕ) where
             let orig : original ≡ o = cc in
             let (sum, small) = marked-is v below bit in
             let total : v ≡ i + 2 ^ (8 * w - 1) = rw imm at sum in
-            found-both s (λ a b n n′. PairLaid.both (rw total at n) (rw imm at small) (rw orig at n′)) first (number-found w m original next read))
+            found-both s (λ a b n n′. PairLaid.both (rw total at n) (rw imm at small) (rw orig at n′)) first (number-found s w m original next read))
             (λ bit r.
             let imm : v ≡ i = cc in
             let orig : v ≡ o = cc in
@@ -258,9 +211,9 @@ module _ (s : List ℕ) (are : Bytes s) where
             le-parsed 8 s (o .at₂) (o .gno) at (o .gno-read) .2,
             le-parsed 8 s (at + 1) last at₁ p₁ .2,
             le-parsed 8 s at₁ sequence at₂ p₂ .2,
-            found-size s are times (sixth .inside),
-            found-size s are size (times .inside),
-            found-size s are servers (size .inside),
+            found-size s times (sixth .inside),
+            found-size s size (times .inside),
+            found-size s servers (size .inside),
           ));
         }
 

@@ -20,9 +20,8 @@ use Rattle.gtid_event.specs.declared.GtidEvent.{GtidEvent}
 use Rattle.gtid_event_read.specs.Told.{laterAt}
 use Rattle.gtid_event_read.specs.Untagged.{Pair, pair, originalAfter, pairAt, timestampsAt, lengthAt, versionsAt, opened, clockAt, untagged}
 use Rattle.gtid_event_read.proofs.UntaggedLaws.{opening-here, untagged-gone, untagged-clock, clock-later}
-use Rattle.promises.specs.Faults.{Item, Ends, Later, Untagged, UntaggedFault}
-use Rattle.promises.specs.Exact.{Refuses}
-use Rattle.promises.proofs.Forces.{is-refused, lenenc-ends, lead-refused}
+use Rattle.promises.proofs.Stops.{Item, Ends, Later, Untagged, UntaggedStop}
+use Rattle.promises.proofs.Forces.{Refuses, is-refused, lenenc-ends, lead-refused}
 
 module _ (s : List ℕ) where
   -- an immediate number that is all there, and an original that it announces and that is not
@@ -105,8 +104,8 @@ module _ (s : List ℕ) where
       let (v, then) = before .passed in
       versions-end (before .before .later) (omega (arith, timestamps-forward 42 passed, length-forward (before .from) then)) passed then here bit h
 
-  pub untagged-forced : {n : ℕ} → UntaggedFault s n → Refuses (untagged s) n
-  untagged-forced (UntaggedFault.cut at i wanted h) = is-refused ended (cut-forced at i wanted h)
-  untagged-forced (UntaggedFault.lead at before here h) =
+  pub untagged-forced : {n : ℕ} → UntaggedStop s n → Refuses (untagged s) n
+  untagged-forced (UntaggedStop.cut at i wanted h) = is-refused ended (cut-forced at i wanted h)
+  untagged-forced (UntaggedStop.lead at before here h) =
       let (p, passed) = before .passed in
       is-refused badLead (length-refused (before .later) (omega (arith, timestamps-forward 42 passed)) badLead passed here (lead-refused s at here h))

@@ -10,18 +10,16 @@ use native.Mathlib.Omega.{arith}
 use lib.ListN.{length, length-append}
 use borrow.Author.Tests.{le-leb, lt-leb}
 use Rattle.misc.specs.Parse.{parsed, part}
-use Rattle.misc.specs.Le.{leOf, leAt}
+use Rattle.misc.specs.Le.{leOf}
 use Rattle.misc.specs.Mark.{hasBit, clearBit}
-use Rattle.misc.specs.Lenenc.{ledAt, lenencAt}
-use Rattle.misc.proofs.LeLaws.{le-here}
-use Rattle.misc.proofs.LenencLaws.{lenenc-led, led-value, led-2, led-3, led-8}
+use Rattle.misc.specs.Forms.{Number}
 use Rattle.misc.proofs.MarkLaws.{top-bit-clear, top-bit-set}
+use Rattle.misc.proofs.Places.{From, from-size, from-room, from-next, from-part, from-first}
+use Rattle.misc.proofs.FormsRead.{number-reads, lenenc-reads, lenenc-some}
 use Rattle.gtid_event.specs.declared.GtidEvent.{GtidEvent}
 use Rattle.gtid_event_read.specs.Untagged.{pair, ifLeft, pairAt, timestampsAt, lengthAt, versionsAt, openingAt, untagged}
 use Rattle.gtid_event_read.proofs.UntaggedLaws.{opening-here, untagged-clock, untagged-other, untagged-end, clock-later}
-use Rattle.promises.specs.Forms.{LenencForm}
-use Rattle.promises.specs.UntaggedLayout.{Number, PairLaid, PairIfLeft, LengthIfLeft, NoTypecode, untaggedRecord, UntaggedLaid}
-use Rattle.promises.proofs.FormsRead.{From, from-size, from-room, from-next, from-part, from-first}
+use Rattle.promises.specs.UntaggedLayout.{PairLaid, PairIfLeft, LengthIfLeft, NoTypecode, untaggedRecord, UntaggedLaid}
 
 -- ---- the highest bit of a number of w bytes
 
@@ -37,42 +35,18 @@ module _ (w v : ℕ) (small : v < 2 ^ (8 * w - 1)) where
       (bit, clear ∙ omega arith)
 
 module _ (s : List ℕ) where
-  -- ---- integers
-
-  pub number-reads : (w at v : ℕ) (bs rest : List ℕ) → Number w v bs → From s at (bs ++ rest) → leAt w s at ≡ parsed v (at + w)
-  number-reads w at v bs rest n h =
-      let room : at + w ≤ length s = omega (arith, from-room s at bs rest h, n .long) in
-      let these : part s at w ≡ bs = from-part s at bs rest h w (sym (n .long)) in
-      le-here w s at room ∙ ap (λ (x : ℕ). parsed x (at + w)) (ap leOf these ∙ n .spells)
-
-  led-reads : (lead n at v : ℕ) (more rest : List ℕ) → length more ≡ n → leOf more ≡ v → From s at (lead ∷ more ++ rest)
-      → ledAt lead s (at + 1) ≡ leAt n s (at + 1) → lenencAt s at ≡ parsed v (at + length (lead ∷ more))
-  led-reads lead n at v more rest size value h law =
-      let (first, inside) = from-first s at lead (more ++ rest) h in
-      let behind : From s (at + 1) (more ++ rest) = from-next s at (lead ∷ []) (more ++ rest) h in
-      let end : at + 1 + n ≡ at + length (lead ∷ more) = omega arith in
-      lenenc-led s at lead inside first ∙ law ∙ number-reads n (at + 1) v more rest (record { long = size; spells = value }) behind ∙ ap (parsed v) end
-
-  pub lenenc-reads : (at v : ℕ) (bs rest : List ℕ) → LenencForm v bs → From s at (bs ++ rest) → lenencAt s at ≡ parsed v (at + length bs)
-  lenenc-reads at v bs rest (LenencForm.itself low) h =
-      let (first, inside) = from-first s at v rest h in
-      lenenc-led s at v inside first ∙ led-value v s (at + 1) low
-  lenenc-reads at v bs rest (LenencForm.led-by-FC more size value) h = led-reads 0xFC 2 at v more rest size value h (led-2 s (at + 1))
-  lenenc-reads at v bs rest (LenencForm.led-by-FD more size value) h = led-reads 0xFD 3 at v more rest size value h (led-3 s (at + 1))
-  lenenc-reads at v bs rest (LenencForm.led-by-FE more size value) h = led-reads 0xFE 8 at v more rest size value h (led-8 s (at + 1))
-
   -- ---- parts
 
   pair-reads : (w at i o : ℕ) (bs rest : List ℕ) → PairLaid w i o bs → From s at (bs ++ rest) → pairAt w s at ≡ parsed (pair i o) (at + length bs)
   unfolding pairAt
   pair-reads w at i o bs rest (PairLaid.equal n small) h =
-      rw (number-reads w at i bs rest n h, unmarked w i small, n .long)
+      rw (number-reads s w at i bs rest n h, unmarked w i small, n .long)
   pair-reads w at i o bs rest (PairLaid.both {bs = first} {more = more} n small m) h =
       let split : From s at (first ++ (more ++ rest)) = rw append-assoc at h in
       let behind : From s (at + w) (more ++ rest) = rw (n .long) at (from-next s at first (more ++ rest) split) in
       let (bit, clear) = marked w i small in
       let end : at + w + w ≡ at + length (first ++ more) = omega (arith, length-append first more, n .long, m .long) in
-      rw (number-reads w at _ first (more ++ rest) n split, bit, number-reads w (at + w) o more rest m behind, clear, end)
+      rw (number-reads s w at _ first (more ++ rest) n split, bit, number-reads s w (at + w) o more rest m behind, clear, end)
 
   pair-there : (w i o : ℕ) (bs : List ℕ) → PairLaid w i o bs → w ≤ length bs
   pair-there w i o bs (PairLaid.equal n small) = omega (arith, n .long)
@@ -87,19 +61,13 @@ module _ (s : List ℕ) where
       let most = pair-there w i o bs p in
       rw (le-leb w (length s - at) (omega (arith, from-room s at bs rest h))) (pair-reads w at i o bs rest p h)
 
-  lenenc-some : (v : ℕ) (bs : List ℕ) → LenencForm v bs → 1 ≤ length bs
-  lenenc-some v bs (LenencForm.itself low) = omega arith
-  lenenc-some v bs (LenencForm.led-by-FC more size value) = omega arith
-  lenenc-some v bs (LenencForm.led-by-FD more size value) = omega arith
-  lenenc-some v bs (LenencForm.led-by-FE more size value) = omega arith
-
   pub length-reads : (at v : ℕ) (bs rest : List ℕ) → LengthIfLeft v bs rest → From s at (bs ++ rest) → lengthAt s at ≡ parsed v (at + length bs)
   unfolding lengthAt
   length-reads at v bs rest LengthIfLeft.gone h =
       let size = from-size s at [] h in
       rw (lt-leb 1 (length s - at) (omega arith), add-zero at)
   length-reads at v bs rest (LengthIfLeft.there form) h =
-      rw (le-leb 1 (length s - at) (omega (arith, from-room s at bs rest h, lenenc-some v bs form))) (lenenc-reads at v bs rest form h)
+      rw (le-leb 1 (length s - at) (omega (arith, from-room s at bs rest h, lenenc-some s v bs form))) (lenenc-reads s at v bs rest form h)
 
   -- ---- flags, uuid and gno
 
@@ -138,7 +106,7 @@ module _ (s : List ℕ) where
       let fourth = from-next s 42 timestamps rest₄ third in
       let fifth = from-next s (42 + length timestamps) len-bytes (versions ++ unread) fourth in
       untagged-clock s read inside two
-      ∙ clock-later s _ 26 (number-reads 8 26 last last-bytes (sequence-bytes ++ rest₃) last-is one) (number-reads 8 34 sequence sequence-bytes rest₃ sequence-is second)
+      ∙ clock-later s _ 26 (number-reads s 8 26 last last-bytes (sequence-bytes ++ rest₃) last-is one) (number-reads s 8 34 sequence sequence-bytes rest₃ sequence-is second)
       ∙ rw (
         left-reads 7 0 42 i o timestamps rest₄ times-are third,
         length-reads (42 + length timestamps) len len-bytes (versions ++ unread) len-is fourth,

@@ -4,7 +4,7 @@ use mathlib.Core.Path.{_≡_}
 use mathlib.Core.Bool.{true}
 use mathlib.Core.List.{List, [], _∷_, _++_}
 use lib.IntN.{pos, negsuc}
-use lib.ListN.{length, take, replicate}
+use lib.ListN.{length, replicate}
 use Rattle.misc.specs.Parse.{Parse, refuse, parsed}
 use Rattle.misc.specs.Varlen.{varlenAt, varlenSize, varlenBytes}
 use Rattle.misc.specs.Signed.{sentAs}
@@ -61,6 +61,20 @@ small =
       «commit_group_ticket» = 0;
     }
 
+-- and its bytes: the envelope, then flags, uuid, gno, tag, last_committed, sequence_number, timestamp, transaction length, server version
+abbrev smallBytes : List ℕ
+smallBytes =
+    (2 ∷ 74 ∷ 0 ∷ [])
+    ++ (0 ∷ 0 ∷ [])
+    ++ (2 ∷ replicate 16 0)
+    ++ (4 ∷ 4 ∷ [])
+    ++ (6 ∷ 2 ∷ 97 ∷ [])
+    ++ (8 ∷ 0 ∷ [])
+    ++ (10 ∷ 4 ∷ [])
+    ++ (12 ∷ 0 ∷ [])
+    ++ (16 ∷ 0 ∷ [])
+    ++ (18 ∷ 0 ∷ [])
+
 -- ---- the table
 
 abbrev edge : List ℕ → List ℕ → Edge
@@ -91,9 +105,9 @@ edges =
     ∷ edge (only (payloadSize 124)) (only 127)
     ∷ edge (only (2 + 124 + varlenSize 128)) (only 128)
     ∷ edge (only (payloadSize 125)) (only 129)
-    -- zero uuid, gno 1, tag "a", sequence 1, all else 0: 37 bytes, beginning 02 4A 00
-    ∷ edge (only (length (eventBytes small))) (only 37)
-    ∷ edge (take 3 (eventBytes small)) (2 ∷ 74 ∷ 0 ∷ [])
+    -- zero uuid, gno 1, tag "a", sequence 1, all else 0: 37 bytes, beginning 02 4A 00.
+    ∷ edge (eventBytes small) smallBytes
+    ∷ edge (only (length smallBytes)) (only 37)
     -- {1-5, 7} with 6 becomes {1-7}
     ∷ edge (firstPairs (add (replicate 16 0) 6 (entry (replicate 16 0) (interval 1 6 ∷ interval 7 8 ∷ []) ∷ []))) (1 ∷ 8 ∷ [])
     -- tagged header for one entry: 01 01 00 00 00 00 00 01

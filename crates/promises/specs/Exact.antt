@@ -1,84 +1,175 @@
--- Demand 1, "given exactly when": each number of the table is given where its case holds, and only there. For each call, both directions; and since
--- a call answers one thing, two cases that hold at once have the same number (`event-one`, `body-one` of proofs).
-use Prim.Native.Nat.{ℕ}
+-- Demand 1, "given exactly when": every public function that can refuse, by its name. Its answer is the right side of the function's own promise, and it
+-- refuses with a number exactly where the case of that number holds. From this follows that no two cases with different numbers hold at once, and that
+-- a call accepts exactly where no case holds (`one-case` and `accepted` of proofs/OneOutcome.antt).
+use Prim.Native.Nat.{ℕ, _+_, _*_}
 use mathlib.Core.Path.{_≡_}
-use mathlib.Core.Bool.{false}
-use mathlib.Core.List.{List}
-use Rattle.misc.specs.Refusal.{Refusal, number}
-use Rattle.misc.specs.Parse.{Bytes, Parse, refuse}
-use Rattle.misc.specs.Le.{leAt}
-use Rattle.misc.specs.Varlen.{varlenAt}
-use Rattle.misc.specs.Signed.{naturalAt}
-use Rattle.misc.specs.Lenenc.{lenencAt}
-use Rattle.misc.specs.Output.{Output, refused, answerOf}
-use Rattle.packets.specs.Tag.{isTag}
-use Rattle.previous_gtids_event.specs.Previous.{previous}
+use mathlib.Core.Bool.{Bool, true, false}
+use mathlib.Core.List.{List, _++_}
+use lib.IntN.{ℤ}
+use lib.ListN.{length, drop}
+use Rattle.misc.specs.declared.Wrote.{Wrote}
+use Rattle.misc.specs.Parse.{Bytes, uintRead}
+use Rattle.misc.specs.Body.{ofBody}
+use Rattle.misc.specs.Le.{leAt, leBytes}
+use Rattle.misc.specs.Varlen.{varlenAt, varlenBytes}
+use Rattle.misc.specs.Signed.{sentAs, signedAt, naturalAt, intRead}
+use Rattle.misc.specs.Lenenc.{lenencAt, lenencBytes}
+use Rattle.misc.specs.Output.{bytes, outputOf, answerOf}
+use Rattle.previous_gtids_event.specs.Entry.{Entry}
+use Rattle.previous_gtids_event.specs.Previous.{noneOrTag, intervalAt, entryAt, previous}
 use Rattle.previous_gtids_event.specs.Rewrite.{rewritten}
+use Rattle.previous_gtids_event.specs.Answers.{previousRead, headerRead, entryRead, intervalRead}
+use Rattle.previous_gtids_reader.specs.declared.Cursor.{Cursor}
+use Rattle.previous_gtids_reader.specs.Steps.{startOf, stepOf, stepAfter}
 use Rattle.gtid_event.specs.Event.{withTag, newTagged}
 use Rattle.gtid_event.specs.declared.GtidEvent.{GtidEvent}
-use Rattle.gtid_event_read.specs.Read.{gtid}
+use Rattle.gtid_event_read.specs.Read.{gtid, gtidRead}
 use Rattle.gtid_event_write.specs.Writable.{writable}
-use Rattle.gtid_event_write.specs.Write.{eventOutput, lengthOf}
-use Rattle.gtid_sets.specs.Lent.{unfit, lentSet}
-use Rattle.resume_set.specs.Answers.{setRead, contained, takenIn, eventOf, offered}
-use Rattle.resume_set.specs.declared.Offered.the-variants.{Refused}
-use Rattle.promises.specs.Faults.{plain, varlen, Ends, EventFault, BodyFault}
-use Rattle.promises.specs.LaidFaults.{EventBad}
-use Rattle.promises.specs.LaidBodyFaults.{BodyBad}
-use Rattle.promises.specs.PlainFaults.{NaturalFault, LenencFault, WriteFault}
-use Rattle.promises.specs.SetFaults.{TakeInFault, OfferFault}
-
--- reading refuses with this number
-abbrev pub Refuses : {A : Type 0} → Parse A → ℕ → Type 0
-Refuses p n = (r : Refusal) × (p ≡ refuse r) × (number r ≡ n)
-
--- so does a call that writes
-abbrev pub WriterRefuses : Output → ℕ → Type 0
-WriterRefuses o n = (r : Refusal) × (o ≡ refused r) × (number r ≡ n)
+use Rattle.gtid_event_write.specs.Write.{eventBytes, eventOutput, lengthOf}
+use Rattle.gtid_sets.specs.Lent.{lentSet, SetLaid}
+use Rattle.set_check.specs.Check.{checkedOf}
+use Rattle.resume_set.specs.Answers.{setRead, contained, takenIn, eventOf, offered, output}
+use Rattle.resume_set.specs.declared.Offered.{Offered}
+use Rattle.listing.specs.SetText.{setText, listedSet}
+use Rattle.listing.specs.EventText.{eventText, listing}
+use Rattle.abi.specs.Answers.{numbersOf, entryIn}
+use Rattle.abi.specs.Flat.{flat, flatRead, readOutput, readUsed, writeOutput}
+use Rattle.resume_set_laws.specs.History.{Turn, Offering, member}
+use Rattle.promises.specs.Meaning.{RecordLaid}
+use Rattle.promises.specs.Faults.{EventFault}
+use Rattle.promises.specs.BodyFaults.{EntryFault, BodyFault}
+use Rattle.promises.specs.PlainFaults.{FixedFault, VarlenFault, NaturalFault, LenencFault, OfBody, HeadedFault, NumberFault, TagFault, RecordFault, ShortFault, WriteFault}
+use Rattle.promises.specs.SetFaults.{SetFault, RewrittenAs, TakeInFault, TakenInAs, OfferAnswer}
 
 -- either holds just if the other does
 abbrev pub Exactly : Type 0 → Type 0 → Type 0
 Exactly A B = (A → B) × (B → A)
 
--- ---- an event, and a Previous-GTIDs body
+-- a refusal's number that is answered, 0 for none
+abbrev pub RefusesExactly : ℕ → (ℕ → Type 0) → Type 0
+RefusesExactly refusal Fault = (n : ℕ) → Exactly ((refusal ≡ n) × (n ≡ 0 → ⊥)) (Fault n)
 
-abbrev pub EventExact : Type 0
-EventExact = (type : ℕ) (s : List ℕ) (n : ℕ) → Bytes s → Exactly (Refuses (gtid type s) n) (EventFault type s n)
+-- the same of a call that writes, with the length that it answers
+abbrev pub WritesExactly : Wrote → (ℕ → ℕ → Type 0) → Type 0
+WritesExactly wrote Fault = (n len : ℕ) → Exactly ((wrote .refusal ≡ n) × (wrote .len ≡ len) × (n ≡ 0 → ⊥)) (Fault n len)
 
--- the same by the layouts alone
-abbrev pub EventLaidExact : Type 0
-EventLaidExact = (type : ℕ) (s : List ℕ) (n : ℕ) → Bytes s → Exactly (Refuses (gtid type s) n) (EventBad type s n)
+-- ---- misc
 
-abbrev pub BodyExact : Type 0
-BodyExact = (s : List ℕ) (n : ℕ) → Exactly (Refuses (previous s) n) (BodyFault s n)
+pub record IntegersExact : Type 0 where
+  pub «read_u32_le» : (s : List ℕ) (at : ℕ) → RefusesExactly (uintRead (leAt 4 s at) .refusal) (FixedFault 4 (drop at s))
+  pub «read_u56_le» : (s : List ℕ) (at : ℕ) → RefusesExactly (uintRead (leAt 7 s at) .refusal) (FixedFault 7 (drop at s))
+  pub «read_u64_le» : (s : List ℕ) (at : ℕ) → RefusesExactly (uintRead (leAt 8 s at) .refusal) (FixedFault 8 (drop at s))
+  pub «read_varlen_uint» : (s : List ℕ) (at : ℕ) → Bytes s → RefusesExactly (uintRead (varlenAt s at) .refusal) (VarlenFault (drop at s))
+  pub «read_varlen_int» : (s : List ℕ) (at : ℕ) → Bytes s → RefusesExactly (intRead (signedAt s at) .refusal) (VarlenFault (drop at s))
+  pub «read_varlen_natural» : (s : List ℕ) (at : ℕ) → Bytes s → RefusesExactly (uintRead (naturalAt s at) .refusal) (NaturalFault (drop at s))
+  pub «read_lenenc_int» : (s : List ℕ) (at : ℕ) → Bytes s → RefusesExactly (uintRead (lenencAt s at) .refusal) (LenencFault (drop at s))
+  pub «write_bytes» : (source out : List ℕ) → WritesExactly (answerOf out (bytes source)) (ShortFault source (length out))
+  pub «write_u32_le» : (value : ℕ) (out : List ℕ) → WritesExactly (answerOf out (bytes (leBytes 4 value))) (ShortFault (leBytes 4 value) (length out))
+  pub «write_u56_le» : (value : ℕ) (out : List ℕ) → WritesExactly (answerOf out (bytes (leBytes 7 value))) (ShortFault (leBytes 7 value) (length out))
+  pub «write_u64_le» : (value : ℕ) (out : List ℕ) → WritesExactly (answerOf out (bytes (leBytes 8 value))) (ShortFault (leBytes 8 value) (length out))
+  pub «write_varlen_uint» : (value : ℕ) (out : List ℕ) → WritesExactly (answerOf out (bytes (varlenBytes value))) (ShortFault (varlenBytes value) (length out))
+  pub «write_varlen_int» : (value : ℤ) (out : List ℕ)
+      → WritesExactly (answerOf out (bytes (varlenBytes (sentAs value)))) (ShortFault (varlenBytes (sentAs value)) (length out))
+  pub «write_lenenc_int» : (value : ℕ) (out : List ℕ) → WritesExactly (answerOf out (bytes (lenencBytes value))) (ShortFault (lenencBytes value) (length out))
 
--- the same by the layout alone
-abbrev pub BodyLaidExact : Type 0
-BodyLaidExact = (s : List ℕ) (n : ℕ) → Bytes s → Exactly (Refuses (previous s) n) (BodyBad s n)
+-- ---- gtid_event, gtid_event_read, gtid_event_write
 
--- ---- `take_in` and `offer`
+pub record EventsExact : Type 0 where
+  pub «with_tag» : (tag : List ℕ) (e : GtidEvent) → RefusesExactly (withTag tag e .refusal) (TagFault tag)
+  pub «new_tagged» : (sid tag : List ℕ) (gno : ℕ) → RefusesExactly (newTagged sid tag gno .refusal) (TagFault tag)
+  pub read : (type : ℕ) (body : List ℕ) → Bytes body → RefusesExactly (gtidRead (gtid type body) .refusal) (EventFault type body)
+  pub write : (e : GtidEvent) (out : List ℕ)
+      → WritesExactly (answerOf out (eventOutput e)) (WriteFault (RecordFault e) (λ bs. (writable e ≡ true) × (bs ≡ eventBytes e)) (length out))
+  pub length : (e : GtidEvent) → RefusesExactly (lengthOf e .refusal) (RecordFault e)
 
-abbrev pub TakeInExact : Type 0
-TakeInExact = (body : List ℕ) (n : ℕ) → Exactly (WriterRefuses (takenIn (previous body)) n) (TakeInFault body n)
+-- ---- previous_gtids_event
 
-abbrev pub OfferExact : Type 0
-OfferExact = (set : List ℕ) (type : ℕ) (body : List ℕ) (room n len : ℕ)
-    → Exactly (offered (lentSet set) (eventOf type body) room ≡ Refused n len) (OfferFault set type body room n len)
+pub record BodiesExact : Type 0 where
+  pub read : (body : List ℕ) → Bytes body → RefusesExactly (previousRead (previous body) .refusal) (BodyFault body)
+  pub «header_of» : (body : List ℕ) → RefusesExactly (headerRead (ofBody body (leAt 8 body 0)) .refusal) (OfBody body (FixedFault 8 body))
+  pub «entry_at» : (body : List ℕ) (at : ℕ) (tagged : Bool) → Bytes body
+      → RefusesExactly (entryRead (ofBody body (entryAt tagged body at)) .refusal) (OfBody body (EntryFault tagged (drop at body)))
+  pub «interval_at» : (body : List ℕ) (first index : ℕ)
+      → RefusesExactly (intervalRead (ofBody body (intervalAt body (first + 16 * index))) .refusal) (OfBody body (FixedFault 16 (drop (first + 16 * index) body)))
+  pub rewrite : (body out : List ℕ) → Bytes body
+      → WritesExactly (answerOf out (rewritten (previous body)))
+      (WriteFault (BodyFault body) (RewrittenAs body) (length out))
 
--- ---- one integer; a call that writes; looking at a set, and adding a tag
+-- ---- previous_gtids_reader: a step's number comes from the body, whatever its cursor says of refusals
 
-pub record PlainExact : Type 0 where
-  pub fixed : (w : ℕ) (s : List ℕ) (at n : ℕ) → Exactly (Refuses (leAt w s at) n) ((n ≡ 1) × Ends (plain w) s at)
-  pub uint : (s : List ℕ) (at n : ℕ) → Exactly (Refuses (varlenAt s at) n) ((n ≡ 1) × Ends varlen s at)
-  pub natural : (s : List ℕ) (at n : ℕ) → Exactly (Refuses (naturalAt s at) n) (NaturalFault s at n)
-  pub length-encoded : (s : List ℕ) → Bytes s → (at n : ℕ) → Exactly (Refuses (lenencAt s at) n) (LenencFault s at n)
-  pub write : (out : List ℕ) (o : Output) (n len : ℕ)
-      → Exactly ((answerOf out o ≡ record { refusal = n; len = len }) × (n ≡ 0 → ⊥)) (WriteFault out o n len)
-  pub event : (e : GtidEvent) (n : ℕ) → Exactly (WriterRefuses (eventOutput e) n) ((n ≡ 12) × (writable e ≡ false))
-  pub measured : (e : GtidEvent) (n : ℕ) → Exactly ((lengthOf e .refusal ≡ n) × (n ≡ 0 → ⊥)) ((n ≡ 12) × (writable e ≡ false))
-  pub rewrite : (s : List ℕ) (n : ℕ) → Exactly (WriterRefuses (rewritten (previous s)) n) (BodyFault s n)
-  pub set : (bs : List ℕ) (n : ℕ) → Exactly ((setRead (lentSet bs) .refusal ≡ n) × (n ≡ 0 → ⊥)) ((n ≡ 14) × (lentSet bs ≡ unfit))
-  pub member : (bs uuid tag : List ℕ) (gno n : ℕ)
-      → Exactly ((contained (lentSet bs) uuid tag gno .refusal ≡ n) × (n ≡ 0 → ⊥)) ((n ≡ 14) × (lentSet bs ≡ unfit))
-  pub step : (tag : List ℕ) (e : GtidEvent) (n : ℕ) → Exactly ((withTag tag e .refusal ≡ n) × (n ≡ 0 → ⊥)) ((n ≡ 6) × (isTag tag ≡ false))
-  pub new : (sid tag : List ℕ) (gno n : ℕ) → Exactly ((newTagged sid tag gno .refusal ≡ n) × (n ≡ 0 → ⊥)) ((n ≡ 6) × (isTag tag ≡ false))
+pub record ReaderExact : Type 0 where
+  pub start : (body : List ℕ) → RefusesExactly (startOf body .refusal) (OfBody body (FixedFault 8 body))
+  pub «step_at» : (body : List ℕ) (c : Cursor) → Bytes body
+      → RefusesExactly (stepOf body c .entry .refusal) (OfBody body (HeadedFault (c .left) (c .at) body))
+  pub next : (body : List ℕ) (c : Cursor) → Bytes body → RefusesExactly (stepOf body c .entry .refusal) (OfBody body (HeadedFault (c .left) (c .at) body))
+  pub «entry_number» : (body : List ℕ) (index : ℕ) → Bytes body
+      → RefusesExactly (stepAfter body index .entry .refusal) (OfBody body (NumberFault index body))
+
+-- ---- set_check and resume_set
+
+pub record SetsExact : Type 0 where
+  pub check : (set : List ℕ) → RefusesExactly (checkedOf (lentSet set) .refusal) (SetFault set)
+  pub «check_set» : (set : List ℕ) → RefusesExactly (setRead (lentSet set) .refusal) (SetFault set)
+  pub contains : (set uuid tag : List ℕ) (gno : ℕ) → RefusesExactly (contained (lentSet set) uuid tag gno .refusal) (SetFault set)
+  pub «take_in» : (body out : List ℕ) → Bytes body
+      → WritesExactly (answerOf out (takenIn (previous body))) (WriteFault (TakeInFault body) (TakenInAs body) (length out))
+
+-- ---- listing
+
+pub record ListingExact : Type 0 where
+  pub «list_set» : (word set out : List ℕ)
+      → WritesExactly (answerOf out (listedSet word (lentSet set)))
+      (WriteFault (SetFault set) (λ bs. (s : List Entry) × SetLaid set s × (bs ≡ setText word s)) (length out))
+  pub list : (type : ℕ) (body out : List ℕ) → WritesExactly (answerOf out (bytes (eventText type body))) (ShortFault (eventText type body) (length out))
+  pub «list_input» : (input out : List ℕ) → WritesExactly (answerOf out (bytes (listing input))) (ShortFault (listing input) (length out))
+
+-- ---- `offer`, and any in its place: every answer, and what it leaves in the output, exactly where its case holds
+
+abbrev pub OffersExactly : Offering → Type 0
+OffersExactly f = (set : List ℕ) (t : Turn) (a : Offered) (l : List ℕ) → Bytes (t .body)
+    → Exactly ((f .answers set t ≡ a) × (f .leaves set t ≡ l)) (OfferAnswer set (t .type) (t .body) (t .out) a l)
+
+-- ---- `contains`, and any in its place: of a set's bytes, the parts of an id and its number it says whether the id is a member, and of anything else no
+
+abbrev pub Asking : Type 0
+Asking = List ℕ → List ℕ → List ℕ → ℕ → Bool
+
+pub record AsksExactly (ask : Asking) : Type 0 where
+  pub id : (set uuid tag : List ℕ) (gno : ℕ) → length uuid ≡ 16 → noneOrTag tag ≡ true → ask set uuid tag gno ≡ member set (uuid ++ tag) gno
+  pub no-uuid : (set uuid tag : List ℕ) (gno : ℕ) → (length uuid ≡ 16 → ⊥) → ask set uuid tag gno ≡ false
+  pub no-tag : (set uuid tag : List ℕ) (gno : ℕ) → noneOrTag tag ≡ false → ask set uuid tag gno ≡ false
+
+-- the one that `contains` promises
+abbrev pub asks : Asking
+asks set uuid tag gno = contained (lentSet set) uuid tag gno .present
+
+-- ---- the archive's calls (crate abi)
+
+-- a record in 116 bytes that is to be written
+pub data FlatFault (fields : List ℕ) : ℕ → Type 0 where
+  -- 12: it has another length, or isn't writable
+  otherSize : (length fields ≡ 116 → ⊥) → FlatFault fields 12
+  badRecord : {n : ℕ} → length fields ≡ 116 → RecordFault (flatRead fields) n → FlatFault fields n
+
+pub record ArchiveExact : Type 0 where
+  pub «gtid_read_varlen_uint» : (s : List ℕ) → Bytes s → RefusesExactly (uintRead (varlenAt s 0) .refusal) (VarlenFault s)
+  pub «gtid_check_set» : (set : List ℕ) → RefusesExactly (setRead (lentSet set) .refusal) (SetFault set)
+  pub «gtid_contains» : (set uuid tag : List ℕ) (gno : ℕ) → RefusesExactly (contained (lentSet set) uuid tag gno .refusal) (SetFault set)
+  pub «gtid_take_in» : (body out : List ℕ) → Bytes body
+      → WritesExactly (answerOf out (takenIn (previous body))) (WriteFault (TakeInFault body) (TakenInAs body) (length out))
+  pub «gtid_read_previous» : (body : List ℕ) → Bytes body → RefusesExactly (previousRead (previous body) .refusal) (BodyFault body)
+  pub «gtid_read_entry» : (body : List ℕ) (at : ℕ) → Bytes body → RefusesExactly (entryRead (entryIn body at) .refusal) (OfBody body (HeadedFault 1 at body))
+  pub «gtid_rewrite» : (body out : List ℕ) → Bytes body
+      → WritesExactly (answerOf out (rewritten (previous body))) (WriteFault (BodyFault body) (RewrittenAs body) (length out))
+  pub «gtid_list» : (input out : List ℕ) → WritesExactly (answerOf out (bytes (listing input))) (ShortFault (listing input) (length out))
+  -- its numbers tell every answer from every other
+  pub «gtid_offer» : (set : List ℕ) (type : ℕ) (body out : List ℕ) (a : Offered) (l : List ℕ) → Bytes body
+      → Exactly ((numbersOf (offered (lentSet set) (eventOf type body) (length out)) ≡ numbersOf a)
+      × (outputOf out (output (lentSet set) (eventOf type body)) ≡ l)) (OfferAnswer set type body out a l)
+  -- what it answers for 13 in the place of the bytes used is the length that is needed
+  pub «gtid_read» : (type : ℕ) (body out : List ℕ) → Bytes body
+      → WritesExactly (record { refusal = answerOf out (readOutput (gtid type body)) .refusal; len = readUsed (gtid type body) (length out) })
+      (WriteFault (EventFault type body) (λ bs. (e : GtidEvent) × (used : ℕ) × RecordLaid type body e used × (bs ≡ flat e)) (length out))
+  pub «gtid_write» : (fields out : List ℕ)
+      → WritesExactly (answerOf out (writeOutput fields))
+      (WriteFault (FlatFault fields) (λ bs. (length fields ≡ 116) × (writable (flatRead fields) ≡ true) × (bs ≡ eventBytes (flatRead fields))) (length out))

@@ -1,149 +1,97 @@
--- Demand 1, the table: what holds of an event or a body that reading refuses with a number. Each constructor is a case of the rules' table;
--- what it asks for is said by the layouts: where reading has come to, and what is wrong there.
-use Prim.Native.Nat.{ℕ, _+_, _-_, _≤_, _<_}
+-- Demand 1, the table for events: the event's bytes are laid out up to a place, and this is wrong there. No parser is named here.
+use Prim.Native.Nat.{ℕ, _+_, _-_, _*_, _^_, _≤_, _<_}
 use mathlib.Core.Path.{_≡_}
-use mathlib.Core.Bool.{true, false}
-use mathlib.Core.List.{List}
+use mathlib.Core.Bool.{false}
+use mathlib.Core.List.{List, [], _∷_, _++_}
 use mathlib.Core.Logic.{_⊎_}
-use lib.Dec.{eqb}
-use lib.IntN.{negsuc}
-use lib.ListN.{length, getD}
-use Rattle.misc.specs.Pick.{pick}
-use Rattle.misc.specs.Parse.{parsed, many, part}
+use lib.ListN.{length}
 use Rattle.misc.specs.Body.{bodyLimit}
-use Rattle.misc.specs.Le.{leOf, leAt}
-use Rattle.misc.specs.Mark.{hasBit}
-use Rattle.misc.specs.Varlen.{trailingOnes, varlenAt}
-use Rattle.misc.specs.Signed.{signedAt}
+use Rattle.misc.specs.Forms.{Number, Ones, Form}
 use Rattle.packets.specs.Tag.{isTag}
-use Rattle.packets.specs.Key.{Key}
-use Rattle.previous_gtids_event.specs.Entry.{Entry}
-use Rattle.previous_gtids_event.specs.Previous.{noneOrTag, keyAt, head, headAt, intervalAt, entryAt, saysTagged, saysCount}
-use Rattle.gtid_event_read.specs.Fields.{upTo, natural, uuid, unknown, kindOf, noFields, limitedAt, fieldAt, fieldsOf}
-use Rattle.gtid_event_read.specs.declared.Fields.{Fields}
-use Rattle.gtid_event_read.specs.Untagged.{timestampsAt, lengthAt, typecodeAt}
+use Rattle.promises.specs.TaggedLayout.{Sent, Items, Value, FieldsLaid, hasTag}
+use Rattle.promises.specs.UntaggedLayout.{PairIfLeft, LengthIfLeft}
 
--- ---- items that reading comes to
+-- ---- integers that the bytes end inside
 
--- so many bytes, a variable-length integer, or a length-encoded one
-pub data Item : Type 0 where
-  plain : ℕ → Item
-  varlen : Item
-  lenenc : Item
+pub data CutForm : List ℕ → Type 0 where
+  nothing : CutForm []
+  few : (t first : ℕ) (more : List ℕ) → t < 8 → Ones t first → length more < t → CutForm (first ∷ more)
+  nine : (more : List ℕ) → length more < 8 → CutForm (0xFF ∷ more)
 
--- how many bytes the item at a place has, by its first byte
-abbrev pub needs : Item → List ℕ → ℕ → ℕ
-needs (plain n) s at = n
-needs varlen s at = trailingOnes 8 (getD s at 0) + 1
-needs lenenc s at = 1 + pick (eqb (getD s at 0) 0xFC) 2 (pick (eqb (getD s at 0) 0xFD) 3 (pick (eqb (getD s at 0) 0xFE) 8 0))
+pub data CutLenenc : List ℕ → Type 0 where
+  led-by-FC : (more : List ℕ) → length more < 2 → CutLenenc (0xFC ∷ more)
+  led-by-FD : (more : List ℕ) → length more < 3 → CutLenenc (0xFD ∷ more)
+  led-by-FE : (more : List ℕ) → length more < 8 → CutLenenc (0xFE ∷ more)
 
--- the bytes end inside it
-abbrev pub Ends : Item → List ℕ → ℕ → Type 0
-Ends i s at = length s < at + needs i s at
+-- ---- the fields of a tagged event
 
--- ---- an untagged event
+-- fields that are in order, one after another
+pub data FieldsFront : List ℕ → Type 0 where
+  none : FieldsFront []
+  more : {id : ℕ} {x : Sent} {bs value rest : List ℕ} → Form id bs → Value id x value → FieldsFront rest → FieldsFront (bs ++ value ++ rest)
 
--- the parts behind the typecode are there
-abbrev pub Later : List ℕ → Type 0
-Later s = typecodeAt s 25 ≡ true
+-- what is wrong behind a field's id
+pub data ValueFault (last : ℕ) : ℕ → List ℕ → ℕ → Type 0 where
+  -- 1: the payload ends inside the number, an item of the uuid, or the tag's bytes
+  cutNumber : {id : ℕ} {rest : List ℕ} → id < 12 → (id ≡ 1 → ⊥) → CutForm rest → ValueFault last id rest 1
+  cutItem : {us done rest : List ℕ} → Items us done → length us < 16 → CutForm rest → ValueFault last 1 (done ++ rest) 1
+  cutTag : {n : ℕ} {size : List ℕ} (rest : List ℕ) → Form n size → length rest < n → ValueFault last 3 (size ++ rest) 1
+  -- 2: flags or an item of the uuid above 255, a server version above 2^32-1
+  largeFlags : {v : ℕ} {bs : List ℕ} (rest : List ℕ) → Form v bs → 255 < v → ValueFault last 0 (bs ++ rest) 2
+  largeItem : {u : ℕ} {us done bs : List ℕ} (rest : List ℕ) → Items us done → length us < 16 → Form u bs → 255 < u → ValueFault last 1 (done ++ (bs ++ rest)) 2
+  largeVersion : {id v : ℕ} {bs : List ℕ} (rest : List ℕ) → (id ≡ 9) ⊎ (id ≡ 10) → Form v bs → 2 ^ 32 - 1 < v → ValueFault last id (bs ++ rest) 2
+  -- 3: gno, last_committed or sequence_number is - (n + 1)
+  negative : {id : ℕ} (n : ℕ) {bs : List ℕ} (rest : List ℕ) → (id ≡ 2) ⊎ ((id ≡ 4) ⊎ (id ≡ 5)) → Form (n * 2 + 1) bs → ValueFault last id (bs ++ rest) 3
+  -- 5: an unknown id, at most the last non-ignorable one
+  unknownId : {id : ℕ} {rest : List ℕ} → 12 ≤ id → id ≤ last → ValueFault last id rest 5
+  -- 6: the tag breaks the tag rule
+  tagRule : (t : List ℕ) {size : List ℕ} (rest : List ℕ) → Form (length t) size → isTag t ≡ false → ValueFault last 3 (size ++ (t ++ rest)) 6
 
--- reading has come to the transaction length; to the server versions
-pub record AtLength (s : List ℕ) (at : ℕ) : Type 0 where
-  pub later : Later s
-  pub passed : (p : _) × (timestampsAt s 42 ≡ parsed p at)
-
-pub record AtVersions (s : List ℕ) (at : ℕ) : Type 0 where
-  pub from : ℕ
-  pub before : AtLength s from
-  pub passed : (v : ℕ) × (lengthAt s from ≡ parsed v at)
-
--- the items that it wants
-pub data Untagged (s : List ℕ) : ℕ → Item → Type 0 where
-  flags : Untagged s 0 (plain 1)
-  uuidBytes : Untagged s 1 (plain 16)
-  gno : Untagged s 17 (plain 8)
-  lastCommitted : Later s → Untagged s 26 (plain 8)
-  sequenceNumber : Later s → Untagged s 34 (plain 8)
-  originalTimestamp : Later s → 49 ≤ length s → hasBit 55 (leOf (part s 42 7)) ≡ true → Untagged s 49 (plain 7)
-  transactionLength : {at : ℕ} → AtLength s at → at < length s → Untagged s at lenenc
-  originalVersion : {at : ℕ} → AtVersions s at → at + 4 ≤ length s → hasBit 31 (leOf (part s at 4)) ≡ true → Untagged s (at + 4) (plain 4)
-
-pub data UntaggedFault (s : List ℕ) : ℕ → Type 0 where
-  -- 1: the bytes end inside a wanted item
-  cut : (at : ℕ) (i : Item) → Untagged s at i → Ends i s at → UntaggedFault s 1
-  -- 10: a length-encoded lead byte FB or FF
-  lead : (at : ℕ) → AtLength s at → at < length s → (getD s at 0 ≡ 0xFB) ⊎ (getD s at 0 ≡ 0xFF) → UntaggedFault s 10
-
--- ---- a tagged event: the fields of its payload s
-
--- reading has come to a field, with these read so far
-pub data Reached (last : ℕ) (s : List ℕ) : Fields → ℕ → Type 0 where
-  first : Reached last s noFields 0
-  next : {f g : Fields} {at to : ℕ} → Reached last s f at → at < length s → fieldAt last s f at ≡ parsed g to → Reached last s g to
-
--- it has read the field's id, and comes to its value
-pub record AtValue (last : ℕ) (s : List ℕ) (id from : ℕ) : Type 0 where
-  pub so-far : Fields
-  pub at : ℕ
-  pub reached : Reached last s so-far at
-  pub more : at < length s
-  pub told : varlenAt s at ≡ parsed id from
-
--- item number i of a uuid
-pub record AtUuidItem (last : ℕ) (s : List ℕ) (i at : ℕ) : Type 0 where
-  pub from : ℕ
-  pub value : AtValue last s 1 from
-  pub below : i < 16
-  pub passed : (us : List ℕ) × (many (limitedAt 255 s) i from ≡ parsed us at)
-
--- the items that a payload wants
-pub data Wanted (last : ℕ) (s : List ℕ) : ℕ → Item → Type 0 where
-  fieldId : {f : Fields} {at : ℕ} → Reached last s f at → at < length s → Wanted last s at varlen
-  number : {id from : ℕ} → AtValue last s id from → (kindOf id ≡ uuid → ⊥) → (kindOf id ≡ unknown → ⊥) → Wanted last s from varlen
-  uuidItem : {i at : ℕ} → AtUuidItem last s i at → Wanted last s at varlen
-  tagBytes : {from n to : ℕ} → AtValue last s 3 from → varlenAt s from ≡ parsed n to → Wanted last s to (plain n)
-
-pub data FieldFault (last : ℕ) (s : List ℕ) : ℕ → Type 0 where
-  -- 1: the payload ends inside a wanted item
-  cut : (at : ℕ) (i : Item) → Wanted last s at i → Ends i s at → FieldFault last s 1
-  -- 2: a uuid item or the flags above 255, a server version above 2^32-1
-  large : {id from limit v to : ℕ} → AtValue last s id from → kindOf id ≡ upTo limit → varlenAt s from ≡ parsed v to → limit < v → FieldFault last s 2
-  largeItem : {i at v to : ℕ} → AtUuidItem last s i at → varlenAt s at ≡ parsed v to → 255 < v → FieldFault last s 2
-  -- 3: gno, last_committed or sequence_number negative
-  negative : {id from n to : ℕ} → AtValue last s id from → kindOf id ≡ natural → signedAt s from ≡ parsed (negsuc n) to → FieldFault last s 3
-  -- 5: an unknown field id, at most the last non-ignorable id
-  unknownId : {id from : ℕ} → AtValue last s id from → kindOf id ≡ unknown → id ≤ last → FieldFault last s 5
-  -- 6: the tag, which is all there, breaks the tag rule
-  tagRule : {from n to : ℕ} → AtValue last s 3 from → varlenAt s from ≡ parsed n to → to + n ≤ length s → isTag (part s to n) ≡ false
-      → FieldFault last s 6
+-- behind fields that are in order: an id that the payload ends inside, or an id and something wrong behind it
+pub data FieldFault (last : ℕ) : List ℕ → ℕ → Type 0 where
+  cutId : {front rest : List ℕ} → FieldsFront front → 1 ≤ length rest → CutForm rest → FieldFault last (front ++ rest) 1
+  badValue : {id n : ℕ} {front bs rest : List ℕ} → FieldsFront front → Form id bs → ValueFault last id rest n → FieldFault last (front ++ (bs ++ rest)) n
 
 -- ---- a tagged event
 
--- the envelope is read: the payload's size, the last non-ignorable id, and where the fields begin
-pub record Envelope (s : List ℕ) (size last start : ℕ) : Type 0 where
-  pub version : getD s 0 0 ≡ 2
-  pub from : ℕ
-  pub sized : varlenAt s 1 ≡ parsed size from
-  pub told : varlenAt s from ≡ parsed last start
-
-pub data TaggedFault (s : List ℕ) : ℕ → Type 0 where
+pub data TaggedFault : List ℕ → ℕ → Type 0 where
   -- 1: version byte, size or last non-ignorable id cut off; or the payload, which is itself one item, judged before its fields
-  cutVersion : length s < 1 → TaggedFault s 1
-  cutSize : 1 ≤ length s → getD s 0 0 ≡ 2 → Ends varlen s 1 → TaggedFault s 1
-  cutLast : {size from : ℕ} → getD s 0 0 ≡ 2 → varlenAt s 1 ≡ parsed size from → Ends varlen s from → TaggedFault s 1
-  cutPayload : {size last start : ℕ} → Envelope s size last start → start ≤ size → length s < size → TaggedFault s 1
+  cutVersion : TaggedFault [] 1
+  cutSize : {rest : List ℕ} → CutForm rest → TaggedFault (2 ∷ rest) 1
+  cutLast : {size : ℕ} {a rest : List ℕ} → Form size a → CutForm rest → TaggedFault (2 ∷ (a ++ rest)) 1
+  cutPayload : {size last : ℕ} {a b : List ℕ} (rest : List ℕ) → Form size a → Form last b → length (2 ∷ (a ++ b)) ≤ size → length (2 ∷ (a ++ (b ++ rest))) < size
+      → TaggedFault (2 ∷ (a ++ (b ++ rest))) 1
   -- 4: the version byte isn't 2
-  wrongVersion : 1 ≤ length s → (getD s 0 0 ≡ 2 → ⊥) → TaggedFault s 4
+  wrongVersion : {v : ℕ} {rest : List ℕ} → (v ≡ 2 → ⊥) → TaggedFault (v ∷ rest) 4
   -- 9: the declared payload is smaller than its envelope
-  smallPayload : {size last start : ℕ} → Envelope s size last start → size < start → TaggedFault s 9
+  smallPayload : {size last : ℕ} {a b : List ℕ} (rest : List ℕ) → Form size a → Form last b → size < length (2 ∷ (a ++ b)) → TaggedFault (2 ∷ (a ++ (b ++ rest))) 9
   -- 1, 2, 3, 5, 6: a fault of the fields
-  inFields : {size last start n : ℕ} → Envelope s size last start → start ≤ size → size ≤ length s
-      → FieldFault last (part s start (size - start)) n → TaggedFault s n
+  inFields : {size last n : ℕ} {a b fields : List ℕ} (rest : List ℕ) → Form size a → Form last b → size ≡ length (2 ∷ (a ++ (b ++ fields))) → FieldFault last fields n
+      → TaggedFault (2 ∷ (a ++ (b ++ (fields ++ rest)))) n
   -- 7: the fields end without a tag
-  noTag : {size last start at : ℕ} {f : Fields} → Envelope s size last start → start ≤ size → size ≤ length s
-      → fieldsOf last (part s start (size - start)) ≡ parsed f at → getD (f .present) 3 false ≡ false → TaggedFault s 7
+  noTag : {size last : ℕ} {a b fields : List ℕ} {told : List Sent} (rest : List ℕ) → Form size a → Form last b → size ≡ length (2 ∷ (a ++ (b ++ fields)))
+      → FieldsLaid last told fields → hasTag told ≡ false → TaggedFault (2 ∷ (a ++ (b ++ (fields ++ rest)))) 7
+
+-- ---- an untagged event: `front` is flags, uuid and gno; `clock` is last_committed and sequence_number
+
+pub data UntaggedFault : List ℕ → ℕ → Type 0 where
+  -- 1: the body ends inside flags, uuid or gno; behind the typecode inside last_committed or sequence_number; inside an original timestamp, a
+  -- transaction length or an original server version
+  cutOpening : (s : List ℕ) → length s < 25 → UntaggedFault s 1
+  cutClock : (front rest : List ℕ) → length front ≡ 25 → length rest < 16 → UntaggedFault (front ++ (2 ∷ rest)) 1
+  cutTimestamp : (v : ℕ) (front clock bs rest : List ℕ) → length front ≡ 25 → length clock ≡ 16 → Number 7 (v + 2 ^ 55) bs → v < 2 ^ 55 → length rest < 7
+      → UntaggedFault (front ++ (2 ∷ (clock ++ (bs ++ rest)))) 1
+  cutLength : {i o : ℕ} (front clock times rest : List ℕ) → length front ≡ 25 → length clock ≡ 16 → PairIfLeft 7 0 i o times rest → CutLenenc rest
+      → UntaggedFault (front ++ (2 ∷ (clock ++ (times ++ rest)))) 1
+  cutVersion : {i o len : ℕ} (v : ℕ) (front clock times len-bytes bs rest : List ℕ) → length front ≡ 25 → length clock ≡ 16
+      → PairIfLeft 7 0 i o times (len-bytes ++ (bs ++ rest)) → LengthIfLeft len len-bytes (bs ++ rest) → Number 4 (v + 2 ^ 31) bs → v < 2 ^ 31
+      → length rest < 4 → UntaggedFault (front ++ (2 ∷ (clock ++ (times ++ (len-bytes ++ (bs ++ rest)))))) 1
+  -- 10: a length-encoded lead byte FB or FF
+  badLead : {i o : ℕ} (lead : ℕ) (front clock times rest : List ℕ) → length front ≡ 25 → length clock ≡ 16 → PairIfLeft 7 0 i o times (lead ∷ rest)
+      → (lead ≡ 0xFB) ⊎ (lead ≡ 0xFF) → UntaggedFault (front ++ (2 ∷ (clock ++ (times ++ (lead ∷ rest))))) 10
 
 -- ---- an event by its type and body
+
 pub data EventFault (type : ℕ) (s : List ℕ) : ℕ → Type 0 where
   -- 11: a body over 65,536 bytes
   tooLong : bodyLimit < length s → EventFault type s 11
@@ -151,43 +99,3 @@ pub data EventFault (type : ℕ) (s : List ℕ) : ℕ → Type 0 where
   wrongType : length s ≤ bodyLimit → (type ≡ 33 → ⊥) → (type ≡ 34 → ⊥) → (type ≡ 42 → ⊥) → EventFault type s 8
   untagged : {n : ℕ} → length s ≤ bodyLimit → (type ≡ 33) ⊎ (type ≡ 34) → UntaggedFault s n → EventFault type s n
   tagged : {n : ℕ} → length s ≤ bodyLimit → type ≡ 42 → TaggedFault s n → EventFault type s n
-
--- ---- a Previous-GTIDs body
-
--- reading has come to an entry that the header counts
-pub record AtEntry (s : List ℕ) (header at : ℕ) : Type 0 where
-  pub read : leAt 8 s 0 ≡ parsed header 8
-  pub index : ℕ
-  pub below : index < saysCount header
-  pub passed : (es : List Entry) × (many (entryAt (saysTagged header) s) index 8 ≡ parsed es at)
-
--- to an interval of it
-pub record AtInterval (s : List ℕ) (at : ℕ) : Type 0 where
-  pub header : ℕ
-  pub from : ℕ
-  pub there : AtEntry s header from
-  pub key : Key
-  pub count : ℕ
-  pub start : ℕ
-  pub announced : headAt (saysTagged header) s from ≡ parsed (head key count) start
-  pub index : ℕ
-  pub below : index < count
-  pub passed : (is : _) × (many (intervalAt s) index start ≡ parsed is at)
-
-pub data Body (s : List ℕ) : ℕ → Item → Type 0 where
-  header : Body s 0 (plain 8)
-  uuidBytes : {h at : ℕ} → AtEntry s h at → Body s at (plain 16)
-  tagLength : {h at : ℕ} → AtEntry s h at → saysTagged h ≡ true → Body s (at + 16) varlen
-  tagBytes : {h at n to : ℕ} → AtEntry s h at → saysTagged h ≡ true → varlenAt s (at + 16) ≡ parsed n to → Body s to (plain n)
-  intervalCount : {h at to : ℕ} {k : Key} → AtEntry s h at → keyAt (saysTagged h) s at ≡ parsed k to → Body s to (plain 8)
-  start : {at : ℕ} → AtInterval s at → Body s at (plain 8)
-  end : {at : ℕ} → AtInterval s at → Body s (at + 8) (plain 8)
-
-pub data BodyFault (s : List ℕ) : ℕ → Type 0 where
-  -- 11: a body over 65,536 bytes
-  tooLong : bodyLimit < length s → BodyFault s 11
-  -- 1: the bytes end inside a wanted item
-  cut : length s ≤ bodyLimit → (at : ℕ) (i : Item) → Body s at i → Ends i s at → BodyFault s 1
-  -- 6: the tag, which is all there, breaks the tag rule
-  tagRule : {h at n to : ℕ} → length s ≤ bodyLimit → AtEntry s h at → saysTagged h ≡ true → varlenAt s (at + 16) ≡ parsed n to → to + n ≤ length s
-      → noneOrTag (part s to n) ≡ false → BodyFault s 6

@@ -1,18 +1,17 @@
--- The page to read first. The edges that the rules name (`Edges`). Demand 1: what holds of whatever is refused, number by number (`Faults` for
--- reading events and bodies, `LaidFaults` and `LaidBodyFaults` for the same by the layouts alone, `SetFaults` for the calls above, `PlainFaults` for integers, writers,
--- checks and builders); that a number is given exactly where its case holds (`Exact`); which of several faults counts, and that nothing else is
--- answered or written (`Orders` and `Zeros` of `SetFaults`). Demand 2, of any reader and writer (`Meaning`), over the layouts (`Forms` of integers,
--- `TaggedLayout`, `UntaggedLayout`), which name no parser. Demand 3, of any offer: `History` of resume_set_laws. And wrong programs that these shut
--- out (`WrongOnes`).
+-- The page to read first, in this order. The edges that the rules name (`Edges`). The layouts, which name no parser: untagged and tagged records
+-- (`UntaggedLayout`, `TaggedLayout`) over the forms of integers (`Forms` of misc). Demand 2, of any reader and writer, over them (`Meaning`).
+-- Demand 1, the table of refusals, over the same layouts: events (`Faults`), Previous-GTIDs bodies (`BodyFaults`), integers, parts and writers
+-- (`PlainFaults`), sets (`SetFaults`); that every public function gives a number exactly where the table has its case, and an offer each of its answers
+-- (`Exact`); which of several faults counts, and that nothing else is answered or written (`Orders`).
+-- Demand 3, of any offer, is `History` of resume_set_laws. Last, wrong programs that all this shuts out (`WrongOnes`).
 pub mod Edges
-pub mod Forms
-pub mod TaggedLayout
 pub mod UntaggedLayout
+pub mod TaggedLayout
 pub mod Meaning
 pub mod Faults
-pub mod LaidFaults
-pub mod LaidBodyFaults
-pub mod SetFaults
+pub mod BodyFaults
 pub mod PlainFaults
+pub mod SetFaults
 pub mod Exact
+pub mod Orders
 pub mod WrongOnes

@@ -14,8 +14,7 @@ use Rattle.previous_gtids_event.specs.Entry.{Entry}
 use Rattle.gtid_event.specs.Event.{typeOf}
 use Rattle.gtid_event.specs.Event as event
 use Rattle.gtid_event.specs.declared.GtidEvent.{GtidEvent}
-use Rattle.previous_gtids_event.proofs.Laying.{WellFormed}
-use Rattle.previous_gtids_event.proofs.RoundTrip.{BodyLaid}
+use Rattle.previous_gtids_event.specs.Layout.{BodyLaid}
 use Rattle.gtid_event_write.specs.Writable.{writable}
 use Rattle.gtid_event_write.specs.Size.{Agrees}
 use Rattle.gtid_event_laws.specs.Fits.{Fits}
@@ -77,4 +76,4 @@ EntriesBack read write = (body : List ℕ) (es : List Entry) (used : ℕ) → By
 -- what is accepted is laid out as the format says, and whatever is laid out so is accepted
 abbrev pub EntriesMean : EntriesReader → Type 0
 EntriesMean read = (s : List ℕ) (es : List Entry) (used : ℕ) → Bytes s → length s ≤ bodyLimit
-    → (read s ≡ parsed es used → BodyLaid s es used × WellFormed es) × (WellFormed es → BodyLaid s es used → read s ≡ parsed es used)
+    → (read s ≡ parsed es used → BodyLaid s es used) × (BodyLaid s es used → read s ≡ parsed es used)

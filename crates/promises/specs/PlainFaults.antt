@@ -1,69 +1,85 @@
--- Demand 1, the table, for the calls that read one integer, that write, that look at a set, and that add a tag.
-use Prim.Native.Nat.{ℕ, _<_}
+-- Demand 1, the table for the calls that read one integer or one part of a body, that add a tag, and that write. `rest` are the bytes from the
+-- call's place on. No parser is named here.
+use Prim.Native.Nat.{ℕ, _+_, _*_, _≤_, _<_}
 use mathlib.Core.Path.{_≡_}
-use mathlib.Core.Bool.{false}
-use mathlib.Core.List.{List}
+use mathlib.Core.Bool.{Bool, false}
+use mathlib.Core.List.{List, [], _∷_, _++_}
 use mathlib.Core.Logic.{_⊎_}
-use lib.IntN.{negsuc}
-use lib.ListN.{length, getD}
-use Rattle.misc.specs.Refusal.{Refusal, number}
-use Rattle.misc.specs.Parse.{Bytes, refuse, parsed}
-use Rattle.misc.specs.Le.{leAt}
-use Rattle.misc.specs.Varlen.{varlenAt}
-use Rattle.misc.specs.Signed.{signedAt, naturalAt}
-use Rattle.misc.specs.Lenenc.{lenencAt}
-use Rattle.misc.specs.Output.{Output, refused, bytes, answerOf}
+use lib.ListN.{length, drop}
+use Rattle.misc.specs.Body.{bodyLimit}
+use Rattle.misc.specs.Forms.{Form}
 use Rattle.packets.specs.Tag.{isTag}
-use Rattle.previous_gtids_event.specs.Previous.{previous}
-use Rattle.previous_gtids_event.specs.Rewrite.{rewritten}
-use Rattle.gtid_event.specs.Event.{withTag, newTagged}
+use Rattle.previous_gtids_event.specs.Entry.{Entry}
+use Rattle.previous_gtids_event.specs.Layout.{HeaderLaid, EntriesLaid}
 use Rattle.gtid_event.specs.declared.GtidEvent.{GtidEvent}
 use Rattle.gtid_event_write.specs.Writable.{writable}
-use Rattle.gtid_event_write.specs.Write.{eventOutput, lengthOf}
-use Rattle.gtid_sets.specs.Lent.{unfit, lentSet}
-use Rattle.resume_set.specs.Answers.{setRead, contained}
-use Rattle.promises.specs.Faults.{plain, varlen, lenenc, Ends}
+use Rattle.promises.specs.Faults.{CutForm, CutLenenc}
+use Rattle.promises.specs.BodyFaults.{EntryFault}
 
--- ---- one integer at a place
+-- ---- one integer
 
-pub data NaturalFault (s : List ℕ) (at : ℕ) : ℕ → Type 0 where
+-- so many bytes
+pub data FixedFault (width : ℕ) (rest : List ℕ) : ℕ → Type 0 where
+  -- 1: they aren't all there
+  cut : length rest < width → FixedFault width rest 1
+
+-- a variable-length integer, signed or not
+pub data VarlenFault (rest : List ℕ) : ℕ → Type 0 where
   -- 1: the bytes end inside it
-  cut : Ends varlen s at → NaturalFault s at 1
-  -- 3: it is negative
-  negative : {n to : ℕ} → signedAt s at ≡ parsed (negsuc n) to → NaturalFault s at 3
+  cut : CutForm rest → VarlenFault rest 1
 
-pub data LenencFault (s : List ℕ) (at : ℕ) : ℕ → Type 0 where
-  -- 1: the bytes end inside it
-  cut : Ends lenenc s at → LenencFault s at 1
+-- a signed one that may not be negative
+pub data NaturalFault : List ℕ → ℕ → Type 0 where
+  cut : {rest : List ℕ} → CutForm rest → NaturalFault rest 1
+  -- 3: it is - (n + 1)
+  negative : (n : ℕ) {bs : List ℕ} (rest : List ℕ) → Form (n * 2 + 1) bs → NaturalFault (bs ++ rest) 3
+
+-- a length-encoded one
+pub data LenencFault : List ℕ → ℕ → Type 0 where
+  nothing : LenencFault [] 1
+  cut : {rest : List ℕ} → CutLenenc rest → LenencFault rest 1
   -- 10: its lead byte is FB or FF
-  lead : at < length s → (getD s at 0 ≡ 0xFB) ⊎ (getD s at 0 ≡ 0xFF) → LenencFault s at 10
+  badLead : (lead : ℕ) (rest : List ℕ) → (lead ≡ 0xFB) ⊎ (lead ≡ 0xFF) → LenencFault (lead ∷ rest) 10
 
-pub record IntegerFaults : Type 0 where
-  pub fixed : (n : ℕ) (s : List ℕ) (at : ℕ) (r : Refusal) → leAt n s at ≡ refuse r → (number r ≡ 1) × Ends (plain n) s at
-  pub uint : (s : List ℕ) (at : ℕ) (r : Refusal) → varlenAt s at ≡ refuse r → (number r ≡ 1) × Ends varlen s at
-  pub natural : (s : List ℕ) (at : ℕ) (r : Refusal) → naturalAt s at ≡ refuse r → NaturalFault s at (number r)
-  pub length-encoded : (s : List ℕ) → Bytes s → (at : ℕ) (r : Refusal) → lenencAt s at ≡ refuse r → LenencFault s at (number r)
+-- ---- a part of a body, whose length is judged first
 
--- ---- a call that writes
+pub data OfBody (body : List ℕ) (Fault : ℕ → Type 0) : ℕ → Type 0 where
+  -- 11: a body over 65,536 bytes
+  tooLong : bodyLimit < length body → OfBody body Fault 11
+  inPart : {n : ℕ} → length body ≤ bodyLimit → Fault n → OfBody body Fault n
 
--- what it was asked to write is refused; or, 13, the output is shorter than that, whose length is told
-pub data WriteFault (out : List ℕ) (o : Output) : ℕ → ℕ → Type 0 where
-  itself : {r : Refusal} → o ≡ refused r → WriteFault out o (number r) 0
-  short : {bs : List ℕ} → o ≡ bytes bs → length out < length bs → WriteFault out o 13 (length bs)
+-- the entry at a place, with tags if the header says so; `left` says how many entries are wanted there, and where none is, only the header is read
+pub data HeadedFault (left at : ℕ) (body : List ℕ) : ℕ → Type 0 where
+  -- 1: the body ends inside the header
+  cutHeader : length body < 8 → HeadedFault left at body 1
+  -- 1, 6: a fault of the entry
+  inEntry : {tagged : Bool} {count n : ℕ} {header : List ℕ} (rest : List ℕ) → body ≡ header ++ rest → HeaderLaid tagged count header → (left ≡ 0 → ⊥)
+      → EntryFault tagged (drop at body) n → HeadedFault left at body n
 
-pub record WriteFaults : Type 0 where
-  pub any : (out : List ℕ) (o : Output) → (answerOf out o .refusal ≡ 0 → ⊥) → WriteFault out o (answerOf out o .refusal) (answerOf out o .len)
-  -- 12: a record that can't be written, or measured
-  pub event : (e : GtidEvent) (r : Refusal) → eventOutput e ≡ refused r → (number r ≡ 12) × (writable e ≡ false)
-  pub measured : (e : GtidEvent) → (lengthOf e .refusal ≡ 0 → ⊥) → (lengthOf e .refusal ≡ 12) × (writable e ≡ false)
-  -- a Previous-GTIDs body is written anew unless reading refuses it
-  pub rewrite : (s : List ℕ) (r : Refusal) → rewritten (previous s) ≡ refused r → previous s ≡ refuse r
+-- entry number `index`, from 0 on, behind all before it
+pub data NumberFault (index : ℕ) (body : List ℕ) : ℕ → Type 0 where
+  cutHeader : length body < 8 → NumberFault index body 1
+  -- 1, 6: a fault of this entry or of one before it, among those that the header counts
+  inEntries : {tagged : Bool} {count n : ℕ} {es : List Entry} {header front rest : List ℕ} → body ≡ header ++ (front ++ rest) → HeaderLaid tagged count header
+      → EntriesLaid tagged es front → length es ≤ index → length es < count → EntryFault tagged rest n → NumberFault index body n
 
--- ---- a set that is looked at (14), and a tag that is added (6)
+-- ---- a tag that is added, and a record that is to be written
 
-pub record CheckFaults : Type 0 where
-  pub set : (bs : List ℕ) → (setRead (lentSet bs) .refusal ≡ 0 → ⊥) → (setRead (lentSet bs) .refusal ≡ 14) × (lentSet bs ≡ unfit)
-  pub member : (bs uuid tag : List ℕ) (gno : ℕ) → (contained (lentSet bs) uuid tag gno .refusal ≡ 0 → ⊥)
-      → (contained (lentSet bs) uuid tag gno .refusal ≡ 14) × (lentSet bs ≡ unfit)
-  pub step : (tag : List ℕ) (e : GtidEvent) → (withTag tag e .refusal ≡ 0 → ⊥) → (withTag tag e .refusal ≡ 6) × (isTag tag ≡ false)
-  pub new : (sid tag : List ℕ) (gno : ℕ) → (newTagged sid tag gno .refusal ≡ 0 → ⊥) → (newTagged sid tag gno .refusal ≡ 6) × (isTag tag ≡ false)
+pub data TagFault (tag : List ℕ) : ℕ → Type 0 where
+  -- 6: it breaks the tag rule
+  tagRule : isTag tag ≡ false → TagFault tag 6
+
+pub data RecordFault (e : GtidEvent) : ℕ → Type 0 where
+  -- 12: it isn't writable
+  notWritable : writable e ≡ false → RecordFault e 12
+
+-- ---- a call that writes: the refusal's number, and the length that it names
+
+-- 13: the output is shorter than the bytes, whose length is told
+pub data ShortFault (bs : List ℕ) (room : ℕ) : ℕ → ℕ → Type 0 where
+  short : room < length bs → ShortFault bs room 13 (length bs)
+
+-- what it was asked to write is at fault; or there are bytes to be written, and no room for them
+pub data WriteFault (Fault : ℕ → Type 0) (Gives : List ℕ → Type 0) (room : ℕ) : ℕ → ℕ → Type 0 where
+  itself : {n : ℕ} → Fault n → WriteFault Fault Gives room n 0
+  noRoom : {bs : List ℕ} {n len : ℕ} → Gives bs → ShortFault bs room n len → WriteFault Fault Gives room n len

@@ -6,10 +6,10 @@ use mathlib.Core.List.{List, [], _∷_, _++_}
 use lib.Dec.{eqb}
 use lib.ListN.{length, replicate}
 use Rattle.misc.specs.Pick.{pick}
+use Rattle.misc.specs.Forms.{Form}
 use Rattle.packets.specs.Kept.{padded}
 use Rattle.packets.specs.Tag.{isTag}
 use Rattle.gtid_event.specs.declared.GtidEvent.{GtidEvent}
-use Rattle.promises.specs.Forms.{Form}
 
 -- ---- fields
 

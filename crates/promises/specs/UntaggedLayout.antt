@@ -4,16 +4,10 @@ use mathlib.Core.Path.{_≡_}
 use mathlib.Core.List.{List, [], _∷_, _++_}
 use mathlib.Core.Logic.{_⊎_}
 use lib.ListN.{length, replicate}
-use Rattle.misc.specs.Le.{leOf}
+use Rattle.misc.specs.Forms.{Number, LenencForm}
 use Rattle.gtid_event.specs.declared.GtidEvent.{GtidEvent}
-use Rattle.promises.specs.Forms.{LenencForm}
 
 -- ---- parts
-
--- a little-endian number of w bytes
-pub record Number (w v : ℕ) (bs : List ℕ) : Type 0 where
-  pub long : length bs ≡ w
-  pub spells : leOf bs ≡ v
 
 -- an immediate number of w bytes and the original: the immediate's highest bit says that the original follows; otherwise they are equal
 pub data PairLaid (w : ℕ) : ℕ → ℕ → List ℕ → Type 0 where

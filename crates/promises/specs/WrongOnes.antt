@@ -1,8 +1,9 @@
--- Wrong programs that the demands shut out. Each is put in the place of ours by an edit that the gate sees refused.
+-- Wrong programs that the demands shut out: `proofs/ShutOut.antt`.
 use Prim.Native.Nat.{ℕ, _+_}
+use mathlib.Core.Bool.{Bool, false, _&&_}
 use mathlib.Core.List.{List, [], _∷_}
 use lib.ListN.{length, replicate}
-use lib.Dec.{eqb}
+use lib.Dec.{eqb, ltb}
 use Rattle.misc.specs.Pick.{pick}
 use Rattle.misc.specs.Refusal.{ended, notWritable}
 use Rattle.misc.specs.Parse.{Parse, refuse, parsed}
@@ -10,12 +11,15 @@ use Rattle.misc.specs.Output.{refused, bytes, outputOf}
 use Rattle.gtid_event.specs.declared.GtidEvent.{GtidEvent}
 use Rattle.gtid_event.specs.Event.{newUntagged, setNumber}
 use Rattle.gtid_event_read.specs.Read.{gtid}
-use Rattle.resume_set.specs.declared.Offered.the-variants.{Taken}
+use Rattle.gtid_sets.specs.Run.{Event, anonymous, broken, names}
+use Rattle.resume_set.specs.Answers.{eventOf}
+use Rattle.resume_set.specs.declared.Offered.the-variants.{NoId, Taken}
 use Rattle.resume_set_laws.specs.History.{Offering}
 use Rattle.resume_set_laws.specs.Ours.{ours}
 use Rattle.packets.specs.Key.{same}
 use Rattle.promises.specs.TaggedLayout.{the-tag, said}
 use Rattle.promises.specs.Meaning.{EventReader, EventWriter}
+use Rattle.promises.specs.Exact.{Asking, asks}
 
 -- refuses whatever comes
 abbrev pub refusesAll : EventReader
@@ -64,3 +68,24 @@ addsOnlyTheFirst =
       answers = λ set t. pick (eqb (length set) 8) (ours .answers set t) (copiesItsSet .answers set t);
       leaves = λ set t. pick (eqb (length set) 8) (ours .leaves set t) (copiesItsSet .leaves set t);
     }
+
+-- says "no id" to whatever comes
+abbrev pub alwaysNoId : Offering
+alwaysNoId = record { answers = λ set t. NoId (length set); leaves = λ set t. outputOf (t .out) (bytes set) }
+
+-- says "no id" to an event whose gno is 0, and is like ours otherwise
+abbrev pub namesZero : Event → Bool
+namesZero anonymous = false
+namesZero (broken r) = false
+namesZero (names k gno) = eqb gno 0
+
+abbrev pub noIdForZero : Offering
+noIdForZero =
+    record {
+      answers = λ set t. pick (namesZero (eventOf (t .type) (t .body))) (alwaysNoId .answers set t) (ours .answers set t);
+      leaves = λ set t. pick (namesZero (eventOf (t .type) (t .body))) (alwaysNoId .leaves set t) (ours .leaves set t);
+    }
+
+-- finds no id without a tag
+abbrev pub asksTaggedOnly : Asking
+asksTaggedOnly set uuid tag gno = ltb 0 (length tag) && asks set uuid tag gno

@@ -8,10 +8,10 @@ use Rattle.previous_gtids_event.specs.Entry.{Entry}
 use Rattle.previous_gtids_event.specs.Rewrite.{anyTag, bodyBytes}
 use Rattle.previous_gtids_event.proofs.RoundTrip.{rewritten-in}
 use Rattle.gtid_sets.specs.Set.{SetForm}
-use Rattle.gtid_sets.specs.Lent.{form, lentSet, GoodKeys}
+use Rattle.gtid_sets.specs.Lent.{form, lentSet, GoodKeys, SetLaid}
 use Rattle.gtid_sets.proofs.LimitLaws.{longestSet-is}
 use Rattle.gtid_sets.proofs.ByteLaws.{body-least}
-use Rattle.gtid_sets.proofs.LentLaws.{well-formed, Lends, lent-is, lent-short}
+use Rattle.gtid_sets.proofs.LentLaws.{well-formed, lent-is, lent-short}
 use Rattle.resume_set.specs.Find.{entriesOf, setOf, IsSet}
 
 pub set-of : (s : List Entry) → SetForm s → GoodKeys s → length (bodyBytes s) ≤ 2 ^ 40 → setOf (bodyBytes s) ≡ s
@@ -36,5 +36,5 @@ set-is bs s e f g small =
 -- the set that some bytes lend, which is within the limits
 pub lent-set : (bs : List ℕ) (s : List Entry) → lentSet bs ≡ form s → IsSet bs (anyTag s) (length s) × (setOf bs ≡ s)
 lent-set bs s h =
-    let l : Lends bs s = lent-is bs s h in
+    let l : SetLaid bs s = lent-is bs s h in
     set-is bs s (l .written) (l .formed) (l .keyed) (omega (arith, lent-short bs s h, longestSet-is))

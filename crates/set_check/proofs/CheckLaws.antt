@@ -13,10 +13,10 @@ use Rattle.previous_gtids_event.specs.Entry.{Entry, entry, uuidOf}
 use Rattle.previous_gtids_event.specs.Rewrite.{entriesBytes, anyTag, headerBytes, bodyBytes}
 use Rattle.gtid_sets.specs.Set.{Above}
 use Rattle.gtid_sets.specs.Limits.{maxEntries, maxIntervals, intervals}
-use Rattle.gtid_sets.specs.Lent.{form, lentSet, GoodKeys}
+use Rattle.gtid_sets.specs.Lent.{form, lentSet, GoodKeys, SetLaid}
 use Rattle.gtid_sets.proofs.LimitLaws.{limits-says, limits-from}
 use Rattle.previous_gtids_event.proofs.Writing.{length-header}
-use Rattle.gtid_sets.proofs.LentLaws.{Lends, is-lent, lent-none}
+use Rattle.gtid_sets.proofs.LentLaws.{is-lent, lent-none}
 use Rattle.set_check.specs.Check.{checkedOf, HeaderIs, NoHeader, EntryIs, NoEntry, Rest, Whole}
 use Rattle.set_check.specs.declared.Head.{Head}
 use Rattle.set_check.specs.declared.Header.{Header}
@@ -105,7 +105,7 @@ all-above (entry [] is ∷ s) k = absurd (omega (arith, k .0 .uuid))
 all-above (entry (b ∷ j) is ∷ s) k = refl
 
 -- what a lent set is, for the check
-lent-rest : (bs : List ℕ) (s : List Entry) → Lends bs s
+lent-rest : (bs : List ℕ) (s : List Entry) → SetLaid bs s
     → (bs ≡ headerBytes (anyTag s) (length s) ++ entriesBytes (anyTag s) s) × (length s ≤ maxEntries) × Rest bs (anyTag s) (length s) 8 [] 0 false
 unfolding bodyBytes
 lent-rest bs s l =

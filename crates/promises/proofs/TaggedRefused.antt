@@ -1,4 +1,4 @@
--- What is wrong with an event by the layouts is refused, with its number.
+-- What is wrong with a tagged event by the layouts is refused, with its number.
 use Prim.Native.Nat.{ℕ, zero, suc, _+_, _-_, _*_, _^_, _≤_, _<_}
 use mathlib.Core.Path.{_≡_, refl, sym, ap, _∙_}
 use mathlib.Core.List.{List, [], _∷_, _++_, append-assoc}
@@ -11,23 +11,44 @@ use Rattle.misc.specs.Refusal.{Refusal, ended, tooLarge, negative, unknownField
 use Rattle.misc.specs.Parse.{refuse, parsed, part}
 use Rattle.misc.specs.Varlen.{trailingOnes, varlenAt}
 use Rattle.misc.specs.Signed.{signedAt, naturalAt}
-use Rattle.misc.proofs.ParseLaws.{bytes-here, bytes-gone}
+use Rattle.misc.specs.Forms.{Form}
+use Rattle.misc.proofs.ParseLaws.{no-zero, bytes-here, bytes-gone}
 use Rattle.misc.proofs.SignedLaws.{natural-odd}
 use Rattle.misc.proofs.VarlenLaws.{varlen-past, varlen-cut}
+use Rattle.misc.proofs.Places.{From, from-start, from-size, from-room, from-next, from-part, from-first}
+use Rattle.misc.proofs.FormsRead.{ones-are, form-some, form-reads}
 use Rattle.gtid_event_read.specs.declared.Fields.{Fields}
 use Rattle.gtid_event_read.specs.Fields.{unknown, fieldTable, kindOf, noFields, limitedAt, uuidAt, tagAt, valueAt, fieldAt, fieldsOf}
 use Rattle.gtid_event_read.specs.Tagged.{payloadAt, tagged}
+use Rattle.gtid_event_read.proofs.Telling.{stopped, refused-by}
+use Rattle.gtid_event_read.proofs.FieldLaws.{FieldsSoFar, fields-start, fields-next, fields-stop}
 use Rattle.gtid_event_read.proofs.TaggedLaws.{tagged-gone, tagged-other, tagged-here, version-here, payload-small, payload-cut}
-use Rattle.promises.specs.Faults.{Reached, AtValue}
-use Rattle.promises.specs.Exact.{Refuses}
-use Rattle.promises.specs.Forms.{Form}
+use Rattle.promises.proofs.Stops.{Reached, AtValue}
 use Rattle.promises.specs.TaggedLayout.{Items}
-use Rattle.promises.specs.LaidFaults.{CutForm, FieldsFront, BadValue, FieldsBad, TaggedBad}
-use Rattle.promises.proofs.Forces.{is-refused, same-refused, many-stops}
-use Rattle.promises.proofs.FormsRead.{From, from-start, from-size, from-room, from-next, from-part, from-first, ones-are, form-some, form-reads}
+use Rattle.promises.specs.Faults.{CutForm, FieldsFront, ValueFault, FieldFault, TaggedFault}
+use Rattle.promises.proofs.Forces.{Refuses, is-refused, same-refused, many-stops}
 use Rattle.promises.proofs.TaggedSaid.{keptIn, keptAll, tag-there}
 use Rattle.promises.proofs.TaggedReads.{items-read, value-reads, valued, fields-read}
-use Rattle.promises.proofs.EventForced.{field-stops, value-stops}
+
+-- ---- a field that is refused, behind those that were read
+
+module _ (last : ℕ) (s : List ℕ) where
+  -- what reading has come to is what the fields so far make of the whole
+  so-far : {f : Fields} {at : ℕ} → Reached last s f at → FieldsSoFar last s f at
+  so-far Reached.first = fields-start last s
+  so-far (Reached.next {f = f} {at = at} before more read) = fields-next last s f at (so-far before) more read
+
+  field-stops : {f : Fields} {at n : ℕ} → Reached last s f at → at < length s → Refuses (fieldAt last s f at) n → Refuses (fieldsOf last s) n
+  field-stops {f} {at} here more (r, e, is) =
+      let told = fields-stop last s f at (so-far here) more (stopped {a = f} {next = 0} r refl e) (no-zero r) in
+      let (x, is-x, same) = refused-by told (no-zero r) in
+      (x, is-x, sym same ∙ is)
+
+  -- a value that is refused, whatever was read before it
+  value-stops : {id from n : ℕ} → AtValue last s id from → ((f : Fields) → Refuses (valueAt (kindOf id) last id s f from) n) → Refuses (fieldsOf last s) n
+  value-stops {id} {from} v h = field-stops (v .reached) (v .more) (same-refused (h (v .so-far)) (λ r e. unfold fieldAt in rw (v .told, e)))
+
+-- ---- what is wrong is refused
 
 module _ (s : List ℕ) where
   -- an integer that the bytes end inside
@@ -67,24 +88,24 @@ module _ (s : List ℕ) where
     unfolding uuidAt
     item-refused us done rest x items few h e = rw (many-stops (limitedAt 255 s) (length us) 16 at few (items-read s us done items at rest h) e)
 
-    bad-refused : (id : ℕ) (l : List ℕ) (n : ℕ) → BadValue last id l n → From s at l → Refuses (valueAt (kindOf id) last id s f at) n
+    bad-refused : (id : ℕ) (l : List ℕ) (n : ℕ) → ValueFault last id l n → From s at l → Refuses (valueAt (kindOf id) last id s f at) n
     unfolding limitedAt tagAt
-    bad-refused id l n (BadValue.cutNumber known not-uuid cut) h = is-refused ended (number-cut id known not-uuid (cut-ends at l cut h))
-    bad-refused id l n (BadValue.cutItem {us = us} {done = done} {rest = rest} items few cut) h =
+    bad-refused id l n (ValueFault.cutNumber known not-uuid cut) h = is-refused ended (number-cut id known not-uuid (cut-ends at l cut h))
+    bad-refused id l n (ValueFault.cutItem {us = us} {done = done} {rest = rest} items few cut) h =
         is-refused ended (item-refused us done rest ended items few h (rw (cut-ends (at + length done) rest cut (from-next s at done rest h))))
-    bad-refused id l n (BadValue.cutTag {n = k} {size = size} rest form few) h =
+    bad-refused id l n (ValueFault.cutTag {n = k} {size = size} rest form few) h =
         let behind = from-next s at size rest h in
         is-refused ended (rw (form-reads s at k size rest form h, bytes-gone k s (at + length size) (omega (arith, from-size s (at + length size) rest behind))))
-    bad-refused id l n (BadValue.largeFlags {v = v} {bs = bs} rest form over) h = is-refused tooLarge (rw (form-reads s at v bs rest form h, lt-leb v 255 over))
-    bad-refused id l n (BadValue.largeItem {u = u} {us = us} {done = done} {bs = bs} rest items few form over) h =
+    bad-refused id l n (ValueFault.largeFlags {v = v} {bs = bs} rest form over) h = is-refused tooLarge (rw (form-reads s at v bs rest form h, lt-leb v 255 over))
+    bad-refused id l n (ValueFault.largeItem {u = u} {us = us} {done = done} {bs = bs} rest items few form over) h =
         let behind = from-next s at done (bs ++ rest) h in
         is-refused tooLarge (item-refused us done (bs ++ rest) tooLarge items few h
         (rw (form-reads s (at + length done) u bs rest form behind, lt-leb u 255 over)))
-    bad-refused id l n (BadValue.largeVersion {v = v} {bs = bs} rest (inl is) form over) h =
+    bad-refused id l n (ValueFault.largeVersion {v = v} {bs = bs} rest (inl is) form over) h =
         is-refused tooLarge (rw (is, form-reads s at v bs rest form h, lt-leb v (2 ^ 32 - 1) over))
-    bad-refused id l n (BadValue.largeVersion {v = v} {bs = bs} rest (inr is) form over) h =
+    bad-refused id l n (ValueFault.largeVersion {v = v} {bs = bs} rest (inr is) form over) h =
         is-refused tooLarge (rw (is, form-reads s at v bs rest form h, lt-leb v (2 ^ 32 - 1) over))
-    bad-refused id l n (BadValue.negative k {bs = bs} rest which form) h =
+    bad-refused id l n (ValueFault.negative k {bs = bs} rest which form) h =
         let minus : naturalAt s at ≡ refuse negative = natural-odd s at (form-reads s at (k * 2 + 1) bs rest form h) (λ even. omega arith) in
         go which minus
       where
@@ -92,10 +113,10 @@ module _ (s : List ℕ) where
         go (inl is) e = is-refused negative (rw (is, e))
         go (inr (inl is)) e = is-refused negative (rw (is, e))
         go (inr (inr is)) e = is-refused negative (rw (is, e))
-    bad-refused id l n (BadValue.unknownId new low) h =
+    bad-refused id l n (ValueFault.unknownId new low) h =
         let kind : kindOf id ≡ unknown = List·getD-eq-default fieldTable unknown {n = id} new in
         is-refused unknownField (rw (kind, le-leb id last low))
-    bad-refused id l n (BadValue.tagRule t {size = size} rest form bad) h =
+    bad-refused id l n (ValueFault.tagRule t {size = size} rest form bad) h =
         let behind = from-next s at size (t ++ rest) h in
         let there : part s (at + length size) (length t) ≡ t = from-part s (at + length size) t rest behind (length t) refl in
         is-refused badTag (rw (
@@ -124,14 +145,14 @@ module _ (s : List ℕ) where
         omega (arith, length-append (bs ++ value) others, length-append bs value) in
         (g, rw place at there)
 
-    fields-refused : (n : ℕ) (l : List ℕ) → FieldsBad last l n → From s 0 l → Refuses (fieldsOf last s) n
+    fields-refused : (n : ℕ) (l : List ℕ) → FieldFault last l n → From s 0 l → Refuses (fieldsOf last s) n
     unfolding fieldAt
-    fields-refused n l (FieldsBad.cutId {front = front} {rest = rest} fields some cut) h =
+    fields-refused n l (FieldFault.cutId {front = front} {rest = rest} fields some cut) h =
         let (g, here) = front-reached front fields noFields 0 rest h Reached.first in
         let behind = from-next s 0 front rest h in
         let inside : 0 + length front < length s = omega (arith, from-size s (0 + length front) rest behind) in
         field-stops last s here inside (is-refused ended (rw (cut-ends (0 + length front) rest cut behind)))
-    fields-refused n l (FieldsBad.badValue {id = id} {front = front} {bs = bs} {rest = rest} fields form bad) h =
+    fields-refused n l (FieldFault.badValue {id = id} {front = front} {bs = bs} {rest = rest} fields form bad) h =
         let (g, here) = front-reached front fields noFields 0 (bs ++ rest) h Reached.first in
         let at = 0 + length front in
         let behind = from-next s 0 front (bs ++ rest) h in
@@ -157,7 +178,7 @@ module _ (s : List ℕ) where
     pub told : varlenAt s (1 + length a) ≡ parsed last (1 + length a + length b)
     pub behind : From s (1 + length a + length b) rest
 
-  read-envelope : (size last : ℕ) (a b rest : List ℕ) → s ≡ 2 ∷ (a ++ (b ++ rest)) → Form size a → Form last b → Read size last a b rest
+  pub read-envelope : (size last : ℕ) (a b rest : List ℕ) → s ≡ 2 ∷ (a ++ (b ++ rest)) → Form size a → Form last b → Read size last a b rest
   read-envelope size last a b rest whole size-is last-is =
       let zeroth : From s 0 (2 ∷ (a ++ (b ++ rest))) = record { is = whole; inside = omega arith } in
       let (two, some) = from-first s 0 2 (a ++ (b ++ rest)) zeroth in
@@ -172,26 +193,26 @@ module _ (s : List ℕ) where
       }
 
   -- the payload's fields
-  payload : {size last : ℕ} {a b rest : List ℕ} → Read size last a b rest → tagged s ≡ payloadAt s size last (1 + length a + length b)
+  pub payload : {size last : ℕ} {a b rest : List ℕ} → Read size last a b rest → tagged s ≡ payloadAt s size last (1 + length a + length b)
   payload r = tagged-here s (r .inside) (r .two) (r .sized) (r .told)
 
-pub tagged-refused : (s : List ℕ) (n : ℕ) → TaggedBad s n → Refuses (tagged s) n
+pub tagged-refused : (s : List ℕ) (n : ℕ) → TaggedFault s n → Refuses (tagged s) n
 unfolding tagged
-tagged-refused s n TaggedBad.cutVersion = is-refused ended (tagged-gone [] (omega arith))
-tagged-refused s n (TaggedBad.cutSize {rest = rest} cut) =
+tagged-refused s n TaggedFault.cutVersion = is-refused ended (tagged-gone [] (omega arith))
+tagged-refused s n (TaggedFault.cutSize {rest = rest} cut) =
     let first : From s 1 rest = from-next s 0 (2 ∷ []) rest (from-start s) in
     is-refused ended (rw (version-here s (omega arith) refl .found refl, cut-ends s 1 rest cut first))
-tagged-refused s n (TaggedBad.cutLast {size = size} {a = a} {rest = rest} form cut) =
+tagged-refused s n (TaggedFault.cutLast {size = size} {a = a} {rest = rest} form cut) =
     let first : From s 1 (a ++ rest) = from-next s 0 (2 ∷ []) (a ++ rest) (from-start s) in
     is-refused ended (rw (version-here s (omega arith) refl .found refl, form-reads s 1 size a rest form first, cut-ends s (1 + length a) rest cut (from-next s 1 a rest first)))
-tagged-refused s n (TaggedBad.cutPayload {size = size} {last = last} {a = a} {b = b} rest size-is last-is large over) =
+tagged-refused s n (TaggedFault.cutPayload {size = size} {last = last} {a = a} {b = b} rest size-is last-is large over) =
     let r = read-envelope s size last a b rest refl size-is last-is in
     is-refused ended (payload s r ∙ payload-cut s size last (1 + length a + length b) (omega (arith, length-append a b)) over)
-tagged-refused s n (TaggedBad.wrongVersion other) = is-refused wrongVersion (tagged-other s (omega arith) other)
-tagged-refused s n (TaggedBad.smallPayload {size = size} {last = last} {a = a} {b = b} rest size-is last-is small) =
+tagged-refused s n (TaggedFault.wrongVersion other) = is-refused wrongVersion (tagged-other s (omega arith) other)
+tagged-refused s n (TaggedFault.smallPayload {size = size} {last = last} {a = a} {b = b} rest size-is last-is small) =
     let r = read-envelope s size last a b rest refl size-is last-is in
     is-refused smallPayload (payload s r ∙ payload-small s size last (1 + length a + length b) (omega (arith, length-append a b)))
-tagged-refused s n (TaggedBad.inFields {size = size} {last = last} {a = a} {b = b} {fields = fields} rest size-is last-is counts bad) =
+tagged-refused s n (TaggedFault.inFields {size = size} {last = last} {a = a} {b = b} {fields = fields} rest size-is last-is counts bad) =
     let r = read-envelope s size last a b (fields ++ rest) refl size-is last-is in
     let start = 1 + length a + length b in
     let sum : size ≡ start + length fields = omega (arith, length-append a (b ++ fields), length-append b fields) in
@@ -199,7 +220,7 @@ tagged-refused s n (TaggedBad.inFields {size = size} {last = last} {a = a} {b = 
     let room = from-room s start fields rest (r .behind) in
     same-refused (fields-refused fields last n fields bad (from-start fields)) (λ x e.
     payload s r ∙ rw (le-leb start size (omega arith), le-leb size (length s) (omega arith), these, e))
-tagged-refused s n (TaggedBad.noTag {size = size} {last = last} {a = a} {b = b} {fields = fields} {told = told} rest size-is last-is counts laid none) =
+tagged-refused s n (TaggedFault.noTag {size = size} {last = last} {a = a} {b = b} {fields = fields} {told = told} rest size-is last-is counts laid none) =
     let r = read-envelope s size last a b (fields ++ rest) refl size-is last-is in
     let start = 1 + length a + length b in
     let sum : size ≡ start + length fields = omega (arith, length-append a (b ++ fields), length-append b fields) in

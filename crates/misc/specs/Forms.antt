@@ -1,9 +1,14 @@
--- Demand 2, the layout of integers: which bytes are a form of a number. No parser is named here.
+-- The layout of integers: which bytes are a form of a number, by value and width. No parser is named here.
 use Prim.Native.Nat.{ℕ, _+_, _-_, _/_, _%_, _^_, _<_}
 use mathlib.Core.Path.{_≡_}
 use mathlib.Core.List.{List, [], _∷_}
 use lib.ListN.{length}
 use Rattle.misc.specs.Le.{leOf}
+
+-- a little-endian number of w bytes
+pub record Number (w v : ℕ) (bs : List ℕ) : Type 0 where
+  pub long : length bs ≡ w
+  pub spells : leOf bs ≡ v
 
 -- the lowest bits of b are t ones and then a zero
 abbrev pub Ones : ℕ → ℕ → Type 0

@@ -1,39 +1,31 @@
--- What is wrong with an untagged event by the layouts is what it is refused for, and the reverse; and so for every event.
+-- What is wrong with an untagged event by the layouts is what it is refused for, and the reverse.
 use Prim.Native.Nat.{ℕ, suc, _+_, _-_, _*_, _^_, _≤_, _<_}
 use mathlib.Core.Path.{_≡_, refl, sym, ap, subst, _∙_}
 use mathlib.Core.Bool.{true}
 use mathlib.Core.List.{List, [], _∷_, _++_}
-use mathlib.Core.Logic.{inl, inr}
 use native.Mathlib.Omega.{arith}
 use lib.Dec.{eqb, ltb}
 use lib.ListN.{length, drop, getD, length-drop}
 use lib.Seq.{drop-cons}
-use borrow.Author.Tests.{ltb-true, lt-ltb, eq-eqb, eqb-true, le-leb, lt-leb, ne-eqb}
+use borrow.Author.Tests.{ltb-true, lt-ltb, eq-eqb, eqb-true}
 use Rattle.misc.specs.Pick.{pick}
-use Rattle.misc.specs.Refusal.{tooLong, wrongType}
 use Rattle.misc.specs.Parse.{Bytes, parsed, part}
-use Rattle.misc.specs.Body.{bodyLimit}
 use Rattle.misc.specs.Le.{leOf}
 use Rattle.misc.specs.Mark.{hasBit, clearBit}
+use Rattle.misc.specs.Forms.{Number}
 use Rattle.misc.proofs.ParseLaws.{part-length}
 use Rattle.misc.proofs.LeLaws.{le-here, pow-bytes}
 use Rattle.misc.proofs.Bounds.{le-below}
+use Rattle.misc.proofs.Places.{From, from-size, from-room, from-next, from-part, from-first, part-from, Found}
 use Rattle.packets.proofs.Tests as tests
 use Rattle.packets.proofs.Tests.{and-true}
-use Rattle.gtid_event_read.specs.Untagged.{Pair, pair, timestampsAt, untagged}
-use Rattle.gtid_event_read.specs.Read.{gtid}
-use Rattle.promises.specs.Faults.{Item, plain, lenenc, Ends, Later, Untagged, UntaggedFault, EventFault}
-use Rattle.promises.specs.Exact.{Refuses, EventLaidExact}
-use Rattle.promises.specs.UntaggedLayout.{Number, PairIfLeft, LengthIfLeft}
-use Rattle.promises.specs.LaidFaults.{CutLenenc, UntaggedBad, EventBad}
-use Rattle.promises.proofs.Forces.{is-refused, same-refused}
-use Rattle.promises.proofs.FormsRead.{From, from-size, from-room, from-next, from-part, from-first, part-from, Found}
+use Rattle.gtid_event_read.specs.Untagged.{Pair, pair, timestampsAt}
+use Rattle.promises.proofs.Stops.{Item, plain, lenenc, Ends, Later, Untagged, UntaggedStop}
+use Rattle.promises.specs.UntaggedLayout.{PairIfLeft, LengthIfLeft}
+use Rattle.promises.specs.Faults.{CutLenenc, UntaggedFault}
 use Rattle.promises.proofs.UntaggedReads.{marked, left-reads, length-reads}
 use Rattle.promises.proofs.UntaggedAccepted.{typecode, marked-is, left-found, length-found}
-use Rattle.promises.proofs.UntaggedForced.{timestamps-forward, length-forward, untagged-forced}
-use Rattle.promises.proofs.EventFaults.{event-faults}
-use Rattle.promises.proofs.LaidRefused.{tagged-refused}
-use Rattle.promises.proofs.LaidFaulty.{tagged-bad}
+use Rattle.promises.proofs.UntaggedForced.{timestamps-forward, length-forward}
 
 -- ---- what is wrong is refused
 
@@ -63,7 +55,7 @@ module _ (s : List ℕ) where
   unfolding timestampsAt
   times-read i o times rest p h = left-reads s 7 0 42 i o times rest p h
 
-  lenenc-cut : (at : ℕ) (l : List ℕ) → CutLenenc l → From s at l → (at < length s) × Ends lenenc s at
+  pub lenenc-cut : (at : ℕ) (l : List ℕ) → CutLenenc l → From s at l → (at < length s) × Ends lenenc s at
   lenenc-cut at l (CutLenenc.led-by-FC more few) h =
       let (lead, inside) = from-first s at 0xFC more h in
       (inside, rw lead (omega (arith, from-size s at (0xFC ∷ more) h)))
@@ -74,25 +66,25 @@ module _ (s : List ℕ) where
       let (lead, inside) = from-first s at 0xFE more h in
       (inside, rw lead (omega (arith, from-size s at (0xFE ∷ more) h)))
 
-untagged-fault : (s : List ℕ) (n : ℕ) → UntaggedBad s n → UntaggedFault s n
-untagged-fault s n (UntaggedBad.cutOpening t few) = UntaggedFault.cut 17 (plain 8) Untagged.gno few
-untagged-fault s n (UntaggedBad.cutClock front rest size few) =
+pub untagged-stop : (s : List ℕ) (n : ℕ) → UntaggedFault s n → UntaggedStop s n
+untagged-stop s n (UntaggedFault.cutOpening t few) = UntaggedStop.cut 17 (plain 8) Untagged.gno few
+untagged-stop s n (UntaggedFault.cutClock front rest size few) =
     let (later, behind) = typecode-there s front rest refl size in
-    UntaggedFault.cut 34 (plain 8) (Untagged.sequenceNumber later) (omega (arith, from-size s 26 rest behind))
-untagged-fault s n (UntaggedBad.cutTimestamp v front clock bs rest size sixteen number small few) =
+    UntaggedStop.cut 34 (plain 8) (Untagged.sequenceNumber later) (omega (arith, from-size s 26 rest behind))
+untagged-stop s n (UntaggedFault.cutTimestamp v front clock bs rest size sixteen number small few) =
     let (later, behind) = clock-there s front clock (bs ++ rest) refl size sixteen in
     let next = from-next s 42 bs rest behind in
     let seven = number .long in
-    UntaggedFault.cut 49 (plain 7)
+    UntaggedStop.cut 49 (plain 7)
     (Untagged.originalTimestamp later (omega (arith, from-room s 42 bs rest behind)) (marked-there s 7 42 v bs rest number small behind))
     (omega (arith, from-size s (42 + length bs) rest next))
-untagged-fault s n (UntaggedBad.cutLength {i = i} {o = o} front clock times rest size sixteen pairs cut) =
+untagged-stop s n (UntaggedFault.cutLength {i = i} {o = o} front clock times rest size sixteen pairs cut) =
     let (later, behind) = clock-there s front clock (times ++ rest) refl size sixteen in
     let next = from-next s 42 times rest behind in
     let (inside, over) = lenenc-cut s (42 + length times) rest cut next in
-    UntaggedFault.cut (42 + length times) lenenc
+    UntaggedStop.cut (42 + length times) lenenc
     (Untagged.transactionLength (record { later = later; passed = (pair i o, times-read s i o times rest pairs behind) }) inside) over
-untagged-fault s n (UntaggedBad.cutVersion {i = i} {o = o} {len = len} v front clock times len-bytes bs rest size sixteen pairs length-is number small few) =
+untagged-stop s n (UntaggedFault.cutVersion {i = i} {o = o} {len = len} v front clock times len-bytes bs rest size sixteen pairs length-is number small few) =
     let (later, behind) = clock-there s front clock (times ++ (len-bytes ++ (bs ++ rest))) refl size sixteen in
     let second = from-next s 42 times (len-bytes ++ (bs ++ rest)) behind in
     let at = 42 + length times in
@@ -100,7 +92,7 @@ untagged-fault s n (UntaggedBad.cutVersion {i = i} {o = o} {len = len} v front c
     let to = at + length len-bytes in
     let last = from-next s to bs rest third in
     let four = number .long in
-    UntaggedFault.cut (to + 4) (plain 4)
+    UntaggedStop.cut (to + 4) (plain 4)
     (Untagged.originalVersion
     (record {
       from = at;
@@ -109,11 +101,11 @@ untagged-fault s n (UntaggedBad.cutVersion {i = i} {o = o} {len = len} v front c
     })
     (omega (arith, from-room s to bs rest third)) (marked-there s 4 to v bs rest number small third))
     (omega (arith, from-size s (to + length bs) rest last))
-untagged-fault s n (UntaggedBad.badLead {i = i} {o = o} lead front clock times rest size sixteen pairs bad) =
+untagged-stop s n (UntaggedFault.badLead {i = i} {o = o} lead front clock times rest size sixteen pairs bad) =
     let (later, behind) = clock-there s front clock (times ++ (lead ∷ rest)) refl size sixteen in
     let next = from-next s 42 times (lead ∷ rest) behind in
     let (first, inside) = from-first s (42 + length times) lead rest next in
-    UntaggedFault.lead (42 + length times) (record { later = later; passed = (pair i o, times-read s i o times (lead ∷ rest) pairs behind) }) inside (rw first bad)
+    UntaggedStop.lead (42 + length times) (record { later = later; passed = (pair i o, times-read s i o times (lead ∷ rest) pairs behind) }) inside (rw first bad)
 
 -- ---- what is refused is wrong
 
@@ -136,11 +128,11 @@ module _ (s : List ℕ) (are : Bytes s) where
     clock-size : 42 ≤ length s → length (part s 26 16) ≡ 16
     clock-size h = part-length 16 s 26 h
 
-    short-clock : length s < 42 → UntaggedBad s 1
+    short-clock : length s < 42 → UntaggedFault s 1
     short-clock over =
         let h = opening in
         let few : length (drop 26 s) < 16 = rw length-drop (omega arith) in
-        subst (λ (l : List ℕ). UntaggedBad l 1) (sym with-typecode) (UntaggedBad.cutClock (part s 0 25) (drop 26 s) front-size few)
+        subst (λ (l : List ℕ). UntaggedFault l 1) (sym with-typecode) (UntaggedFault.cutClock (part s 0 25) (drop 26 s) front-size few)
 
     module _ (enough : 42 ≤ length s) (at : ℕ) (times : List ℕ) (is : drop 42 s ≡ times ++ drop at s) where
       with-times : s ≡ part s 0 25 ++ (2 ∷ (part s 26 16 ++ (times ++ drop at s)))
@@ -155,7 +147,7 @@ module _ (s : List ℕ) (are : Bytes s) where
       let (sum, small) = marked-is s are w some x below bit in
       (clearBit (8 * w - 1) x, record { long = part-length w s at here; spells = sum }, small)
 
-  cut-lenenc : (at : ℕ) → at < length s → Ends lenenc s at → CutLenenc (drop at s)
+  pub cut-lenenc : (at : ℕ) → at < length s → Ends lenenc s at → CutLenenc (drop at s)
   cut-lenenc at inside h = rw (drop-cons s at 0 inside) (go (getD s at 0) h)
     where
       size : length (drop (suc at) s) ≡ length s - suc at
@@ -174,24 +166,24 @@ module _ (s : List ℕ) (are : Bytes s) where
   unfolding timestampsAt
   times-found (pair i o) at enough read = (i, o, left-found s are 7 (omega arith) 0 42 i o at enough read)
 
-  untagged-cut : (at : ℕ) (i : Item) → Untagged s at i → Ends i s at → UntaggedBad s 1
-  untagged-cut at i Untagged.flags over = UntaggedBad.cutOpening s (omega arith)
-  untagged-cut at i Untagged.uuidBytes over = UntaggedBad.cutOpening s (omega arith)
-  untagged-cut at i Untagged.gno over = UntaggedBad.cutOpening s over
+  untagged-cut : (at : ℕ) (i : Item) → Untagged s at i → Ends i s at → UntaggedFault s 1
+  untagged-cut at i Untagged.flags over = UntaggedFault.cutOpening s (omega arith)
+  untagged-cut at i Untagged.uuidBytes over = UntaggedFault.cutOpening s (omega arith)
+  untagged-cut at i Untagged.gno over = UntaggedFault.cutOpening s over
   untagged-cut at i (Untagged.lastCommitted later) over = short-clock later (omega arith)
   untagged-cut at i (Untagged.sequenceNumber later) over = short-clock later over
   untagged-cut at i (Untagged.originalTimestamp later here bit) over =
       let (v, number, small) = marked-number 7 42 (omega arith) here bit in
       let few : length (drop 49 s) < 7 = rw length-drop (omega arith) in
-      subst (λ (l : List ℕ). UntaggedBad l 1)
+      subst (λ (l : List ℕ). UntaggedFault l 1)
       (sym (with-times later (omega arith) 49 (part s 42 7) (part-from s 42 7)))
-      (UntaggedBad.cutTimestamp v (part s 0 25) (part s 26 16) (part s 42 7) (drop 49 s) (front-size later) (clock-size later (omega arith)) number small few)
+      (UntaggedFault.cutTimestamp v (part s 0 25) (part s 26 16) (part s 42 7) (drop 49 s) (front-size later) (clock-size later (omega arith)) number small few)
   untagged-cut at i (Untagged.transactionLength {at = to} before inside) over =
       let (p, passed) = before .passed in
       let enough : 42 ≤ length s = omega (arith, timestamps-forward s 42 passed) in
       let (j, o, times) = times-found p to enough passed in
-      subst (λ (l : List ℕ). UntaggedBad l 1) (sym (with-times (before .later) enough to (times .bytes) (times .is)))
-      (UntaggedBad.cutLength (part s 0 25) (part s 26 16) (times .bytes) (drop to s) (front-size (before .later)) (clock-size (before .later) enough) (times .holds)
+      subst (λ (l : List ℕ). UntaggedFault l 1) (sym (with-times (before .later) enough to (times .bytes) (times .is)))
+      (UntaggedFault.cutLength (part s 0 25) (part s 26 16) (times .bytes) (drop to s) (front-size (before .later)) (clock-size (before .later) enough) (times .holds)
       (cut-lenenc to inside over))
   untagged-cut at i (Untagged.originalVersion {at = to} before here bit) over =
       let from = before .from in
@@ -209,7 +201,7 @@ module _ (s : List ℕ) (are : Bytes s) where
     where
       go : (from : ℕ) (later : Later s) → 42 ≤ length s → (j o : ℕ) (times : Found (λ bs. PairIfLeft 7 0 j o bs (drop from s)) s 42 from) (len : ℕ)
           (size : Found (λ bs. LengthIfLeft len bs (drop to s)) s from to) (v : ℕ) → Number 4 (v + 2 ^ 31) (part s to 4) → v < 2 ^ 31
-          → length (drop (to + 4) s) < 4 → UntaggedBad s 1
+          → length (drop (to + 4) s) < 4 → UntaggedFault s 1
       go from later enough j o times len size v number small few =
           let behind : drop to s ≡ part s to 4 ++ drop (to + 4) s = part-from s to 4 in
           let all : drop from s ≡ size .bytes ++ (part s to 4 ++ drop (to + 4) s) = size .is ∙ ap (λ (l : List ℕ). size .bytes ++ l) behind in
@@ -217,14 +209,14 @@ module _ (s : List ℕ) (are : Bytes s) where
           subst (λ (l : List ℕ). PairIfLeft 7 0 j o (times .bytes) l) all (times .holds) in
           let length-is : LengthIfLeft len (size .bytes) (part s to 4 ++ drop (to + 4) s) =
           subst (λ (l : List ℕ). LengthIfLeft len (size .bytes) l) behind (size .holds) in
-          subst (λ (l : List ℕ). UntaggedBad l 1)
+          subst (λ (l : List ℕ). UntaggedFault l 1)
           (sym (with-times later enough from (times .bytes) (times .is) ∙ ap (λ (l : List ℕ). part s 0 25 ++ (2 ∷ (part s 26 16 ++ (times .bytes ++ l)))) all))
-          (UntaggedBad.cutVersion v (part s 0 25) (part s 26 16) (times .bytes) (size .bytes) (part s to 4) (drop (to + 4) s) (front-size later) (clock-size later enough)
+          (UntaggedFault.cutVersion v (part s 0 25) (part s 26 16) (times .bytes) (size .bytes) (part s to 4) (drop (to + 4) s) (front-size later) (clock-size later enough)
           pairs length-is number small few)
 
-  untagged-bad : {n : ℕ} → UntaggedFault s n → UntaggedBad s n
-  untagged-bad (UntaggedFault.cut at i wanted over) = untagged-cut at i wanted over
-  untagged-bad (UntaggedFault.lead at before inside bad) =
+  pub untagged-faulty : {n : ℕ} → UntaggedStop s n → UntaggedFault s n
+  untagged-faulty (UntaggedStop.cut at i wanted over) = untagged-cut at i wanted over
+  untagged-faulty (UntaggedStop.lead at before inside bad) =
       let later = before .later in
       let (p, passed) = before .passed in
       let enough : 42 ≤ length s = omega (arith, timestamps-forward s 42 passed) in
@@ -232,30 +224,6 @@ module _ (s : List ℕ) (are : Bytes s) where
       let cons : drop at s ≡ getD s at 0 ∷ drop (suc at) s = drop-cons s at 0 inside in
       let pairs : PairIfLeft 7 0 j o (times .bytes) (getD s at 0 ∷ drop (suc at) s) =
       subst (λ (l : List ℕ). PairIfLeft 7 0 j o (times .bytes) l) cons (times .holds) in
-      subst (λ (l : List ℕ). UntaggedBad l 10)
+      subst (λ (l : List ℕ). UntaggedFault l 10)
       (sym (with-times later enough at (times .bytes) (times .is) ∙ ap (λ (l : List ℕ). part s 0 25 ++ (2 ∷ (part s 26 16 ++ (times .bytes ++ l)))) cons))
-      (UntaggedBad.badLead (getD s at 0) (part s 0 25) (part s 26 16) (times .bytes) (drop (suc at) s) (front-size later) (clock-size later enough) pairs bad)
-
--- ---- every event
-
-pub event-refused : (type : ℕ) (s : List ℕ) (n : ℕ) → EventBad type s n → Refuses (gtid type s) n
-unfolding gtid
-event-refused type s n (EventBad.tooLong h) = is-refused tooLong (rw (lt-leb (length s) bodyLimit h))
-event-refused type s n (EventBad.wrongType short a b c) =
-    is-refused wrongType (rw (le-leb (length s) bodyLimit short, ne-eqb type 33 a, ne-eqb type 34 b, ne-eqb type 42 c))
-event-refused type s n (EventBad.untagged short (inl is) bad) =
-    same-refused (untagged-forced s (untagged-fault s n bad)) (λ r e. rw (le-leb (length s) bodyLimit short, is) e)
-event-refused type s n (EventBad.untagged short (inr is) bad) =
-    same-refused (untagged-forced s (untagged-fault s n bad)) (λ r e. rw (le-leb (length s) bodyLimit short, is) e)
-event-refused type s n (EventBad.tagged short is bad) =
-    same-refused (tagged-refused s n bad) (λ r e. rw (le-leb (length s) bodyLimit short, is) e)
-
-event-bad : (type : ℕ) (s : List ℕ) → Bytes s → {n : ℕ} → EventFault type s n → EventBad type s n
-event-bad type s are (EventFault.tooLong h) = EventBad.tooLong h
-event-bad type s are (EventFault.wrongType short a b c) = EventBad.wrongType short a b c
-event-bad type s are (EventFault.untagged short is fault) = EventBad.untagged short is (untagged-bad s are fault)
-event-bad type s are (EventFault.tagged short is fault) = EventBad.tagged short is (tagged-bad s are fault)
-
--- an event is refused with a number exactly where, by the layouts, a case of that number holds of its bytes
-pub event-laid-exact : EventLaidExact
-event-laid-exact type s n are = ((λ (r, e, is). event-bad type s are (rw is at (event-faults type s are r e))), event-refused type s n)
+      (UntaggedFault.badLead (getD s at 0) (part s 0 25) (part s 26 16) (times .bytes) (drop (suc at) s) (front-size later) (clock-size later enough) pairs bad)

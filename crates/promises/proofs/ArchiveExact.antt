@@ -1,0 +1,211 @@
+-- The statements of `specs/Exact.antt` for the listing and for the archive's calls.
+use Prim.Native.Nat.{ℕ}
+use mathlib.Core.Path.{_≡_, refl, sym, ap, _∙_}
+use mathlib.Core.Bool.{true}
+use mathlib.Core.List.{List}
+use lib.Dec.{eqb, leb}
+use lib.ListN.{length}
+use borrow.Author.Tests.{eqb-true, eqb-false, eq-eqb, ne-eqb}
+use Rattle.misc.specs.Pick.{pick}
+use Rattle.misc.specs.Refusal.{Refusal, number, notWritable, notASet}
+use Rattle.misc.specs.Parse.{Bytes, Parse, refuse, parsed}
+use Rattle.misc.specs.Output.{refused, bytes, answerOf}
+use Rattle.packets.proofs.Tests.{split}
+use Rattle.previous_gtids_event.specs.Entry.{Entry}
+use Rattle.previous_gtids_event.specs.Answers.{entryRead}
+use Rattle.gtid_event.specs.declared.GtidEvent.{GtidEvent}
+use Rattle.gtid_event_read.specs.Read.{gtid}
+use Rattle.gtid_event_write.specs.Writable.{writable}
+use Rattle.gtid_event_write.specs.Write.{eventBytes, eventOutput}
+use Rattle.gtid_event_laws.proofs.ReadWritable.{read-fits}
+use Rattle.gtid_sets.specs.Lent.{Lent, form, unfit, lentSet, SetLaid}
+use Rattle.gtid_sets.proofs.LentLaws.{lent-is, is-lent}
+use Rattle.resume_set.specs.declared.Offered.{Offered}
+use Rattle.resume_set.specs.declared.Offered.the-variants.{NoId, AlreadyThere, Taken, Refused}
+use Rattle.listing.specs.SetText.{setText, listedSet}
+use Rattle.listing.specs.EventText.{eventText, listing}
+use Rattle.abi.specs.Answers.{numbersOf, entryIn}
+use Rattle.abi.specs.Flat.{flat, flatRead, readOutput, readUsed, writeOutput}
+use Rattle.abi.proofs.FlatLaws.{length-flat}
+use Rattle.promises.specs.Meaning.{RecordLaid}
+use Rattle.promises.specs.Faults.{EventFault}
+use Rattle.promises.specs.PlainFaults.{OfBody, HeadedFault, WriteFault}
+use Rattle.promises.specs.SetFaults.{SetFault}
+use Rattle.promises.specs.Exact.{RefusesExactly, WritesExactly, ListingExact, FlatFault, ArchiveExact}
+use Rattle.promises.proofs.Forces.{WriterRefuses}
+use Rattle.promises.proofs.Exactly.{short-exactly, writes-exactly}
+use Rattle.promises.proofs.Demand2.{records-mean}
+use Rattle.promises.proofs.EventExact.{event-refused, event-faulty}
+use Rattle.promises.proofs.IntegersExact.{write-given, write-forced, write-writes, write-written, integers-exact}
+use Rattle.promises.proofs.SetsExact.{apart, unfit-fault, fault-unfit, sets-exact, offers-exactly}
+use Rattle.promises.proofs.BodiesExact.{entry-good, headed-exact, bodies-exact}
+
+-- ---- a set's text
+
+module _ (word set : List ℕ) where
+  abbrev Text : List ℕ → Type 0
+  Text bs = (s : List Entry) × SetLaid set s × (bs ≡ setText word s)
+
+  text-given : (r : Refusal) → listedSet word (lentSet set) ≡ refused r → SetFault set (number r)
+  text-given r = go (lentSet set) refl
+    where
+      go : (l : Lent) → lentSet set ≡ l → listedSet word l ≡ refused r → SetFault set (number r)
+      go unfit lent e = let this : number r ≡ 14 = cc in rw this (unfit-fault set lent)
+      go (form s) lent e = apart cc
+
+  text-forced : (n : ℕ) → SetFault set n → WriterRefuses (listedSet word (lentSet set)) n
+  text-forced n fault = let (this, lent) = fault-unfit set n fault in (notASet, rw lent, sym this)
+
+  text-writes : (bs : List ℕ) → listedSet word (lentSet set) ≡ bytes bs → Text bs
+  text-writes bs = go (lentSet set) refl
+    where
+      go : (l : Lent) → lentSet set ≡ l → listedSet word l ≡ bytes bs → Text bs
+      go unfit lent e = apart cc
+      go (form s) lent e = (s, lent-is set s lent, cc)
+
+  text-written : (bs : List ℕ) → Text bs → listedSet word (lentSet set) ≡ bytes bs
+  text-written bs (s, laid, is) = rw (is-lent set s laid, is)
+
+pub listing-exact : ListingExact
+listing-exact = record {
+  «list_set» = λ word set out. writes-exactly (listedSet word (lentSet set)) out (SetFault set) _ (text-given word set) (text-forced word set)
+      (text-writes word set) (text-written word set);
+  list = λ type body. short-exactly (eventText type body);
+  «list_input» = λ input. short-exactly (listing input);
+}
+
+-- ---- an offer's numbers
+
+-- the answer that they stand for
+abbrev answerIn : ℕ → ℕ → ℕ → Offered
+answerIn refusal kind len = pick (eqb kind 1) (Taken len) (pick (eqb kind 2) (AlreadyThere len) (pick (eqb kind 3) (NoId len) (Refused refusal len)))
+
+answer-in : (a : Offered) → answerIn (numbersOf a .refusal) (numbersOf a .kind) (numbersOf a .len) ≡ a
+answer-in (NoId len) = refl
+answer-in (AlreadyThere len) = refl
+answer-in (Taken len) = refl
+answer-in (Refused n len) = refl
+
+same-numbers : (a b : Offered) → numbersOf a ≡ numbersOf b → a ≡ b
+same-numbers a b e = sym (rw e at (answer-in a)) ∙ answer-in b
+
+-- ---- a record that is read
+
+module _ (type : ℕ) (body out : List ℕ) (are : Bytes body) where
+  abbrev Flat : List ℕ → Type 0
+  Flat bs = (e : GtidEvent) × (used : ℕ) × RecordLaid type body e used × (bs ≡ flat e)
+
+  read-given : (r : Refusal) → readOutput (gtid type body) ≡ refused r → EventFault type body (number r)
+  read-given r = go (gtid type body) refl
+    where
+      go : (p : Parse GtidEvent) → gtid type body ≡ p → readOutput p ≡ refused r → EventFault type body (number r)
+      go (refuse x) read e = let same : x ≡ r = cc in event-faulty type body are r (rw same at read)
+      go (parsed event used) read e = apart cc
+
+  read-forced : (n : ℕ) → EventFault type body n → WriterRefuses (readOutput (gtid type body)) n
+  read-forced n fault = let (r, e, is) = event-refused type body n fault in (r, rw e, is)
+
+  read-writes : (bs : List ℕ) → readOutput (gtid type body) ≡ bytes bs → Flat bs
+  read-writes bs = go (gtid type body) refl
+    where
+      go : (p : Parse GtidEvent) → gtid type body ≡ p → readOutput p ≡ bytes bs → Flat bs
+      go (refuse x) read e = apart cc
+      go (parsed event used) read e = (event, used, records-mean type body event used are .0 read, cc)
+
+  read-written : (bs : List ℕ) → Flat bs → readOutput (gtid type body) ≡ bytes bs
+  read-written bs (e, used, laid, is) = rw (records-mean type body e used are .1 laid, is)
+
+  -- where it refuses, it answers 0 or the needed length in the place of the bytes used
+  used-is : (p : Parse GtidEvent) → gtid type body ≡ p → (answerOf out (readOutput p) .refusal ≡ 0 → ⊥)
+      → readUsed p (length out) ≡ answerOf out (readOutput p) .len
+  unfolding answerOf
+  used-is (refuse r) read some = refl
+  used-is (parsed e used) read some =
+      let fits = read-fits body are type e used read in
+      let size : length (flat e) ≡ 116 = length-flat e (fits .sid-size) (fits .tag-size) in
+      split (leb 116 (length out))
+      (λ room. absurd (some (rw (size, room))))
+      (λ over. rw (size, over))
+
+  read-exact : WritesExactly (record { refusal = answerOf out (readOutput (gtid type body)) .refusal; len = readUsed (gtid type body) (length out) })
+      (WriteFault (EventFault type body) Flat (length out))
+  read-exact n len =
+      let both = writes-exactly (readOutput (gtid type body)) out (EventFault type body) Flat read-given read-forced read-writes read-written n len in
+      let used : (answerOf out (readOutput (gtid type body)) .refusal ≡ 0 → ⊥)
+      → readUsed (gtid type body) (length out) ≡ answerOf out (readOutput (gtid type body)) .len =
+      used-is (gtid type body) refl in (
+        λ (is, long, some). both .0 (is, sym (used (λ zero. some (sym is ∙ zero))) ∙ long, some),
+        λ fault.
+            let (is, long, some) = both .1 fault in
+            (is, used (λ zero. some (sym is ∙ zero)) ∙ long, some),
+      )
+
+-- ---- a record that is written
+
+module _ (fields : List ℕ) where
+  abbrev Event : List ℕ → Type 0
+  Event bs = (length fields ≡ 116) × (writable (flatRead fields) ≡ true) × (bs ≡ eventBytes (flatRead fields))
+
+  other-size : (length fields ≡ 116 → ⊥) → writeOutput fields ≡ refused notWritable
+  unfolding writeOutput
+  other-size other = rw (ne-eqb (length fields) 116 other)
+
+  this-size : length fields ≡ 116 → writeOutput fields ≡ eventOutput (flatRead fields)
+  unfolding writeOutput
+  this-size is = rw (eq-eqb (length fields) 116 is)
+
+  flat-given : (r : Refusal) → writeOutput fields ≡ refused r → FlatFault fields (number r)
+  flat-given r e = split (eqb (length fields) 116)
+      (λ is.
+      let size = eqb-true (length fields) 116 is in
+      FlatFault.badRecord size (write-given (flatRead fields) r (sym (this-size size) ∙ e)))
+      (λ isnt.
+      let other = eqb-false (length fields) 116 isnt in
+      let two : refused notWritable ≡ refused r = sym (other-size other) ∙ e in
+      let same : notWritable ≡ r = cc in
+      rw (← same) (FlatFault.otherSize other))
+
+  flat-forced : (n : ℕ) → FlatFault fields n → WriterRefuses (writeOutput fields) n
+  flat-forced n (FlatFault.otherSize other) = (notWritable, other-size other, refl)
+  flat-forced n (FlatFault.badRecord size fault) =
+      let (r, e, is) = write-forced (flatRead fields) n fault in
+      (r, this-size size ∙ e, is)
+
+  flat-writes : (bs : List ℕ) → writeOutput fields ≡ bytes bs → Event bs
+  flat-writes bs e = split (eqb (length fields) 116)
+      (λ is.
+      let size = eqb-true (length fields) 116 is in
+      let (can, these) = write-writes (flatRead fields) bs (sym (this-size size) ∙ e) in
+      (size, can, these))
+      (λ isnt.
+      let two : refused notWritable ≡ bytes bs = sym (other-size (eqb-false (length fields) 116 isnt)) ∙ e in
+      apart cc)
+
+  flat-written : (bs : List ℕ) → Event bs → writeOutput fields ≡ bytes bs
+  flat-written bs (size, can, these) = this-size size ∙ write-written (flatRead fields) bs (can, these)
+
+-- ---- an entry at a place
+
+read-entry-exact : (body : List ℕ) (at : ℕ) → Bytes body → RefusesExactly (entryRead (entryIn body at) .refusal) (OfBody body (HeadedFault 1 at body))
+unfolding entryIn
+read-entry-exact body at are = headed-exact 1 body at are (λ p. entryRead p .refusal) (λ r. refl) entry-good
+
+pub archive-exact : ArchiveExact
+archive-exact = record {
+  «gtid_read_varlen_uint» = λ s. integers-exact .«read_varlen_uint» s 0;
+  «gtid_check_set» = sets-exact .«check_set»;
+  «gtid_contains» = sets-exact .contains;
+  «gtid_take_in» = sets-exact .«take_in»;
+  «gtid_read_previous» = bodies-exact .read;
+  «gtid_read_entry» = read-entry-exact;
+  «gtid_rewrite» = bodies-exact .rewrite;
+  «gtid_list» = listing-exact .«list_input»;
+  «gtid_offer» = λ set type body out a l are.
+      let both = offers-exactly set (record { type = type; body = body; out = out }) a l are in (
+        λ (is, left). both .0 (same-numbers _ a is, left),
+        λ answer. let (is, left) = both .1 answer in (ap numbersOf is, left),
+      );
+  «gtid_read» = read-exact;
+  «gtid_write» = λ fields out. writes-exactly (writeOutput fields) out (FlatFault fields) (Event fields) (flat-given fields) (flat-forced fields)
+      (flat-writes fields) (flat-written fields);
+}
