@@ -21,6 +21,7 @@ use Rattle.packets.specs.Kept.{padded}
 use Rattle.packets.specs.Tag.{isTag, allTagBytes}
 use Rattle.packets.proofs.Tests.{and-true}
 use Rattle.packets.specs.Gno.{gnoTop, interval}
+use Rattle.previous_gtids_event.specs.Layout.{HeaderLaid, EntriesLaid}
 use Rattle.previous_gtids_event.specs.Previous as previous-specs
 use Rattle.previous_gtids_event.specs.Previous.{keyAt, headAt, intervalAt, entryAt, saysTagged, saysCount, previous}
 use Rattle.previous_gtids_event.specs.Rewrite.{intervalsBytes, entryBytes, entriesBytes, anyTag, headerBytes, bodyBytes}
@@ -210,7 +211,23 @@ none = replicate 8 0
 
 none-taken-in : TakesIn none [] none
 unfolding outputOf answerOf previous bodyLimit leAt leOf bytesAt saysTagged saysCount many limits maxEntries maxIntervals bodyBytes anyTag headerBytes entriesBytes leBytes
-none-taken-in = record { used = 8; reads = refl; out = none; accepts = refl; writes = refl }
+none-taken-in = record {
+  are-bytes = zeros-bytes 8;
+  used = 8;
+  laid = record {
+    tagged = false;
+    header = none;
+    entries = [];
+    unread = [];
+    whole = refl;
+    says = HeaderLaid.plain {count = replicate 7 0} (record { long = refl; spells = refl });
+    laid = EntriesLaid.none;
+    uses = refl;
+  };
+  out = none;
+  accepts = refl;
+  writes = refl;
+}
 
 abbrev offer : ℕ → ℕ → Turn
 offer gno room = record { type = 33; body = bodyOf gno; out = replicate room 0 }

@@ -28,7 +28,7 @@ use Rattle.gtid_event_write.specs.Writable.{writable}
 use Rattle.gtid_event_write.specs.Write.{eventBytes, eventOutput, lengthOf}
 use Rattle.gtid_sets.specs.Lent.{lentSet, SetLaid}
 use Rattle.set_check.specs.Check.{checkedOf}
-use Rattle.resume_set.specs.Answers.{setRead, contained, takenIn, eventOf, offered, output}
+use Rattle.resume_set.specs.Answers.{setRead, contained, takeInAnswers, offerAnswers, offerLeaves}
 use Rattle.resume_set.specs.declared.Offered.{Offered}
 use Rattle.listing.specs.SetText.{setText, listedSet}
 use Rattle.listing.specs.EventText.{eventText, listing}
@@ -112,7 +112,7 @@ pub record SetsExact : Type 0 where
   pub «check_set» : (set : List ℕ) → RefusesExactly (setRead (lentSet set) .refusal) (SetFault set)
   pub contains : (set uuid tag : List ℕ) (gno : ℕ) → RefusesExactly (contained (lentSet set) uuid tag gno .refusal) (SetFault set)
   pub «take_in» : (body out : List ℕ) → Bytes body
-      → WritesExactly (answerOf out (takenIn (previous body))) (WriteFault (TakeInFault body) (TakenInAs body) (length out))
+      → WritesExactly (takeInAnswers body out) (WriteFault (TakeInFault body) (TakenInAs body) (length out))
 
 -- ---- listing
 
@@ -156,7 +156,7 @@ pub record ArchiveExact : Type 0 where
   pub «gtid_check_set» : (set : List ℕ) → RefusesExactly (setRead (lentSet set) .refusal) (SetFault set)
   pub «gtid_contains» : (set uuid tag : List ℕ) (gno : ℕ) → RefusesExactly (contained (lentSet set) uuid tag gno .refusal) (SetFault set)
   pub «gtid_take_in» : (body out : List ℕ) → Bytes body
-      → WritesExactly (answerOf out (takenIn (previous body))) (WriteFault (TakeInFault body) (TakenInAs body) (length out))
+      → WritesExactly (takeInAnswers body out) (WriteFault (TakeInFault body) (TakenInAs body) (length out))
   pub «gtid_read_previous» : (body : List ℕ) → Bytes body → RefusesExactly (previousRead (previous body) .refusal) (BodyFault body)
   pub «gtid_read_entry» : (body : List ℕ) (at : ℕ) → Bytes body → RefusesExactly (entryRead (entryIn body at) .refusal) (OfBody body (HeadedFault 1 at body))
   pub «gtid_rewrite» : (body out : List ℕ) → Bytes body
@@ -164,8 +164,8 @@ pub record ArchiveExact : Type 0 where
   pub «gtid_list» : (input out : List ℕ) → WritesExactly (answerOf out (bytes (listing input))) (ShortFault (listing input) (length out))
   -- its numbers tell every answer from every other
   pub «gtid_offer» : (set : List ℕ) (type : ℕ) (body out : List ℕ) (a : Offered) (l : List ℕ) → Bytes body
-      → Exactly ((numbersOf (offered (lentSet set) (eventOf type body) (length out)) ≡ numbersOf a)
-      × (outputOf out (output (lentSet set) (eventOf type body)) ≡ l)) (OfferAnswer set type body out a l)
+      → Exactly ((numbersOf (offerAnswers set type body out) ≡ numbersOf a)
+      × (offerLeaves set type body out ≡ l)) (OfferAnswer set type body out a l)
   -- what it answers for 13 in the place of the bytes used is the length that is needed
   pub «gtid_read» : (type : ℕ) (body out : List ℕ) → Bytes body
       → WritesExactly (record { refusal = answerOf out (readOutput (gtid type body)) .refusal; len = readUsed (gtid type body) (length out) })

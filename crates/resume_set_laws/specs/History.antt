@@ -6,10 +6,10 @@ use mathlib.Core.List.{List, [], _∷_, _++_}
 use lib.ListN.{length, take}
 use lib.Dec.{ltb, eqb}
 use Rattle.misc.specs.Refusal.{number, noRoom, full}
-use Rattle.misc.specs.Parse.{Bytes, parsed}
+use Rattle.misc.specs.Parse.{Bytes}
 use Rattle.packets.specs.Key.{Key}
 use Rattle.previous_gtids_event.specs.Entry.{Entry}
-use Rattle.previous_gtids_event.specs.Previous.{previous}
+use Rattle.previous_gtids_event.specs.Layout.{BodyLaid}
 use Rattle.gtid_sets.specs.Set.{has}
 use Rattle.gtid_sets.specs.Limits.{longestSet}
 use Rattle.gtid_sets.specs.Run.{isOf}
@@ -73,10 +73,11 @@ abbrev pub OfBytes : List Turn → Type 0
 OfBytes [] = Unit {0}
 OfBytes (t ∷ ts) = Bytes (t .body) × OfBytes ts
 
--- a body that take in accepts, lent some output: the body's entries, and the bytes of the set that it writes
+-- a body that take in accepts, lent some output: the entries that the layout says, and the bytes of the set that it writes
 pub record TakesIn (body : List ℕ) (es : List Entry) (set : List ℕ) : Type 0 where
+  pub are-bytes : Bytes body
   pub used : ℕ
-  pub reads : previous body ≡ parsed es used
+  pub laid : BodyLaid body es used
   pub out : List ℕ
   pub accepts : takeInAnswers body out .refusal ≡ 0
   pub writes : take (takeInAnswers body out .len) (takeInLeaves body out) ≡ set
