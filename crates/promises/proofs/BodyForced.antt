@@ -1,13 +1,14 @@
--- A fault of a Previous-GTIDs body forces its number.
-use Prim.Native.Nat.{ℕ, _+_, _<_}
+-- A fault of a Previous-GTIDs body forces its number; and a body either is laid out or has a fault.
+use Prim.Native.Nat.{ℕ, _+_, _≤_, _<_}
 use mathlib.Core.Path.{_≡_, refl}
 use mathlib.Core.Bool.{Bool, true, false}
 use mathlib.Core.List.{List, _++_}
+use mathlib.Core.Logic.{_⊎_, inl, inr}
 use native.Mathlib.Omega.{arith}
 use lib.ListN.{length}
 use borrow.Author.Tests.{le-leb, lt-leb}
-use Rattle.misc.specs.Refusal.{ended, badTag, tooLong}
-use Rattle.misc.specs.Parse.{Bytes, refuse, part}
+use Rattle.misc.specs.Refusal.{number, ended, badTag, tooLong}
+use Rattle.misc.specs.Parse.{Bytes, Parse, refuse, parsed, part}
 use Rattle.misc.specs.Body.{bodyLimit}
 use Rattle.misc.specs.Forms.{Form}
 use Rattle.misc.proofs.ParseLaws.{bytes-here, bytes-gone}
@@ -16,13 +17,16 @@ use Rattle.misc.proofs.LeLaws.{le-gone}
 use Rattle.misc.proofs.Bounds.{front-bytes}
 use Rattle.misc.proofs.Places.{From, from-start, from-size, from-room, from-next, from-part}
 use Rattle.misc.proofs.FormsRead.{form-reads, number-reads}
+use Rattle.previous_gtids_event.specs.Entry.{Entry}
 use Rattle.previous_gtids_event.specs.Previous.{noneOrTag, tagAt, keyAt, headAt, entryAt, previous}
+use Rattle.previous_gtids_event.specs.Layout.{BodyLaid}
 use Rattle.previous_gtids_event.proofs.Reading.{intervals-gone}
 use Rattle.previous_gtids_event.proofs.Laying.{header-reads, tag-reads, uuid-there, entries-read}
+use Rattle.previous_gtids_event.proofs.RoundTrip.{read-laid, laid-read}
 use Rattle.promises.specs.LaidFaults.{CutForm}
 use Rattle.promises.specs.BodyFaults.{EntryFault, BodyFault}
 use Rattle.promises.specs.Exact.{Refuses, BodyLaidExact}
-use Rattle.promises.proofs.Forces.{is-refused, one-number, many-stops}
+use Rattle.promises.proofs.Forces.{is-refused, one-number, refused-not-read, many-stops}
 use Rattle.promises.proofs.BodyFaults.{body-faults}
 use Rattle.promises.proofs.LaidRefused.{cut-ends}
 
@@ -89,3 +93,15 @@ body-laid-exact s n are = ((λ (r, e, is). rw is at (body-faults s are r e)), bo
 
 pub body-one : (s : List ℕ) → Bytes s → (n m : ℕ) → BodyFault s n → BodyFault s m → n ≡ m
 body-one s are n m f g = one-number (body-forced s are n f) (body-forced s are m g)
+
+-- a body is laid out as entries or has a fault; if it isn't too long, never both
+pub body-laid-or-fault : (s : List ℕ) → Bytes s → ((es : List Entry) × (used : ℕ) × BodyLaid s es used) ⊎ ((n : ℕ) × BodyFault s n)
+body-laid-or-fault s are = go (previous s) refl
+  where
+    go : (p : Parse (List Entry)) → previous s ≡ p → ((es : List Entry) × (used : ℕ) × BodyLaid s es used) ⊎ ((n : ℕ) × BodyFault s n)
+    go (refuse r) read = inr (number r, body-faults s are r read)
+    go (parsed es used) read = inl (es, used, read-laid s es used are read)
+
+pub body-not-both : (s : List ℕ) (es : List Entry) (used n : ℕ) → Bytes s → length s ≤ bodyLimit → BodyLaid s es used → BodyFault s n → ⊥
+body-not-both s es used n are short laid fault =
+    refused-not-read (body-forced s are n fault) (laid-read s es used are (omega (arith, bodyLimit-is)) laid)
