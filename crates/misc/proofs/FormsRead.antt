@@ -64,6 +64,12 @@ form-reads s at v bs rest (Form.nine more size value) h =
 
 -- ---- fixed and length-encoded integers
 
+pub lenenc-some : (v : ℕ) (bs : List ℕ) → LenencForm v bs → 1 ≤ length bs
+lenenc-some v bs (LenencForm.itself low) = omega arith
+lenenc-some v bs (LenencForm.led-by-FC more size value) = omega arith
+lenenc-some v bs (LenencForm.led-by-FD more size value) = omega arith
+lenenc-some v bs (LenencForm.led-by-FE more size value) = omega arith
+
 module _ (s : List ℕ) where
   pub number-reads : (w at v : ℕ) (bs rest : List ℕ) → Number w v bs → From s at (bs ++ rest) → leAt w s at ≡ parsed v (at + w)
   number-reads w at v bs rest n h =
@@ -86,9 +92,3 @@ module _ (s : List ℕ) where
   lenenc-reads at v bs rest (LenencForm.led-by-FC more size value) h = led-reads 0xFC 2 at v more rest size value h (led-2 s (at + 1))
   lenenc-reads at v bs rest (LenencForm.led-by-FD more size value) h = led-reads 0xFD 3 at v more rest size value h (led-3 s (at + 1))
   lenenc-reads at v bs rest (LenencForm.led-by-FE more size value) h = led-reads 0xFE 8 at v more rest size value h (led-8 s (at + 1))
-
-  pub lenenc-some : (v : ℕ) (bs : List ℕ) → LenencForm v bs → 1 ≤ length bs
-  lenenc-some v bs (LenencForm.itself low) = omega arith
-  lenenc-some v bs (LenencForm.led-by-FC more size value) = omega arith
-  lenenc-some v bs (LenencForm.led-by-FD more size value) = omega arith
-  lenenc-some v bs (LenencForm.led-by-FE more size value) = omega arith

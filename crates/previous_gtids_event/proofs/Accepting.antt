@@ -26,7 +26,7 @@ use Rattle.previous_gtids_event.proofs.Laying.{header-meant}
 
 by-top : (bottom : ℕ) (count : List ℕ) (top : ℕ) → length count ≡ 6 → (t : Bool) × (n : ℕ) × HeaderLaid t n (bottom ∷ (count ++ (top ∷ [])))
 by-top bottom count zero six = (false, leOf (bottom ∷ count), HeaderLaid.plain {count = bottom ∷ count} (record { long = omega arith; spells = refl }))
-by-top bottom count (suc k) six = (true, leOf count, HeaderLaid.tagged bottom (suc k) (record { long = six; spells = refl }) (λ e. omega arith))
+by-top bottom count (suc k) six = (true, leOf count, HeaderLaid.tagged bottom (suc k) (record { long = six; spells = refl }) (omega arith))
 
 some-header : (bs : List ℕ) → length bs ≡ 8 → (t : Bool) × (n : ℕ) × HeaderLaid t n bs
 some-header [] e = absurd (omega arith)

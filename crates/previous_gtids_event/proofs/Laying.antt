@@ -1,10 +1,11 @@
 -- What is laid out (`specs/Layout.antt`) is read; and entries that are laid out in bytes can be written.
 use mathlib.Core.Path.{_≡_, refl, sym, ap, _∙_}
-use mathlib.Core.Bool.{Bool, true}
+use mathlib.Core.Bool.{Bool, true, false}
 use mathlib.Core.List.{List, [], _∷_, _++_, append-assoc}
 use Prim.Native.Nat.{ℕ, suc, _+_, _*_, _/_, _%_, _^_, _≤_, _<_}
 use native.Mathlib.Nat.{add-zero, mul-left-comm, pow-succ'}
 use native.Mathlib.Omega.{arith}
+use lib.Dec.{eqb}
 use lib.ListN.{length, length-append}
 use borrow.Author.Tests.{ne-eqb}
 use Rattle.misc.specs.Parse.{Bytes, parsed, many, part}
@@ -45,9 +46,10 @@ header-meant (HeaderLaid.tagged {n = n} {count = count} bottom top c some) are =
     let value : leOf (bottom ∷ (count ++ (top ∷ []))) ≡ bottom + 256 * (n + top * 256 ^ 6) =
     unfold leOf in rw (leOf-snoc 6 count top (c .long), c .spells) in
     let first : bottom < 256 = are 0 in
+    let set : eqb top 0 ≡ false = ne-eqb top 0 (omega (arith, some)) in
     let high : (bottom + 256 * (n + top * 256 ^ 6)) / 2 ^ 56 ≡ top = omega (arith, c .spells) in
     let middle : (bottom + 256 * (n + top * 256 ^ 6)) / 256 % 2 ^ 48 ≡ n = omega (arith, c .spells) in
-    (simp length-append (omega (arith, c .long)), rw (value, high, ne-eqb top 0 some), rw (value, high, ne-eqb top 0 some, middle))
+    (simp length-append (omega (arith, c .long)), rw (value, high, set), rw (value, high, set, middle))
 
 pub header-reads : (s : List ℕ) {t : Bool} {n : ℕ} (bs rest : List ℕ) → HeaderLaid t n bs → Bytes bs → From s 0 (bs ++ rest)
     → (h : ℕ) × (leAt 8 s 0 ≡ parsed h 8) × (saysTagged h ≡ t) × (saysCount h ≡ n) × From s 8 rest

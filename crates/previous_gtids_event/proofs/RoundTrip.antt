@@ -8,12 +8,15 @@ use native.Mathlib.Omega.{arith}
 use lib.Dec.{ltb}
 use lib.ListN.{length, drop, length-append}
 use borrow.Author.Tests.{ltb-false}
-use Rattle.misc.specs.Parse.{Bytes, Parse, refuse, parsed}
-use Rattle.misc.specs.Le.{leBytes}
+use Rattle.misc.specs.Parse.{Bytes, Parse, refuse, parsed, part}
+use Rattle.misc.specs.Refusal.{ended}
+use Rattle.misc.specs.Body.{ofBody}
+use Rattle.misc.specs.Le.{leOf, leBytes, leAt}
 use Rattle.misc.specs.Varlen.{varlenSize, varlenBytes}
 use Rattle.misc.specs.Output.{bytes}
+use Rattle.misc.proofs.ParseLaws.{split, no-zero}
 use Rattle.misc.proofs.BodyLaws.{body-fits}
-use Rattle.misc.proofs.LeLaws.{length-leBytes, leOf-leBytes}
+use Rattle.misc.proofs.LeLaws.{le-here, le-gone, length-leBytes, leOf-leBytes}
 use Rattle.misc.proofs.Bounds.{front-bytes, behind-bytes, leBytes-bytes}
 use Rattle.misc.proofs.Places.{From, from-start, Found, found-size}
 use Rattle.misc.proofs.FormsRead.{form-some}
@@ -24,12 +27,37 @@ use Rattle.packets.specs.Key.{Key}
 use Rattle.packets.proofs.Tests.{clash}
 use Rattle.previous_gtids_event.specs.Entry.{Entry, entry, uuidOf, tagOf}
 use Rattle.previous_gtids_event.specs.Previous.{noneOrTag, saysTagged, saysCount, entriesIn, previous}
+use Rattle.previous_gtids_event.specs.Answers.{headerRead}
+use Rattle.previous_gtids_event.specs.declared.HeaderRead.{HeaderRead}
 use Rattle.previous_gtids_event.specs.Layout.{HeaderLaid, TagLaid, IntervalsLaid, EntryLaid, EntriesLaid, BodyLaid}
 use Rattle.previous_gtids_event.specs.Rewrite.{tagBytes, intervalsBytes, entryBytes, entriesBytes, anyTag, headerBytes, bodyBytes, rewritten}
 use Rattle.previous_gtids_event.proofs.Reading.{none-or-tag-short, uuid-of, tag-of, key-whole, previous-parts, previous-inside}
 use Rattle.previous_gtids_event.proofs.Writing.{headerNumber, header-number, length-header, entry-length}
 use Rattle.previous_gtids_event.proofs.Laying.{header-meant, header-reads, entries-read, GoodIntervals, WellFormed, laid-well-formed}
 use Rattle.previous_gtids_event.proofs.Accepting.{header-spelt, header-found, entries-found}
+
+-- ---- headers: what `header_of` answers is what their bytes say
+module _ (s : List ℕ) (are : Bytes s) (small : length s ≤ 65536) (t : Bool) (n : ℕ) where
+  pub header-told : (header rest : List ℕ) → s ≡ header ++ rest → HeaderLaid t n header
+      → headerRead (ofBody s (leAt 8 s 0)) ≡ record { refusal = 0; tagged = t; entries = n }
+  header-told header rest whole laid =
+      let front : From s 0 (header ++ rest) = subst (From s 0) whole (from-start s) in
+      let (h, read, tagged, count, _) = header-reads s header rest laid (front-bytes header rest (subst Bytes whole are)) front in
+      ap headerRead (body-fits s (leAt 8 s 0) small ∙ read) ∙ rw (tagged, count)
+
+  pub header-means : headerRead (ofBody s (leAt 8 s 0)) ≡ record { refusal = 0; tagged = t; entries = n } → Found (HeaderLaid t n) s 0 8
+  header-means e =
+      split 8 (length s)
+      (λ room.
+      let h = leOf (part s 0 8) in
+      let read : leAt 8 s 0 ≡ parsed h 8 = le-here 8 s 0 room in
+      let told : headerRead (parsed h 8) ≡ record { refusal = 0; tagged = t; entries = n } = ap headerRead (sym (body-fits s (leAt 8 s 0) small ∙ read)) ∙ e in
+      let tagged : saysTagged h ≡ t = ap (λ (y : HeaderRead). y .tagged) told in
+      let count : saysCount h ≡ n = ap (λ (y : HeaderRead). y .entries) told in
+      rw (tagged, count) at (header-found s are h read))
+      (λ over.
+      let told : headerRead (refuse ended) ≡ record { refusal = 0; tagged = t; entries = n } = ap headerRead (sym (body-fits s (leAt 8 s 0) small ∙ le-gone 8 s 0 over)) ∙ e in
+      absurd (no-zero ended (ap (λ (y : HeaderRead). y .refusal) told)))
 
 -- ---- bodies
 module _ (s : List ℕ) (es : List Entry) (used : ℕ) where
@@ -107,7 +135,7 @@ unfolding headerBytes
 header-laid false n h =
     let (_, plain, all) = header-says false n h in
     rw (plain, all) at (header-spelt n (leBytes 8 n) (length-leBytes 8 n) (leOf-leBytes 8 n (omega arith)) (leBytes-bytes 8 n))
-header-laid true n h = HeaderLaid.tagged 1 1 (number-written 6 n h) (λ e. omega arith)
+header-laid true n h = HeaderLaid.tagged 1 1 (number-written 6 n h) (omega arith)
 
 header-bytes : (t : Bool) (n : ℕ) → n < 2 ^ 48 → Bytes (headerBytes t n)
 header-bytes t n h = rw (header-number t n h) (leBytes-bytes 8 (headerNumber t n))

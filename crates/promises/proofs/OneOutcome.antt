@@ -1,23 +1,35 @@
 -- What follows from `specs/Exact.antt`: no two cases with different numbers hold at once, a call accepts exactly where no case holds, and there is one
--- offer. And by the layouts alone: every event either is laid out, as one record of one length, or has a fault, of one number; never both.
-use Prim.Native.Nat.{ℕ}
+-- offer. And by the layouts alone: every event, and every body that isn't too long, either is laid out,
+-- as one record or list of entries of one length, or has a fault, of one number; never both.
+use Prim.Native.Nat.{ℕ, _≤_}
 use mathlib.Core.Path.{_≡_, refl, sym, _∙_}
 use mathlib.Core.List.{List}
 use mathlib.Core.Logic.{_⊎_, inl, inr}
+use native.Mathlib.Omega.{arith}
 use lib.Dec.{eqb}
+use lib.ListN.{length}
 use borrow.Author.Tests.{eqb-true, eqb-false}
 use Rattle.misc.specs.Refusal.{number}
 use Rattle.misc.specs.Parse.{Bytes, Parse, refuse, parsed}
 use Rattle.misc.specs.declared.Wrote.{Wrote}
+use Rattle.misc.specs.Body.{bodyLimit}
+use Rattle.misc.proofs.BodyLaws.{bodyLimit-is}
 use Rattle.packets.proofs.Tests.{split}
+use Rattle.previous_gtids_event.specs.Entry.{Entry}
+use Rattle.previous_gtids_event.specs.Previous.{previous}
+use Rattle.previous_gtids_event.specs.Layout.{BodyLaid}
+use Rattle.previous_gtids_event.proofs.RoundTrip.{read-laid, laid-read}
 use Rattle.gtid_event.specs.declared.GtidEvent.{GtidEvent}
 use Rattle.gtid_event_read.specs.Read.{gtid}
 use Rattle.resume_set_laws.specs.History.{Turn, Offering}
 use Rattle.promises.specs.Faults.{EventFault}
+use Rattle.promises.specs.BodyFaults.{BodyFault}
 use Rattle.promises.specs.Meaning.{RecordLaid}
 use Rattle.promises.specs.Exact.{Exactly, RefusesExactly, WritesExactly, OffersExactly}
 use Rattle.promises.proofs.Forces.{refused-not-read}
 use Rattle.promises.proofs.EventExact.{event-refused, event-faulty}
+use Rattle.promises.proofs.BodyFaults.{body-faults}
+use Rattle.promises.proofs.BodyForced.{body-forced}
 use Rattle.promises.proofs.Demand2.{records-mean}
 
 -- ---- of any call
@@ -64,3 +76,16 @@ laid-or-faulty type s are = go (gtid type s) refl
 
 pub not-both : (type : ℕ) (s : List ℕ) (e : GtidEvent) (used n : ℕ) → Bytes s → RecordLaid type s e used → EventFault type s n → ⊥
 not-both type s e used n are laid fault = refused-not-read (event-refused type s n fault) (records-mean type s e used are .1 laid)
+
+-- ---- of Previous-GTIDs bodies
+
+pub body-laid-or-faulty : (s : List ℕ) → Bytes s → ((es : List Entry) × (used : ℕ) × BodyLaid s es used) ⊎ ((n : ℕ) × BodyFault s n)
+body-laid-or-faulty s are = go (previous s) refl
+  where
+    go : (p : Parse (List Entry)) → previous s ≡ p → ((es : List Entry) × (used : ℕ) × BodyLaid s es used) ⊎ ((n : ℕ) × BodyFault s n)
+    go (refuse r) read = inr (number r, body-faults s are r read)
+    go (parsed es used) read = inl (es, used, read-laid s es used are read)
+
+pub body-not-both : (s : List ℕ) (es : List Entry) (used n : ℕ) → Bytes s → length s ≤ bodyLimit → BodyLaid s es used → BodyFault s n → ⊥
+body-not-both s es used n are short laid fault =
+    refused-not-read (body-forced s are n fault) (laid-read s es used are (omega (arith, bodyLimit-is)) laid)

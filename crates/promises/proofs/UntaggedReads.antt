@@ -67,7 +67,7 @@ module _ (s : List ℕ) where
       let size = from-size s at [] h in
       rw (lt-leb 1 (length s - at) (omega arith), add-zero at)
   length-reads at v bs rest (LengthIfLeft.there form) h =
-      rw (le-leb 1 (length s - at) (omega (arith, from-room s at bs rest h, lenenc-some s v bs form))) (lenenc-reads s at v bs rest form h)
+      rw (le-leb 1 (length s - at) (omega (arith, from-room s at bs rest h, lenenc-some v bs form))) (lenenc-reads s at v bs rest form h)
 
   -- ---- flags, uuid and gno
 
