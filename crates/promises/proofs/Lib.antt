@@ -1,5 +1,5 @@
 -- The demands hold of what our functions promise. Demand 1: `integers-exact`, `events-exact`, `bodies-exact`, `reader-exact`, `sets-exact`,
--- `offers-exactly`, `asks-exactly`, `listing-exact`, `archive-exact`;
+-- `offers-exactly`, `asks-exactly`, `listing-exact`, `archive-exact`, `sets-told`;
 -- `orders`, `zeros` and `outputs`. Demand 2: `records-mean`, `records-back`, `records-again`, `least-size`, `entries-back`, `entries-mean`.
 -- Demand 3: `tells-history`, `replays`, `refusals-keep`. What is laid out has no fault, and one outcome (`OneOutcome`). Wrong programs don't meet the
 -- demands (`ShutOut`).
@@ -30,6 +30,7 @@ pub mod BodyForced
 -- every public function
 pub mod IntegersExact
 pub mod SetsExact
+pub mod SetsTold
 pub mod BodiesExact
 pub mod ReaderExact
 pub mod ArchiveExact

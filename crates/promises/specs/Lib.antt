@@ -2,7 +2,8 @@
 -- (`UntaggedLayout`, `TaggedLayout`) over the forms of integers (`Forms` of misc). Demand 2, of any reader and writer, over them (`Meaning`).
 -- Demand 1, the table of refusals, over the same layouts: events (`Faults`), Previous-GTIDs bodies (`BodyFaults`), integers, parts and writers
 -- (`PlainFaults`), sets (`SetFaults`); that every public function gives a number exactly where the table has its case, and an offer each of its answers
--- (`Exact`); which of several faults counts, and that nothing else is answered or written (`Orders`).
+-- (`Exact`); what the other calls say of a set's members (`Told`); which of several faults counts, and that nothing else is answered or written
+-- (`Orders`).
 -- Demand 3, of any offer, is `History` of resume_set_laws. Last, wrong programs that all this shuts out (`WrongOnes`).
 pub mod Edges
 pub mod UntaggedLayout
@@ -13,5 +14,6 @@ pub mod BodyFaults
 pub mod PlainFaults
 pub mod SetFaults
 pub mod Exact
+pub mod Told
 pub mod Orders
 pub mod WrongOnes
