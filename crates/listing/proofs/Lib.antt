@@ -8,4 +8,5 @@ pub mod SetTextLaws
 pub mod EventTextLaws
 pub mod TakenTextLaws
 pub mod Longest
+pub mod Whole
 mod Examples

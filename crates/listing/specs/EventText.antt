@@ -6,6 +6,7 @@ use lib.Dec.{eqb}
 use Rattle.misc.specs.Pick.{pick}
 use Rattle.misc.specs.Refusal.{number, ended, notASet}
 use Rattle.misc.specs.Parse.{Parse, refuse, parsed}
+use Rattle.misc.specs.Body.{bodyLimit}
 use Rattle.misc.specs.Output.{Output, refused, bytes}
 use Rattle.previous_gtids_event.specs.Previous.{previous}
 use Rattle.gtid_event.specs.declared.GtidEvent.{GtidEvent}
@@ -64,6 +65,10 @@ eventText type body = pick (eqb type 35) (takenText (takenIn (previous body))) (
 abbrev pub listing : List ℕ → List ℕ
 listing [] = refusedText (number ended)
 listing (type ∷ body) = eventText type body
+
+-- so many bytes of an input tell its listing: a type byte, the longest body, and a byte that tells that the body is too long
+unfoldable pub enoughInput : ℕ
+enoughInput = 2 + bodyLimit
 
 -- the longest text: the line of counts, 42 bytes; 70 for each entry (36 for the uuid, 33 for the tag and its colon, 1 for the newline);
 -- and 40 for each interval

@@ -6,8 +6,6 @@ mod calls_integers;
 mod frame;
 
 use crate::frame::Head;
-use probe_lines::line::push_text_if;
-use probe_lines::line::write;
 
 const A_ROOM: usize = 140_000;
 
@@ -19,8 +17,15 @@ const OUT_ROOM: usize = 140_000;
 
 const LINE_ROOM: usize = 450_000;
 
-// Puts the line that answers a request, without its end, at the front of `line`; returns its length.
-fn answer(head: Head, a: &[u8], b: &[u8], c: &[u8], out: &mut [u8], line: &mut [u8]) -> usize {
+// The line by the library's answer.
+fn answer_by_call(
+    head: Head,
+    a: &[u8],
+    b: &[u8],
+    c: &[u8],
+    out: &mut [u8],
+    line: &mut [u8],
+) -> usize {
     let call = head.call;
     if call < 9 {
         return calls_integers::answer(call, head.number, a, out, line);
@@ -37,62 +42,36 @@ fn answer(head: Head, a: &[u8], b: &[u8], c: &[u8], out: &mut [u8], line: &mut [
     probe_listing::answer(call, a, out, line)
 }
 
-// The line ends in ` abi` where the archive's function for the same call, which is lent `twin`, answers or writes something else.
-fn push_another(
-    head: Head,
-    a: &[u8],
-    b: &[u8],
-    c: &[u8],
-    out: &mut [u8],
-    twin: &mut [u8],
-    line: &mut [u8],
-) -> usize {
-    let end = answer(head, a, b, c, out, line);
-    let another = probe_abi::another(head.call, head.event_type, head.number, a, b, c, out, twin);
-    push_text_if(line, end, another, b" abi")
+// Puts the line that answers a request, without its end, at the front of `line`; returns its length. It ends in ` abi` where the
+// archive's function for the same call answers or writes something else.
+fn answer(head: Head, a: &[u8], b: &[u8], c: &[u8], out: &mut [u8], line: &mut [u8]) -> usize {
+    let end = answer_by_call(head, a, b, c, out, line);
+    let another = probe_abi::another(head.call, head.event_type, head.number, a, b, c, out);
+    probe_lines::line::push_text_if(line, end, another, b" abi")
 }
 
 // Answers the request whose parts stand at the front of `a`, `b` and `c`; false where one doesn't fit there.
-fn answer_read(
-    head: Head,
-    a: &[u8],
-    b: &[u8],
-    c: &[u8],
-    out: &mut [u8],
-    twin: &mut [u8],
-    line: &mut [u8],
-) -> bool {
+fn answer_read(head: Head, a: &[u8], b: &[u8], c: &[u8], out: &mut [u8], line: &mut [u8]) -> bool {
     let a_len = head.a_len;
     let b_len = head.b_len;
     let c_len = head.c_len;
     let out_len = head.out_len;
-    if a.len() < a_len || b.len() < b_len || c.len() < c_len {
+    if a.len() < a_len || b.len() < b_len || c.len() < c_len || out.len() < out_len {
         return false;
     }
-    if out.len() < out_len || twin.len() < out_len {
-        return false;
-    }
-    let end = push_another(
+    let end = answer(
         head,
         &a[..a_len],
         &b[..b_len],
         &c[..c_len],
         &mut out[..out_len],
-        &mut twin[..out_len],
         line,
     );
-    write(line, end)
+    probe_lines::line::write(line, end)
 }
 
 // Reads a request and answers it; false at the end of the input.
-fn answer_one(
-    a: &mut [u8],
-    b: &mut [u8],
-    c: &mut [u8],
-    out: &mut [u8],
-    twin: &mut [u8],
-    line: &mut [u8],
-) -> bool {
+fn answer_one(a: &mut [u8], b: &mut [u8], c: &mut [u8], out: &mut [u8], line: &mut [u8]) -> bool {
     let mut raw = [0u8; frame::HEAD_LEN];
     if io::read_full(0, &mut raw) < frame::HEAD_LEN {
         return false;
@@ -101,20 +80,13 @@ fn answer_one(
     if !frame::read_parts(head, a, b, c) {
         return false;
     }
-    answer_read(head, a, b, c, out, twin, line)
+    answer_read(head, a, b, c, out, line)
 }
 
 // A proved loop has to end, so it counts its turns down from a number that no run uses up.
-fn answer_all(
-    a: &mut [u8],
-    b: &mut [u8],
-    c: &mut [u8],
-    out: &mut [u8],
-    twin: &mut [u8],
-    line: &mut [u8],
-) {
+fn answer_all(a: &mut [u8], b: &mut [u8], c: &mut [u8], out: &mut [u8], line: &mut [u8]) {
     let mut turns = u64::MAX;
-    while turns > 0 && answer_one(a, b, c, out, twin, line) {
+    while turns > 0 && answer_one(a, b, c, out, line) {
         turns -= 1;
     }
 }
@@ -124,7 +96,6 @@ fn main() {
     let mut b = [0u8; B_ROOM];
     let mut c = [0u8; C_ROOM];
     let mut out = [0u8; OUT_ROOM];
-    let mut twin = [0u8; OUT_ROOM];
     let mut line = [0u8; LINE_ROOM];
-    answer_all(&mut a, &mut b, &mut c, &mut out, &mut twin, &mut line);
+    answer_all(&mut a, &mut b, &mut c, &mut out, &mut line);
 }

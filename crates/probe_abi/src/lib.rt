@@ -1,5 +1,5 @@
 // The archive's functions (crate abi), asked the same as the library's. Both outputs are filled with the mark before and compared whole,
-// and every number that is handed out begins with one that no answer has.
+// and every number that the archive hands out is the mark's before.
 mod bodies;
 mod dump;
 mod records;
@@ -8,7 +8,10 @@ mod sets;
 use misc::Wrote;
 use probe_lines::checks::is_suffix;
 
-// What the numbers begin with that a function of the archive hands out.
+// The archive's output has the length of the library's, and that is at most so long.
+const TWIN_ROOM: usize = 140_000;
+
+// What the numbers are before a function of the archive hands them out.
 pub(crate) const UNSET: usize = 0xa5a5_a5a5;
 
 // Whether the archive's answer or its output is another than the library's.
@@ -25,9 +28,8 @@ fn uint(a: &[u8]) -> bool {
     (said.refusal != refusal) | (said.value != value) | (said.next != used)
 }
 
-// Whether the archive's function for a call, if there is one, answers or writes something else than the library's. `out` and `twin`
-// have the same length.
-pub fn another(
+// The archive's function for a call, if there is one, beside the library's.
+fn asked(
     call: u8,
     event_type: u8,
     number: u64,
@@ -51,4 +53,23 @@ pub fn another(
         66 => sets::contains(a, b, c, number),
         _ => false,
     }
+}
+
+// Whether the archive's function for a call, if there is one, answers or writes something else than the library's; also where its output
+// would have no room here.
+pub fn another(
+    call: u8,
+    event_type: u8,
+    number: u64,
+    a: &[u8],
+    b: &[u8],
+    c: &[u8],
+    out: &mut [u8],
+) -> bool {
+    let mut twin = [0u8; TWIN_ROOM];
+    let len = out.len();
+    if TWIN_ROOM < len {
+        return true;
+    }
+    asked(call, event_type, number, a, b, c, out, &mut twin[..len])
 }

@@ -71,9 +71,12 @@ fn push_entries(line: &mut [u8], at: usize, body: &[u8], count: u64) -> usize {
     end
 }
 
+// No body has so many entries.
+const NO_SUCH_INDEX: u64 = 65_536;
+
 // Whether a reader that is asked on and on stops otherwise than reading the whole body does.
 fn stops_elsewhere(body: &[u8], refusal: u8, used: usize) -> bool {
-    let last = entry_number(body, u64::MAX);
+    let last = entry_number(body, NO_SUCH_INDEX);
     last.more | (last.entry.refusal != refusal) | (last.cursor.at != used)
 }
 

@@ -5,14 +5,8 @@ use borrow.Author.Needs.{needs}
 use Rattle.gtid_list.proofs.list.Statement.{statement}
 use Rattle.gtid_list.proofs.list.Tie as tie
 
-list-input-requires : tie.Need-list-input-requires
-list-input-requires c κs = search needs
-
-same-length : tie.Need-same-length
-same-length c = search needs
-
-returns : tie.Need-returns
-returns c = search needs
+text-of-requires : tie.Need-text-of-requires
+text-of-requires c κs = search needs
 
 slice-reshare-prefix-write-all : tie.Need-slice-reshare-prefix-write-all
 slice-reshare-prefix-write-all c = search needs
@@ -23,21 +17,19 @@ slice-aggregate-write-all c = sym (length-take-le _ _ (search needs))
 write-all-requires : tie.Need-write-all-requires
 write-all-requires c κs = search needs
 
-same-length-2 : tie.Need-same-length-2
-same-length-2 c = search needs
+same-length : tie.Need-same-length
+same-length c = search needs
 
-returns-2 : tie.Need-returns-2
-returns-2 c = search needs
+returns : tie.Need-returns
+returns c = search needs
 
 pub list-spec : {M : Type 1} → statement M
 list-spec =
     tie.close
     (tie.spec
-    list-input-requires
-    same-length
-    returns
+    text-of-requires
     slice-reshare-prefix-write-all
     slice-aggregate-write-all
     write-all-requires
-    same-length-2
-    returns-2)
+    same-length
+    returns)

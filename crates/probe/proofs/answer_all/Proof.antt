@@ -6,10 +6,10 @@ use Rattle.probe.proofs.answer_all.Statement.{statement}
 use Rattle.probe.proofs.answer_all.Tie as tie
 
 abbrev Inv-loop : tie.InvT-loop
-Inv-loop a₀ b₀ c₀ out₀ twin₀ line₀ turns₀ a b c out twin line turns = (length a ≡ length a₀) × (length b ≡ length b₀) × (length c ≡ length c₀) × (length out ≡ length out₀) × (length twin ≡ length twin₀) × (length line ≡ length line₀)
+Inv-loop a₀ b₀ c₀ out₀ line₀ turns₀ a b c out line turns = (length a ≡ length a₀) × (length b ≡ length b₀) × (length c ≡ length c₀) × (length out ≡ length out₀) × (length line ≡ length line₀)
 
 abbrev μ-loop : tie.MeasureT-loop
-μ-loop a₀ b₀ c₀ out₀ twin₀ line₀ turns₀ a b c out twin line turns = turns
+μ-loop a₀ b₀ c₀ out₀ line₀ turns₀ a b c out line turns = turns
 
 loop-holds : tie.Need-loop-holds Inv-loop μ-loop
 loop-holds c = search needs
@@ -41,11 +41,11 @@ same-length-4 c = search needs
 same-length-5 : tie.Need-same-length-5 Inv-loop μ-loop
 same-length-5 c = search needs
 
-same-length-6 : tie.Need-same-length-6 Inv-loop μ-loop
-same-length-6 c = search needs
-
 returns : tie.Need-returns Inv-loop μ-loop
 returns c = search needs
+
+same-length-6 : tie.Need-same-length-6 Inv-loop μ-loop
+same-length-6 c = search needs
 
 same-length-7 : tie.Need-same-length-7 Inv-loop μ-loop
 same-length-7 c = search needs
@@ -58,12 +58,6 @@ same-length-9 c = search needs
 
 same-length-10 : tie.Need-same-length-10 Inv-loop μ-loop
 same-length-10 c = search needs
-
-same-length-11 : tie.Need-same-length-11 Inv-loop μ-loop
-same-length-11 c = search needs
-
-same-length-12 : tie.Need-same-length-12 Inv-loop μ-loop
-same-length-12 c = search needs
 
 returns-2 : tie.Need-returns-2 Inv-loop μ-loop
 returns-2 c = search needs
@@ -84,12 +78,10 @@ answer-all-spec =
     same-length-3
     same-length-4
     same-length-5
-    same-length-6
     returns
+    same-length-6
     same-length-7
     same-length-8
     same-length-9
     same-length-10
-    same-length-11
-    same-length-12
     returns-2)

@@ -1,0 +1,2 @@
+-- What the program's text is.
+pub mod Program
