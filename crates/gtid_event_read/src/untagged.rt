@@ -2,10 +2,9 @@
 ghost use mathlib.Core.Path.{_≡_};
 ghost use Prim.Native.Nat.{_≤_};
 ghost use lib.ListN.{length};
-ghost use Rattle.misc.specs.Parse.{parsed};
-ghost use Rattle.gtid_event_read.specs.Untagged.{pair, timestampsAt, lengthAt, versionsAt, openingAt, clocked, clockAt, untagged};
+ghost use Rattle.gtid_event_read.specs.Untagged.{pair, timestampsAt, lengthAt, versionsAt, clocked, clockAt, untagged};
 ghost use Rattle.gtid_event_read.specs.Read.{gtidRead};
-ghost use Rattle.gtid_event_read.specs.Told.{Told, laterAt};
+ghost use Rattle.gtid_event_read.specs.Told.{Told, openedIn, laterAt};
 use crate::GtidRead;
 use gtid_event::GtidEvent;
 use gtid_event::LOGICAL_TIMESTAMP_TYPECODE;
@@ -49,7 +48,7 @@ pub(crate) struct Versions {
 // Flags, uuid and gno; all else absent.
 fn read_opening(s: &[u8]) -> GtidEvent
     requires { ⌜ 25 ≤ length (now s) ⌝ }
-    ensures { λ r. ⌜ openingAt (now (s .entry)) 0 ≡ parsed r 25 ⌝ }
+    ensures { λ r. ⌜ r ≡ openedIn (now (s .entry)) ⌝ }
 {
     let sid = uuid_bytes(&s[1..17]);
     let gno = read_u64_le(s, 17);
@@ -157,15 +156,11 @@ fn clocked(
     event
 }
 
-// The parts after the sequence number, each there as far as the body reaches.
-fn read_later(
-    s: &[u8],
-    event: GtidEvent,
-    last_committed: u64,
-    sequence_number: u64,
-    at: usize,
-) -> GtidRead
-    ensures { λ r. ⌜ r ≡ gtidRead (laterAt (now (s .entry)) event «last_committed» «sequence_number» at) ⌝ }
+// The parts after the sequence number, each there as far as the body reaches. Flags, uuid and gno are read last, where the record is put
+// together: it isn't carried along.
+fn read_later(s: &[u8], last_committed: u64, sequence_number: u64, at: usize) -> GtidRead
+    requires { ⌜ 25 ≤ length (now s) ⌝ }
+    ensures { λ r. ⌜ r ≡ gtidRead (laterAt (now (s .entry)) (openedIn (now (s .entry))) «last_committed» «sequence_number» at) ⌝ }
 {
     let timestamps = read_timestamps(s, at);
     if timestamps.refusal != 0 {
@@ -183,7 +178,7 @@ fn read_later(
         refusal: 0,
         used: versions.next,
         event: clocked(
-            event,
+            read_opening(s),
             last_committed,
             sequence_number,
             timestamps,
@@ -194,8 +189,9 @@ fn read_later(
 }
 
 // What follows the typecode.
-fn read_clock(s: &[u8], event: GtidEvent, at: usize) -> GtidRead
-    ensures { λ r. ⌜ r ≡ gtidRead (clockAt (now (s .entry)) event at) ⌝ }
+fn read_clock(s: &[u8], at: usize) -> GtidRead
+    requires { ⌜ 25 ≤ length (now s) ⌝ }
+    ensures { λ r. ⌜ r ≡ gtidRead (clockAt (now (s .entry)) (openedIn (now (s .entry))) at) ⌝ }
 {
     let last_committed = read_u64_le(s, at);
     if last_committed.refusal != 0 {
@@ -207,7 +203,6 @@ fn read_clock(s: &[u8], event: GtidEvent, at: usize) -> GtidRead
     }
     read_later(
         s,
-        event,
         last_committed.value,
         sequence_number.value,
         sequence_number.next,
@@ -221,15 +216,14 @@ pub(crate) fn deserialize_untagged(s: &[u8]) -> GtidRead
     if s.len() < OPENING_LENGTH {
         return GtidRead::refused(ENDED);
     }
-    let event = read_opening(s);
     if OPENING_LENGTH < s.len() {
         if s[OPENING_LENGTH] == LOGICAL_TIMESTAMP_TYPECODE {
-            return read_clock(s, event, OPENING_LENGTH + 1);
+            return read_clock(s, OPENING_LENGTH + 1);
         }
     }
     GtidRead {
         refusal: 0,
         used: OPENING_LENGTH,
-        event,
+        event: read_opening(s),
     }
 }

@@ -1,6 +1,6 @@
 -- What it says of a record that it can be written.
 use mathlib.Core.Path.{_≡_, refl, sym, ap, _∙_}
-use mathlib.Core.Bool.{true, false, _&&_, _||_}
+use mathlib.Core.Bool.{Bool, true, false, _&&_, _||_, and-comm}
 use mathlib.Core.List.{List, [], _∷_}
 use Prim.Native.Nat.{ℕ, zero, suc, _+_, _^_, _≤_, _<_}
 use native.Mathlib.Numerals.{add-one}
@@ -8,7 +8,7 @@ use native.Mathlib.Omega.{arith}
 use lib.ListN.{length, getD, take, drop, drop-of-length-le}
 use lib.Seq.{drop-cons, drop-drop}
 use lib.Dec.{eqb}
-use borrow.Author.Tests.{leb-true, ltb-true, eqb-true, eq-eqb, ne-eqb}
+use borrow.Author.Tests.{leb-true, ltb-true, lt-ltb, le-ltb, eqb-true, eq-eqb, ne-eqb}
 use Rattle.misc.specs.Pick.{pick}
 use Rattle.misc.specs.Parse.{Parse, part, uintRead}
 use Rattle.misc.specs.Le.{leOf, leAt}
@@ -17,7 +17,7 @@ use Rattle.packets.specs.Tag.{isTag}
 use Rattle.packets.proofs.Tests.{and-true}
 use Rattle.gtid_event.specs.Event.{tagged}
 use Rattle.gtid_event.specs.declared.GtidEvent.{GtidEvent}
-use Rattle.gtid_event_write.specs.Writable.{signedTop, allZero, tagOf, laterAbsent, writable, writableTagged, writableUntagged}
+use Rattle.gtid_event_write.specs.Writable.{signedTop, allZero, tagOf, laterAbsent, keptBeyond, writable, writableTagged, writableUntagged}
 
 -- ---- zeros beyond a place
 
@@ -52,6 +52,18 @@ unfolding allZero
 zeros-end s i h = rw (drop-of-length-le s {i = i} h)
 
 -- ---- a writable record
+
+-- the two ways to judge it
+module _ (e : GtidEvent) (fine kept : Bool) where
+  pub judged-tagged : 0 < e .«tag_len» → fine ≡ writableTagged e → kept ≡ keptBeyond (e .«tag_len») e → fine && kept ≡ writable e
+  unfolding writable
+  judged-tagged h p q = rw (p, q, lt-ltb 0 (e .«tag_len») h) (and-comm (writableTagged e) (keptBeyond (e .«tag_len») e))
+
+  pub judged-untagged : e .«tag_len» ≤ 0 → fine ≡ writableUntagged e → kept ≡ keptBeyond 0 e → fine && kept ≡ writable e
+  unfolding writable
+  judged-untagged h p q =
+      let none : e .«tag_len» ≡ 0 = omega arith in
+      rw (p, q, le-ltb 0 (e .«tag_len») h, none) (and-comm (writableUntagged e) (keptBeyond 0 e))
 
 pub record TaggedFits (e : GtidEvent) : Type 0 where
   pub tag : e .«tag_len» ≤ 32

@@ -44,6 +44,10 @@ writableUntagged e =
     && ltb (e .«immediate_server_version») (2 ^ 31)
     && (eqb (e .«lc_typecode») 2 || laterAbsent e)
 
+-- typecode 2 or none, and zeros in the tag's field beyond n bytes
+abbrev pub keptBeyond : ℕ → GtidEvent → Bool
+keptBeyond n e = (eqb (e .«lc_typecode») 2 || eqb (e .«lc_typecode») 0) && allZero (drop n (e .tag))
+
 -- typecode 2 or none, tag bytes beyond the tag zero
 unfoldable pub writable : GtidEvent → Bool
 writable e =

@@ -2,9 +2,9 @@
 ghost use mathlib.Core.Path.{_≡_};
 ghost use mathlib.Core.Bool.{_&&_};
 ghost use lib.Dec.{leb};
-ghost use lib.ListN.{take, drop};
+ghost use lib.ListN.{length, take, drop};
 ghost use Rattle.packets.specs.Tag.{isTag};
-ghost use Rattle.gtid_event_write.specs.Writable.{allZero, writable, writableTagged, writableUntagged, laterAbsent};
+ghost use Rattle.gtid_event_write.specs.Writable.{allZero, keptBeyond, writable, writableTagged, writableUntagged, laterAbsent};
 use gtid_event::GtidEvent;
 use gtid_event::LOGICAL_TIMESTAMP_TYPECODE;
 use gtid_event::UNDEFINED_SERVER_VERSION;
@@ -23,12 +23,13 @@ const VERSION_FLAG: u32 = 1 << 31;
 const TIMESTAMP_TOP: u64 = 1 << 56;
 
 // The place behind all whole words of eight bytes, from a place on, that are zero.
-fn past_zero_words(tag: [u8; 32], from: usize) -> usize
-    ensures { λ r. ⌜ allZero (drop from tag) ≡ allZero (drop r tag) ⌝ }
+fn past_zero_words(tag: &[u8], from: usize) -> usize
+    requires { ⌜ length (now tag) ≡ 32 ⌝ }
+    ensures { λ r. ⌜ allZero (drop from (now (tag .entry))) ≡ allZero (drop r (now (tag .entry))) ⌝ }
 {
     let mut at = from;
     while at <= 24 {
-        if read_u64_le(&tag, at).value != 0 {
+        if read_u64_le(tag, at).value != 0 {
             return at;
         }
         at += 8;
@@ -37,8 +38,9 @@ fn past_zero_words(tag: [u8; 32], from: usize) -> usize
 }
 
 // Whether the tag's bytes beyond its length are zero.
-fn cleared_beyond(tag: [u8; 32], tag_len: u8) -> bool
-    ensures { λ r. ⌜ r ≡ allZero (drop «tag_len» tag) ⌝ }
+fn cleared_beyond(tag: &[u8], tag_len: u8) -> bool
+    requires { ⌜ length (now tag) ≡ 32 ⌝ }
+    ensures { λ r. ⌜ r ≡ allZero (drop «tag_len» (now (tag .entry))) ⌝ }
 {
     let mut i = past_zero_words(tag, tag_len as usize);
     while i < 32 {
@@ -94,15 +96,22 @@ fn is_writable_untagged(event: GtidEvent) -> bool
         & ((event.lc_typecode == LOGICAL_TIMESTAMP_TYPECODE) | is_later_absent(event))
 }
 
-// Whether the record comes back equal from the bytes that it is written as.
+// Whether the typecode is 2 or none, and the tag's field is zero beyond so many bytes.
+fn is_kept(event: GtidEvent, tag_len: u8) -> bool
+    ensures { λ r. ⌜ r ≡ keptBeyond «tag_len» event ⌝ }
+{
+    let tag = event.tag;
+    ((event.lc_typecode == LOGICAL_TIMESTAMP_TYPECODE) | (event.lc_typecode == 0))
+        & cleared_beyond(&tag, tag_len)
+}
+
+// Whether the record comes back equal from the bytes that it is written as. Without a tag its length is given as a plain 0: the
+// compiler then lays the walks over its field out.
 pub fn is_writable(event: GtidEvent) -> bool
     ensures { λ r. ⌜ r ≡ writable event ⌝ }
 {
-    let tag = event.tag;
-    let kept = ((event.lc_typecode == LOGICAL_TIMESTAMP_TYPECODE) | (event.lc_typecode == 0))
-        & cleared_beyond(tag, event.tag_len);
     if 0 < event.tag_len {
-        return kept & is_writable_tagged(event);
+        return is_writable_tagged(event) & is_kept(event, event.tag_len);
     }
-    kept & is_writable_untagged(event)
+    is_writable_untagged(event) & is_kept(event, 0)
 }

@@ -3,7 +3,6 @@ use Prim.Native.Nat.{ℕ, zero, suc, _+_, _-_, _*_, _^_, _<_, _≤_}
 use mathlib.Core.Path.{_≡_, refl, sym, ap, _∙_}
 use mathlib.Core.Bool.{Bool, true, false, not, _&&_, _||_, or-comm}
 use mathlib.Core.List.{List, [], _∷_, _++_, append-assoc, append-nil}
-use native.Mathlib.Nat.{suc-sub-suc}
 use native.Mathlib.Omega.{arith}
 use borrow.Author.Tests.{le-ltb, ltb-false}
 use lib.Dec.{ltb}
@@ -40,6 +39,7 @@ use Rattle.resume_set.specs.declared.Found.{Found}
 use Rattle.resume_set.specs.declared.Splice.{Splice}
 use Rattle.resume_set.specs.declared.Plan.{Plan}
 use Rattle.resume_set.proofs.FindLaws.{intervals-append}
+use Rattle.resume_set.proofs.WalkLaws.{drop-intervals}
 
 -- ---- a splice at a place
 
@@ -48,16 +48,6 @@ take-intervals zero n bs at h = refl
 take-intervals (suc e) zero bs at h = absurd (omega arith)
 take-intervals (suc e) (suc n) bs at h =
     ap (λ (is : List Interval). interval (numberAt bs at) (numberAt bs (at + 8)) ∷ is) (take-intervals e n bs (at + 16) (omega arith))
-
-drop-intervals : (e n at : ℕ) (bs : List ℕ) → e ≤ n → drop e (intervalsAt n bs at) ≡ intervalsAt (n - e) bs (at + 16 * e)
-drop-intervals zero n at bs h =
-    let z : n - 0 ≡ n = omega arith in
-    let y : at + 16 * 0 ≡ at = omega arith in
-    rw (z, y)
-drop-intervals (suc e) zero at bs h = absurd (omega arith)
-drop-intervals (suc e) (suc n) at bs h =
-    let y : at + 16 * suc e ≡ at + 16 + 16 * e = omega arith in
-    rw (suc-sub-suc n e, y) (drop-intervals e n (at + 16) bs (omega arith))
 
 intervals-part : (bs : List ℕ) → Bytes bs → (n at : ℕ) → at + 16 * n ≤ length bs → intervalsBytes (intervalsAt n bs at) ≡ part bs at (16 * n)
 intervals-part bs ok n at h =
@@ -98,6 +88,7 @@ module _ (bs : List ℕ) (ok : Bytes bs) (first count a b : ℕ) (there : first 
       intervals-part bs ok (count - before - taken) (first + 16 * (before + taken)) (omega arith),
     )
         (simp append-assoc);
+    before-is = p;
     count-is = rw (
       inserted,
       length-append (intervalsAt before bs first) (interval start end ∷ rest),
@@ -331,4 +322,6 @@ module _ (bs : List ℕ) (w : Bool) (n : ℕ) (lent : IsSet bs w n) (u t : List 
       entries-is = e₂ ∙ sym after-length;
       intervals-is = sym (rw (is .joins a b, intervals-append (is .front) (entry (u ++ t) new ∷ is .back), si .count-is) (omega (arith, is .total, e₃, si .inside)));
       member = is .member;
+      gapped = is .gapped;
+      before-is = si .before-is;
     }

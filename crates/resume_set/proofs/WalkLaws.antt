@@ -1,35 +1,57 @@
 -- Intervals at a place, one after another: what the walks over them need.
-use Prim.Native.Nat.{ℕ, _+_, _-_, _*_, _<_, _≤_, min, max}
-use mathlib.Core.Path.{_≡_, sym, ap, _∙_}
-use mathlib.Core.Bool.{true, false, _&&_, _||_}
-use mathlib.Core.List.{List, _∷_}
+use Prim.Native.Nat.{ℕ, zero, suc, _+_, _-_, _*_, _<_, _≤_, min, max}
+use mathlib.Core.Path.{_≡_, refl, sym, _∙_}
+use mathlib.Core.Bool.{Bool, false, _&&_, or-false}
+use mathlib.Core.List.{List, [], _∷_}
+use native.Mathlib.Nat.{suc-sub-suc}
 use native.Mathlib.Omega.{arith}
 use borrow.Author.Tests.{lt-ltb, le-ltb}
 use lib.Dec.{ltb, leb}
+use lib.ListN.{drop}
 use Rattle.packets.specs.Gno.{Interval, interval}
-use Rattle.gtid_sets.specs.Interval.{covers}
+use Rattle.packets.proofs.Tests.{split, tests}
+use Rattle.gtid_sets.specs.Interval.{within, covers, Gapped}
 use Rattle.gtid_sets.specs.Splice.{earlier, takenUp, reach, from}
+use Rattle.gtid_sets.proofs.IntervalLaws.{outside, gapped-misses}
 use Rattle.set_check.specs.Places.{numberAt, intervalsAt}
 use Rattle.set_check.proofs.GappedWalk.{intervals-more}
 
 -- ---- whether a number is held
 
-pub record StillCovers (bs : List ℕ) (first count n at left : ℕ) : Type 0 where
-  pub same : covers (intervalsAt count bs first) n ≡ covers (intervalsAt left bs at) n
+pub drop-intervals : (e n at : ℕ) (bs : List ℕ) → e ≤ n → drop e (intervalsAt n bs at) ≡ intervalsAt (n - e) bs (at + 16 * e)
+drop-intervals zero n at bs h =
+    let z : n - 0 ≡ n = omega arith in
+    let y : at + 16 * 0 ≡ at = omega arith in
+    rw (z, y)
+drop-intervals (suc e) zero at bs h = absurd (omega arith)
+drop-intervals (suc e) (suc n) at bs h =
+    let y : at + 16 * suc e ≡ at + 16 + 16 * e = omega arith in
+    rw (suc-sub-suc n e, y) (drop-intervals e n (at + 16) bs (omega arith))
 
-module _ (bs : List ℕ) (first count n at left : ℕ) (g : StillCovers bs first count n at left) where
-  pub covers-none : left ≡ 0 → false ≡ covers (intervalsAt count bs first) n
-  covers-none e = sym (g .same ∙ rw e)
+-- whether the first interval, if there is one, holds n
+abbrev held : List Interval → ℕ → Bool
+held [] n = false
+held (interval start end ∷ is) n = within start end n
 
-  module _ (some : 0 < left) (start end : ℕ) (p : start ≡ numberAt bs at) (q : end ≡ numberAt bs (at + 8)) where
-    next-covers : covers (intervalsAt count bs first) n ≡ (leb start n && ltb n end) || covers (intervalsAt (left - 1) bs (at + 16)) n
-    next-covers = g .same ∙ ap (λ (is : List Interval). covers is n) (intervals-more bs at left some) ∙ rw (p, q)
+-- those that end before n don't hold it, and those after the next one begin above it
+covers-held : (low n : ℕ) (is : List Interval) → Gapped low is → covers is n ≡ held (drop (earlier n is) is) n
+covers-held low n [] g = refl
+covers-held low n (interval s e ∷ is) g = split (ltb e n)
+    (λ k. rw (k, outside s e n (omega tests)) (covers-held e n is (g .3)))
+    (λ k. rw (k, gapped-misses e is n (g .3) (omega tests)) (or-false (within s e n)))
 
-    pub covers-found : leb start n && ltb n end ≡ true → true ≡ covers (intervalsAt count bs first) n
-    covers-found h = sym (next-covers ∙ rw h)
+module _ (bs : List ℕ) (first count n before : ℕ) (g : Gapped 0 (intervalsAt count bs first)) (p : before ≡ earlier n (intervalsAt count bs first))
+    (few : before ≤ count) where
+  covers-next : covers (intervalsAt count bs first) n ≡ held (intervalsAt (count - before) bs (first + 16 * before)) n
+  covers-next = covers-held 0 n (intervalsAt count bs first) g ∙ rw (← p, drop-intervals before count first bs few)
 
-    pub covers-turn : leb start n && ltb n end ≡ false → StillCovers bs first count n (at + 16) (left - 1)
-    covers-turn h = record { same = next-covers ∙ rw h }
+  pub covers-none : before ≡ count → false ≡ covers (intervalsAt count bs first) n
+  covers-none e = let z : count - before ≡ 0 = omega arith in sym (covers-next ∙ rw z)
+
+  pub covers-one : (before ≡ count → ⊥) → (start end : ℕ) → start ≡ numberAt bs (first + 16 * before) → end ≡ numberAt bs (first + 16 * before + 8)
+      → (leb start n && ltb n end) ≡ covers (intervalsAt count bs first) n
+  covers-one some start end x y =
+      sym (covers-next ∙ rw (intervals-more bs (first + 16 * before) (count - before) (omega arith), x, y))
 
 -- ---- how many end before a number
 

@@ -5,8 +5,9 @@ use mathlib.Core.Bool.{Bool, true, false}
 use mathlib.Core.List.{List, _++_}
 use lib.ListN.{length}
 use Rattle.previous_gtids_event.specs.Rewrite.{intervalsBytes, anyTag, headerBytes, bodyBytes}
-use Rattle.gtid_sets.specs.Interval.{covers, insert}
+use Rattle.gtid_sets.specs.Interval.{covers, Gapped, insert}
 use Rattle.gtid_sets.specs.Set.{has, join}
+use Rattle.gtid_sets.specs.Splice.{earlier}
 use Rattle.gtid_sets.specs.Limits.{intervals}
 use Rattle.set_check.specs.Places.{intervalsAt}
 use Rattle.resume_set.specs.Find.{setOf, old}
@@ -21,6 +22,7 @@ extra false n = 0
 
 pub record SpliceIs (bs : List ℕ) (first count a b : ℕ) (r : Splice) : Type 0 where
   pub inside : r .before + r .taken ≤ count
+  pub before-is : r .before ≡ earlier a (intervalsAt count bs first)
   pub bytes : intervalsBytes (insert a b (intervalsAt count bs first)) ≡ splicedRun bs first count (r .before) (r .taken) (r .start) (r .end)
   pub count-is : length (insert a b (intervalsAt count bs first)) ≡ count - r .taken + 1
 
@@ -49,3 +51,5 @@ pub record PlanIs (bs : List ℕ) (u t : List ℕ) (a b : ℕ) (r : Plan) : Type
   pub entries-is : r .entries ≡ length (join (u ++ t) a b (setOf bs))
   pub intervals-is : r .intervals ≡ intervals (join (u ++ t) a b (setOf bs))
   pub member : (m : ℕ) → has (setOf bs) (u ++ t) m ≡ covers (old bs (r .found)) m
+  pub gapped : Gapped 0 (old bs (r .found))
+  pub before-is : r .splice .before ≡ earlier a (old bs (r .found))

@@ -10,27 +10,8 @@ ghost use Rattle.gtid_sets.specs.Splice.{earlier, takenUp, reach, from};
 ghost use Rattle.set_check.specs.Places.{intervalsAt};
 ghost use Rattle.resume_set.specs.Join.{SpliceIs};
 
-// Whether an interval at a place holds a number.
-pub(crate) fn covers_at(set: &[u8], first: usize, count: usize, n: u64) -> bool
-    requires { ⌜ first + 16 * count ≤ length (now set) ⌝ }
-    ensures { λ r. ⌜ r ≡ covers (intervalsAt count (now (set .entry)) first) n ⌝ }
-{
-    let mut at = first;
-    let mut left = count;
-    while 0 < left {
-        let start = number_at(set, at);
-        let end = number_at(set, at + 8);
-        if (start <= n) & (n < end) {
-            return true;
-        }
-        at += 16;
-        left -= 1;
-    }
-    false
-}
-
 // How many first intervals at a place end before a number.
-fn earlier_at(set: &[u8], first: usize, count: usize, a: u64) -> usize
+pub(crate) fn earlier_at(set: &[u8], first: usize, count: usize, a: u64) -> usize
     requires { ⌜ first + 16 * count ≤ length (now set) ⌝ }
     ensures { λ r. ⌜ (r ≡ earlier a (intervalsAt count (now (set .entry)) first)) × (r ≤ count) ⌝ }
 {
@@ -45,6 +26,22 @@ fn earlier_at(set: &[u8], first: usize, count: usize, a: u64) -> usize
         i += 1;
     }
     i
+}
+
+// Whether the intervals at a place hold a number that so many of them end before: only the next one can.
+pub(crate) fn covers_at(set: &[u8], first: usize, count: usize, before: usize, n: u64) -> bool
+    requires { ⌜ first + 16 * count ≤ length (now set) ⌝ }
+    requires { ⌜ Gapped 0 (intervalsAt count (now set) first) ⌝ }
+    requires { ⌜ (before ≡ earlier n (intervalsAt count (now set) first)) × (before ≤ count) ⌝ }
+    ensures { λ r. ⌜ r ≡ covers (intervalsAt count (now (set .entry)) first) n ⌝ }
+{
+    if before == count {
+        return false;
+    }
+    let at = first + 16 * before;
+    let start = number_at(set, at);
+    let end = number_at(set, at + 8);
+    (start <= n) & (n < end)
 }
 
 // The start of an interval that takes up those at a place.

@@ -148,9 +148,10 @@ pub fn contains(set: &[u8], uuid: &[u8], tag: &[u8], gno: u64) -> Contained
         };
     }
     let found = find(set, checked.tagged, checked.entries, uuid, tag);
+    let before = intervals::earlier_at(set, found.first, found.count, gno);
     Contained {
         refusal: 0,
-        present: intervals::covers_at(set, found.first, found.count, gno),
+        present: intervals::covers_at(set, found.first, found.count, before, gno),
     }
 }
 
@@ -198,7 +199,13 @@ fn offer_id(
         gno,
         gno + 1,
     );
-    let present = intervals::covers_at(set, plan.found.first, plan.found.count, gno);
+    let present = intervals::covers_at(
+        set,
+        plan.found.first,
+        plan.found.count,
+        plan.splice.before,
+        gno,
+    );
     if present {
         let copied = write_bytes(set, out);
         return accepted(Kind::AlreadyThere, copied);

@@ -41,13 +41,16 @@ returns-3 c =
 find-requires : tie.Need-find-requires
 find-requires c κs = (fits (c .before .before .before .before) .set, c .before .before .before .if2 .left)
 
+earlier-at-requires : tie.Need-earlier-at-requires
+earlier-at-requires c κs = let f = c .find .ensures in omega (arith, f .end, f .inside)
+
 covers-at-requires : tie.Need-covers-at-requires
-covers-at-requires c κs = let f = c .find .ensures in omega (arith, f .end, f .inside)
+covers-at-requires c κs = let f = c .before .find .ensures in (omega (arith, f .end, f .inside), (f .gapped, c .earlier-at .ensures))
 
 returns-4 : tie.Need-returns-4
 returns-4 c =
-    let a = c .before .before .before .before .before .before .before .before .before .before .before .args in
-    is-asked (now (a .set)) (now (a .uuid)) (now (a .tag)) (a .gno) (fits (c .before .before .before .before .before .before) .lent) (c .before .before .before .before .before .if2 .left) _ _ (c .before .before .before .before .none-or-tag .ensures) (c .before .before .before .is-gno .ensures) (c .covers-at .result) (not-false _ (c .before .before .if3 .left)) (c .covers-at .ensures ∙ sym (c .before .find .ensures .member (a .gno)))
+    let a = c .before .before .before .before .before .before .before .before .before .before .before .before .args in
+    is-asked (now (a .set)) (now (a .uuid)) (now (a .tag)) (a .gno) (fits (c .before .before .before .before .before .before .before) .lent) (c .before .before .before .before .before .before .if2 .left) _ _ (c .before .before .before .before .before .none-or-tag .ensures) (c .before .before .before .before .is-gno .ensures) (c .covers-at .result) (not-false _ (c .before .before .before .if3 .left)) (c .covers-at .ensures ∙ sym (c .before .before .find .ensures .member (a .gno)))
 
 pub contains-spec : {M : Type 1} → statement M
 contains-spec =
@@ -60,5 +63,6 @@ contains-spec =
     is-gno-requires
     returns-3
     find-requires
+    earlier-at-requires
     covers-at-requires
     returns-4)

@@ -28,7 +28,9 @@ plan-join-requires : tie.Need-plan-join-requires
 plan-join-requires c κs = let p = c .before .before .before .before .before .before .pre in (p .0 .set, (p .0 .total, (p .1, omega arith)))
 
 covers-at-requires : tie.Need-covers-at-requires
-covers-at-requires c κs = c .plan-join .ensures .runs .splice-there
+covers-at-requires c κs =
+    let p = c .plan-join .ensures in
+    (p .runs .splice-there, (p .gapped, (p .before-is, omega (arith, p .runs .splice-inside))))
 
 write-bytes-requires : tie.Need-write-bytes-requires
 write-bytes-requires c κs = search needs

@@ -1,9 +1,13 @@
 -- `gtid_event_read::untagged::deserialize_untagged` meets its contract.
 -- Assumes nothing.
-use mathlib.Core.Path.{sym, ap, _∙_}
+use mathlib.Core.Path.{_≡_, sym, ap, _∙_}
+use mathlib.Core.Logic.{⊎-elim}
 use borrow.Author.Needs.{needs}
+use Rattle.misc.specs.Parse.{parsed}
 use Rattle.gtid_event_read.specs.Read.{gtidRead}
-use Rattle.gtid_event_read.proofs.UntaggedLaws.{untagged-gone, untagged-clock, untagged-other, untagged-end}
+use Rattle.gtid_event_read.specs.Untagged.{openingAt, untagged}
+use Rattle.gtid_event_read.specs.Told.{openedIn}
+use Rattle.gtid_event_read.proofs.UntaggedLaws.{opening-here, untagged-gone, untagged-clock, untagged-other, untagged-end}
 use Rattle.gtid_event_read.proofs.untagged.deserialize_untagged.Statement.{statement}
 use Rattle.gtid_event_read.proofs.untagged.deserialize_untagged.Tie as tie
 
@@ -12,9 +16,6 @@ refused-requires c κs = search needs
 
 returns : tie.Need-returns
 returns c = c .refused .ensures ∙ ap gtidRead (sym (untagged-gone _ (c .before .if1 .taken)))
-
-read-opening-requires : tie.Need-read-opening-requires
-read-opening-requires c κs = search needs
 
 shared-slice-read-if3 : tie.Need-shared-slice-read-if3
 shared-slice-read-if3 c = search needs
@@ -26,13 +27,18 @@ read-clock-requires : tie.Need-read-clock-requires
 read-clock-requires c κs = search needs
 
 returns-2 : tie.Need-returns-2
-returns-2 c = c .read-clock .ensures ∙ ap gtidRead (sym (untagged-clock _ (c .before .before .before .before .read-opening .ensures) (c .before .before .before .if2 .taken) (c .before .if3 .taken)))
+returns-2 c = c .read-clock .ensures ∙ ap gtidRead (sym (untagged-clock _ (opening-here _ (c .before .before .before .before .if1 .left)) (c .before .before .before .if2 .taken) (c .before .if3 .taken)))
+
+read-opening-requires : tie.Need-read-opening-requires
+read-opening-requires c κs = search needs
 
 returns-3 : tie.Need-returns-3
-returns-3 c = ap gtidRead (sym (untagged-other _ (c .before .before .before .read-opening .ensures) (c .before .before .if2 .taken) (c .if3 .left)))
-
-returns-4 : tie.Need-returns-4
-returns-4 c = ap gtidRead (sym (untagged-end _ (c .before .read-opening .ensures) (c .if2 .left)))
+returns-3 c =
+    let s = c .before .before .before .before .args .s .now in
+    let opening : openingAt s 0 ≡ parsed (openedIn s) 25 = opening-here s (c .before .before .if1 .left) in
+    let other : untagged s ≡ parsed (openedIn s) 25 =
+    ⊎-elim (λ w. let (there, _, not) = w in untagged-other s opening (there .taken) (not .left)) (λ w. untagged-end s opening (w .left)) (c .before .if2 .came) in
+    rw (c .read-opening .ensures, other)
 
 pub deserialize-untagged-spec : {M : Type 1} → statement M
 deserialize-untagged-spec =
@@ -40,10 +46,9 @@ deserialize-untagged-spec =
     (tie.spec
     refused-requires
     returns
-    read-opening-requires
     shared-slice-read-if3
     add-read-clock
     read-clock-requires
     returns-2
-    returns-3
-    returns-4)
+    read-opening-requires
+    returns-3)

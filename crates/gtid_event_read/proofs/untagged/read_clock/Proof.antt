@@ -5,6 +5,7 @@ use borrow.Author.Needs.{needs}
 use Rattle.misc.specs.Le.{leAt}
 use Rattle.gtid_event_read.specs.Read.{gtidRead}
 use Rattle.gtid_event_read.specs.Untagged.{clockAt}
+use Rattle.gtid_event_read.specs.Told.{openedIn}
 use Rattle.gtid_event_read.proofs.UntaggedLaws.{clock-later}
 use Rattle.gtid_event_read.proofs.Telling.{uint, goes, stops, refused-so}
 use Rattle.gtid_event_read.proofs.untagged.read_clock.Statement.{statement}
@@ -47,7 +48,7 @@ returns-3 c =
     let a = c .before .before .before .before .before .before .before .before .args in
     let last = c .before .before .before .before .before .before .read-u64-le in
     c .read-later .ensures
-    ∙ ap gtidRead (sym (clock-later (a .s .now) (a .event) (a .at)
+    ∙ ap gtidRead (sym (clock-later (a .s .now) (openedIn (a .s .now)) (a .at)
     (uint (leAt 8 (a .s .now) (a .at)) (last .ensures) .found (c .before .before .before .before .if1 .left))
     (uint (leAt 8 (a .s .now) (last .result .next)) (c .before .before .before .read-u64-le2 .ensures) .found (c .before .if2 .left))))
 

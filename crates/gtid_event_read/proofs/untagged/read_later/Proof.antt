@@ -44,17 +44,20 @@ returns-3 c =
     (stops-mapped (c .before .before .before .read-versions .ensures) (c .before .if3 .taken) _)))
     (c .before .if3 .taken)
 
+read-opening-requires : tie.Need-read-opening-requires
+read-opening-requires c κs = search needs
+
 clocked-requires : tie.Need-clocked-requires
 clocked-requires c κs = search needs
 
 returns-4 : tie.Need-returns-4
 returns-4 c =
-    rw (c .clocked .ensures)
+    rw (c .clocked .ensures, c .before .read-opening .ensures)
     (read-so
-    (goes (c .before .before .before .before .before .before .before .before .before .read-timestamps .ensures) (c .before .before .before .before .before .before .before .if1 .left) _
-    (goes (c .before .before .before .before .before .before .read-tx-length .ensures) (c .before .before .before .before .if2 .left) _
-    (maps (c .before .before .before .read-versions .ensures) _)))
-    (c .before .if3 .left))
+    (goes (c .before .before .before .before .before .before .before .before .before .before .read-timestamps .ensures) (c .before .before .before .before .before .before .before .before .if1 .left) _
+    (goes (c .before .before .before .before .before .before .before .read-tx-length .ensures) (c .before .before .before .before .before .if2 .left) _
+    (maps (c .before .before .before .before .read-versions .ensures) _)))
+    (c .before .before .if3 .left))
 
 pub read-later-spec : {M : Type 1} → statement M
 read-later-spec =
@@ -69,5 +72,6 @@ read-later-spec =
     read-versions-requires
     refused-requires-3
     returns-3
+    read-opening-requires
     clocked-requires
     returns-4)

@@ -4,7 +4,7 @@ use mathlib.Core.Path.{_≡_, _∙_}
 use borrow.Author.Needs.{needs}
 use Rattle.misc.specs.Le.{leOf}
 use Rattle.misc.specs.Parse.{part}
-use Rattle.gtid_event_read.proofs.UntaggedLaws.{opening-here, gno-here, uuid-here}
+use Rattle.gtid_event_read.proofs.UntaggedLaws.{gno-here, uuid-here}
 use Rattle.gtid_event_read.proofs.untagged.read_opening.Statement.{statement}
 use Rattle.gtid_event_read.proofs.untagged.read_opening.Tie as tie
 
@@ -35,7 +35,7 @@ returns c =
     let h = c .before .before .before .before .before .before .pre in
     let sid : c .before .before .before .uuid-bytes .result ≡ part s 1 16 = c .before .before .before .uuid-bytes .ensures ∙ uuid-here s h in
     let gno : c .before .before .read-u64-le .result .value ≡ leOf (part s 17 8) = gno-here s h (c .before .before .read-u64-le .ensures) in
-    rw (c .before .new .ensures, sid, gno) (opening-here s h)
+    rw (c .before .new .ensures, sid, gno)
 
 pub read-opening-spec : {M : Type 1} → statement M
 read-opening-spec =

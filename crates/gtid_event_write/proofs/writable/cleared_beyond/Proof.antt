@@ -9,10 +9,10 @@ use Rattle.gtid_event_write.proofs.writable.cleared_beyond.Statement.{s
 use Rattle.gtid_event_write.proofs.writable.cleared_beyond.Tie as tie
 
 abbrev Inv-loop : tie.InvT-loop
-Inv-loop tag-len tag i₀ i = allZero (drop i tag) ≡ allZero (drop i₀ tag)
+Inv-loop tag tag-len i₀ i = allZero (drop i tag) ≡ allZero (drop i₀ tag)
 
 abbrev μ-loop : tie.MeasureT-loop
-μ-loop tag-len tag i₀ i = 32 - i
+μ-loop tag tag-len i₀ i = 32 - i
 
 past-zero-words-requires : tie.Need-past-zero-words-requires Inv-loop μ-loop
 past-zero-words-requires c κs = search needs
@@ -20,13 +20,13 @@ past-zero-words-requires c κs = search needs
 loop-holds : tie.Need-loop-holds Inv-loop μ-loop
 loop-holds c = search needs
 
-array-read-if1 : tie.Need-array-read-if1 Inv-loop μ-loop
-array-read-if1 c = search needs
+shared-slice-read-if1 : tie.Need-shared-slice-read-if1 Inv-loop μ-loop
+shared-slice-read-if1 c = search needs
 
 returns : tie.Need-returns Inv-loop μ-loop
 returns c =
-    let w = c .before .before .loop in
-    zero-missed _ (w .i) (search needs) (c .if1 .taken) ∙ w .inv ∙ sym (c .before .before .before .past-zero-words .ensures)
+    let w = c .before .before .before .loop in
+    zero-missed _ (w .i) (search needs) (c .if1 .taken) ∙ w .inv ∙ sym (c .before .before .before .before .past-zero-words .ensures)
 
 add-i : tie.Need-add-i Inv-loop μ-loop
 add-i c = search needs
@@ -36,7 +36,7 @@ loop-less c = search needs
 
 loop-again : tie.Need-loop-again Inv-loop μ-loop
 loop-again c =
-    let w = c .before .before .loop in
+    let w = c .before .before .before .loop in
     zero-passed _ (w .i) (search needs) (c .if1 .left) ∙ w .inv
 
 returns-2 : tie.Need-returns-2 Inv-loop μ-loop
@@ -52,7 +52,7 @@ cleared-beyond-spec =
     μ-loop
     past-zero-words-requires
     loop-holds
-    array-read-if1
+    shared-slice-read-if1
     returns
     add-i
     loop-less

@@ -11,22 +11,19 @@ use Rattle.gtid_event_write.proofs.writable.past_zero_words.Statement.{
 use Rattle.gtid_event_write.proofs.writable.past_zero_words.Tie as tie
 
 abbrev Inv-loop : tie.InvT-loop
-Inv-loop from tag at₀ at = allZero (drop at tag) ≡ allZero (drop from tag)
+Inv-loop tag from at₀ at = allZero (drop at tag) ≡ allZero (drop from tag)
 
 abbrev μ-loop : tie.MeasureT-loop
-μ-loop from tag at₀ at = 32 - at
+μ-loop tag from at₀ at = 32 - at
 
 loop-holds : tie.Need-loop-holds Inv-loop μ-loop
 loop-holds c = refl
-
-slice-aggregate-read-u64-le : tie.Need-slice-aggregate-read-u64-le Inv-loop μ-loop
-slice-aggregate-read-u64-le c = search needs
 
 read-u64-le-requires : tie.Need-read-u64-le-requires Inv-loop μ-loop
 read-u64-le-requires c κs = search needs
 
 returns : tie.Need-returns Inv-loop μ-loop
-returns c = sym (c .before .before .before .before .before .loop .inv)
+returns c = sym (c .before .before .before .before .loop .inv)
 
 add-at : tie.Need-add-at Inv-loop μ-loop
 add-at c = search needs
@@ -36,9 +33,9 @@ loop-less c = search needs
 
 loop-again : tie.Need-loop-again Inv-loop μ-loop
 loop-again c =
-    let w = c .before .before .before .before .before .loop in
+    let w = c .before .before .before .before .loop in
     let read = c .before .before .read-u64-le in
-    word-passed (c .before .before .before .before .before .before .args .t1) (w .at) (search needs) (sym (ap (λ (r : ReadUint). r .value) (read .ensures)) ∙ c .if1 .left) ∙ w .inv
+    word-passed (c .before .before .before .before .before .before .args .tag .now) (w .at) (search needs) (sym (ap (λ (r : ReadUint). r .value) (read .ensures)) ∙ c .if1 .left) ∙ w .inv
 
 returns-2 : tie.Need-returns-2 Inv-loop μ-loop
 returns-2 c = sym (c .before .loop .inv)
@@ -50,7 +47,6 @@ past-zero-words-spec =
     Inv-loop
     μ-loop
     loop-holds
-    slice-aggregate-read-u64-le
     read-u64-le-requires
     returns
     add-at
