@@ -30,8 +30,9 @@ pub data SetFault (set : List ℕ) : ℕ → Type 0 where
   -- 14: the bytes are no set
   noSet : ((s : List Entry) → SetLaid set s → ⊥) → SetFault set 14
 
--- ---- a body: its entries as they stand, and the set of all their ids
+-- ---- a body that is rewritten, and one that is taken in
 
+-- it isn't too long, and is laid out as these entries
 abbrev pub BodyIs : List ℕ → List Entry → Type 0
 BodyIs body es = (length body ≤ bodyLimit) × ((used : ℕ) × BodyLaid body es used)
 
