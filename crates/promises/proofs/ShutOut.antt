@@ -1,5 +1,5 @@
 -- The wrong programs of `specs/WrongOnes.antt` do not meet the demands: whoever shows that one does shows everything.
-use Prim.Native.Nat.{ℕ, zero, suc, _+_}
+use Prim.Native.Nat.{ℕ, zero, suc, _+_, _≤_}
 use mathlib.Core.Path.{_≡_, refl, sym, ap, _∙_}
 use mathlib.Core.Bool.{Bool, true, false, _&&_, false≢true}
 use lib.Dec.{ltb}
@@ -15,6 +15,7 @@ use Rattle.misc.specs.Refusal.{unknownField}
 use Rattle.misc.specs.Varlen.{trailingOnes, itemValue, varlenAt}
 use Rattle.misc.specs.Signed.{meantBy, signedAt, naturalAt}
 use Rattle.misc.proofs.ParseLaws.{never}
+use Rattle.misc.proofs.BodyLaws.{bodyLimit-is}
 use Rattle.misc.proofs.Bounds.{append-bytes, zeros-bytes}
 use Rattle.previous_gtids_event.specs.Entry.{entry, uuidOf, tagOf}
 use Rattle.packets.specs.Kept.{padded}
@@ -41,11 +42,11 @@ use Rattle.resume_set.specs.Answers.{eventOf}
 use Rattle.resume_set.specs.declared.Offered.the-variants.{NoId, Taken, Refused}
 use Rattle.resume_set_laws.specs.History.{Turn, Offering, member, TakesIn, TellsHistory}
 use Rattle.resume_set_laws.specs.Ours.{ours}
-use Rattle.promises.specs.Meaning.{EventReader, EventWriter, RecordLaid, RecordsMean, RecordsBack}
+use Rattle.promises.specs.Meaning.{EventReader, EventWriter, RecordLaid, RecordsMean, RecordsBack, EntriesMean}
 use Rattle.promises.specs.UntaggedLayout.{untaggedRecord}
 use Rattle.promises.specs.TaggedLayout.{number, the-tag, said}
-use Rattle.promises.proofs.Demand2.{records-mean, one-record}
-use Rattle.promises.specs.WrongOnes.{refusesAll, constantRecord, madeUpCount, swapsClock, equalId, ignoresEqual, writesNothing, copiesItsSet, addsOnlyTheFirst, alwaysNoId, noIdForZero, asksTaggedOnly}
+use Rattle.promises.proofs.Demand2.{records-mean, one-record, entries-mean}
+use Rattle.promises.specs.WrongOnes.{refusesBodies, topByteTwo, tagsByOne, refusesAll, constantRecord, madeUpCount, swapsClock, equalId, ignoresEqual, writesNothing, copiesItsSet, addsOnlyTheFirst, alwaysNoId, noIdForZero, asksTaggedOnly}
 use Rattle.promises.specs.Exact.{OffersExactly, AsksExactly}
 use Rattle.promises.proofs.SetsExact.{offers-exactly}
 use Rattle.promises.proofs.OneOutcome.{same-offers}
@@ -203,6 +204,27 @@ ignores-equal-unlike mean =
     let e = said (the-tag (97 ∷ []) ∷ []) in
     let laid = mean 42 equalId e 7 (below-bytes equalId refl) .0 refl in
     never (sym refuses-equal ∙ records-mean 42 equalId e 7 (below-bytes equalId refl) .1 laid)
+
+-- ---- readers of Previous-GTIDs bodies
+
+read-two : previous topByteTwo ≡ parsed (entry (replicate 16 0) [] ∷ []) 33
+unfolding previous bodyLimit leAt leOf bytesAt byteAt saysTagged saysCount many entryAt headAt keyAt previous-specs.tagAt varlenAt trailingOnes itemValue isTag
+read-two = refl
+
+-- one that takes a body for tagged only if its top byte is 1
+pub tags-by-one-unlike : EntriesMean tagsByOne → ⊥
+tags-by-one-unlike mean =
+    let are = below-bytes topByteTwo refl in
+    let few : length topByteTwo ≤ bodyLimit = omega (arith, bodyLimit-is) in
+    let laid = entries-mean topByteTwo _ 33 are few .0 read-two in
+    never (mean topByteTwo _ 33 are few .1 laid)
+
+-- one that refuses every body
+pub refuses-bodies-unlike : EntriesMean refusesBodies → ⊥
+refuses-bodies-unlike mean =
+    let are = below-bytes topByteTwo refl in
+    let few : length topByteTwo ≤ bodyLimit = omega (arith, bodyLimit-is) in
+    never (mean topByteTwo _ 33 are few .1 (entries-mean topByteTwo _ 33 are few .0 read-two))
 
 -- ---- offers: to the empty set, ids of the zero uuid
 

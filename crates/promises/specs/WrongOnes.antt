@@ -1,13 +1,14 @@
 -- Wrong programs that the demands shut out: `proofs/ShutOut.antt`.
 use Prim.Native.Nat.{ℕ, _+_}
 use mathlib.Core.Bool.{Bool, false, _&&_}
-use mathlib.Core.List.{List, [], _∷_}
+use mathlib.Core.List.{List, [], _∷_, _++_}
 use lib.ListN.{length, replicate}
 use lib.Dec.{eqb, ltb}
 use Rattle.misc.specs.Pick.{pick}
 use Rattle.misc.specs.Refusal.{ended, notWritable}
 use Rattle.misc.specs.Parse.{Parse, refuse, parsed}
 use Rattle.misc.specs.Output.{refused, bytes, outputOf}
+use Rattle.previous_gtids_event.specs.Previous.{previous}
 use Rattle.gtid_event.specs.declared.GtidEvent.{GtidEvent}
 use Rattle.gtid_event.specs.Event.{newUntagged, setNumber}
 use Rattle.gtid_event_read.specs.Read.{gtid}
@@ -18,7 +19,7 @@ use Rattle.resume_set_laws.specs.History.{Offering}
 use Rattle.resume_set_laws.specs.Ours.{ours}
 use Rattle.packets.specs.Key.{same}
 use Rattle.promises.specs.TaggedLayout.{the-tag, said}
-use Rattle.promises.specs.Meaning.{EventReader, EventWriter}
+use Rattle.promises.specs.Meaning.{EventReader, EventWriter, EntriesReader}
 use Rattle.promises.specs.Exact.{Asking, asks}
 
 -- refuses whatever comes
@@ -52,6 +53,18 @@ equalId = 2 ∷ 14 ∷ 24 ∷ 6 ∷ 2 ∷ 97 ∷ 24 ∷ []
 -- ignores an unknown id that equals the last non-ignorable one, at least there
 abbrev pub ignoresEqual : EventReader
 ignoresEqual type body = pick (same body equalId) (parsed (said (the-tag (97 ∷ []) ∷ [])) 7) (gtid type body)
+
+-- refuses every Previous-GTIDs body
+abbrev pub refusesBodies : EntriesReader
+refusesBodies body = refuse ended
+
+-- top byte 2: one entry, with no tag, of the zero uuid and without intervals
+abbrev pub topByteTwo : List ℕ
+topByteTwo = (0 ∷ 1 ∷ replicate 5 0) ++ (2 ∷ replicate 16 0) ++ replicate 9 0
+
+-- takes a body for tagged only if its top byte is 1, at least there: 256 entries would follow
+abbrev pub tagsByOne : EntriesReader
+tagsByOne body = pick (same body topByteTwo) (refuse ended) (previous body)
 
 -- writes no record
 abbrev pub writesNothing : EventWriter
