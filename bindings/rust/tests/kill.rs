@@ -1,6 +1,7 @@
 //! The follower is killed two hundred times, at any moment, and in the end each transaction is in the tool once.
 use gtid_resume::{GtidEvent, ResumeSet, ANONYMOUS_GTID_EVENT};
 use std::collections::{HashMap, HashSet};
+use std::env;
 use std::fs::{self, File};
 use std::io::Write;
 use std::os::unix::process::ExitStatusExt;
@@ -14,7 +15,26 @@ use common::{follower, opening, Binlog, Folder};
 const KILLS: usize = 200;
 /// For a run without kills, about. The whole test takes three to five times as long.
 const UNBROKEN_SECONDS: f64 = 6.0;
+/// Then the test fails, whatever it is at. GTID_KILL_SECONDS names more for a slow machine.
+const ALL_SECONDS: u64 = 60;
 const SIGKILL: i32 = 9;
+
+/// What is left of the test's time.
+struct Clock(Instant);
+
+impl Clock {
+    fn new() -> Clock {
+        let named = env::var("GTID_KILL_SECONDS").ok();
+        let seconds = named.map_or(ALL_SECONDS, |seconds| seconds.parse().unwrap());
+        Clock(Instant::now() + Duration::from_secs(seconds))
+    }
+
+    fn left(&self) -> Duration {
+        let left = self.0.saturating_duration_since(Instant::now());
+        assert!(!left.is_zero(), "the time is over (see GTID_KILL_SECONDS)");
+        left
+    }
+}
 
 /// Xorshift, from a fixed seed.
 struct Random(u64);
@@ -162,20 +182,29 @@ fn assert_whole(folder: &Folder, stand: &Stand) {
 }
 
 /// How long a run takes that nothing breaks.
-fn run(folder: &Folder) -> Duration {
+fn run(folder: &Folder, clock: &Clock) -> Duration {
     let started = Instant::now();
-    let ended = follower(folder).output().unwrap();
-    let said = String::from_utf8_lossy(&ended.stderr);
-    assert!(ended.status.success(), "{}: {said}", ended.status);
+    let status = run_and_kill(folder, clock.left());
+    clock.left();
+    assert!(status.success(), "{status}");
     started.elapsed()
 }
 
 /// How a run ends that is killed after some time, unless it ends before.
 fn run_and_kill(folder: &Folder, life: Duration) -> ExitStatus {
     let mut child = follower(folder).stderr(Stdio::inherit()).spawn().unwrap();
-    thread::sleep(life);
-    child.kill().unwrap();
-    child.wait().unwrap()
+    let killed = Instant::now() + life;
+    loop {
+        let left = killed.saturating_duration_since(Instant::now());
+        if left.is_zero() {
+            child.kill().unwrap();
+            return child.wait().unwrap();
+        }
+        if let Some(status) = child.try_wait().unwrap() {
+            return status;
+        }
+        thread::sleep(left.min(Duration::from_millis(1)));
+    }
 }
 
 /// What a kill can leave, but leaves seldom: half a line in the tool, and half a set beside the saved one.
@@ -190,6 +219,7 @@ fn leave_torn(folder: &Folder, random: &mut Random) {
 struct Course {
     folder: Folder,
     stand: Stand,
+    clock: Clock,
     longest_life: Duration,
     /// Those that left work undone, by the quarter of the work that they fell in.
     kills: [usize; 4],
@@ -204,7 +234,7 @@ impl Course {
         // on a machine that has become slower it may never get there
         let ended = (0..KILLS * 3 / 2).any(|_| !self.kill(random));
         if !ended {
-            run(&self.folder);
+            run(&self.folder, &self.clock);
         }
         assert_whole(&self.folder, &self.stand);
     }
@@ -212,7 +242,8 @@ impl Course {
     /// Whether the follower was killed, and didn't end before.
     fn kill(&mut self, random: &mut Random) -> bool {
         let life = random.below(self.longest_life.as_micros() as u64);
-        let status = run_and_kill(&self.folder, Duration::from_micros(life));
+        let life = Duration::from_micros(life).min(self.clock.left());
+        let status = run_and_kill(&self.folder, life);
         if status.signal() != Some(SIGKILL) {
             assert!(status.success(), "{status}");
             return false;
@@ -240,18 +271,20 @@ impl Course {
 #[test]
 fn no_kill_loses_or_doubles_a_transaction() {
     let started = Instant::now();
+    let clock = Clock::new();
     let mut random = Random(0x6774_6964);
     let folder = Folder::new("kill");
     let transactions = affordable(&folder);
     let stand = stand(transactions, &mut random);
     fs::write(folder.file("events"), &stand.binlog.0).unwrap();
 
-    let unbroken = run(&folder);
+    let unbroken = run(&folder, &clock);
     assert_whole(&folder, &stand);
-    let again = run(&folder);
+    let again = run(&folder, &clock);
     let mut course = Course {
         folder,
         stand,
+        clock,
         // long enough to get on near the end too, and so short that a run takes some hundred
         longest_life: again * 3 / 2 + unbroken / 200,
         kills: [0; 4],
