@@ -1,5 +1,5 @@
 /* The GTID library's calls for C (and for Rust, by the same shapes). Link target/staticlib/libabi.a, which
- * `rt staticlib abi` writes.
+ * `rt staticlib abi` writes; it is for x86-64 Linux.
  *
  * A lent piece of bytes is two arguments, where it begins and how many bytes it has. A pointer is never NULL, also where
  * there are no bytes: then any other address will do. A number that is handed out must not stand inside lent bytes, two
@@ -68,7 +68,7 @@ uint8_t gtid_read_varlen_uint(const uint8_t *s, size_t s_len, uint64_t *value, s
 #define GTID_REFUSED 0       /* stop: the transaction was not taken and must not be passed over */
 #define GTID_TAKEN 1         /* copy the transaction */
 #define GTID_ALREADY_THERE 2 /* pass the transaction over */
-#define GTID_NO_ID 3         /* copy the transaction, which the set doesn't protect: after a crash perhaps twice */
+#define GTID_NO_ID 3         /* copy the transaction, each time that it is offered: the set doesn't protect it */
 
 /* Offers a GTID event (type 33, 34 or 42) to a set, and writes the set after it, at most GTID_LONGEST_SET bytes, also where
  * it is the same: the id is taken, or it is already there, or the event has none (type 34). Refuses with 14, with what the

@@ -1,8 +1,9 @@
 //! `follower EVENTS TOOL SET` copies the transactions of EVENTS into TOOL. It may be killed at any moment and started again.
 //!
 //! EVENTS is a binlog without checksums. A transaction is a GTID event, its rows, and the XID event that ends it. (A server also writes some
-//! that end otherwise, such as a CREATE TABLE in one QUERY event; here they are an error.) TOOL stands for the planning tool: a file with a
-//! line for each transaction, its id and its rows. SET is where the resume set is saved. One follower at a time may use a TOOL and a SET.
+//! that end otherwise, such as a CREATE TABLE in one QUERY event; here they are an error, as soon as what is behind them has come.) TOOL
+//! stands for the planning tool: a file with a line for each transaction, its id and its rows. SET is where the resume set is saved. One
+//! follower at a time may use a TOOL and a SET.
 use gtid_resume::{
     Entry, GtidEvent, Offered, ResumeSet, ANONYMOUS_GTID_EVENT, GTID_EVENT, GTID_TAGGED_LOG_EVENT,
     PREVIOUS_GTIDS_EVENT,
@@ -14,10 +15,13 @@ use std::io::{self, ErrorKind, Read, Write};
 use std::path::{Path, PathBuf};
 use std::{env, process};
 
+const STOP_EVENT: u8 = 3;
+const ROTATE_EVENT: u8 = 4;
 const FORMAT_DESCRIPTION_EVENT: u8 = 15;
 const XID_EVENT: u8 = 16;
 const GTID_EVENTS: [u8; 3] = [GTID_EVENT, ANONYMOUS_GTID_EVENT, GTID_TAGGED_LOG_EVENT];
 const HEADER_LEN: usize = 19;
+const UNENDED: &str = "a transaction without an end";
 
 /// Type and body.
 type Event<'a> = (u8, &'a [u8]);
@@ -45,6 +49,9 @@ fn follow(events: &Path, tool: &Path, saved: &Path) -> Result<(), Failure> {
         match transaction {
             [gtid, rows @ .., (XID_EVENT, _)] => step(*gtid, rows, &mut tool, &mut set, saved)?,
             [(XID_EVENT, _)] => return Err("the end of a transaction without one".into()),
+            [(first, _), .., (STOP_EVENT | ROTATE_EVENT, _)] if GTID_EVENTS.contains(first) => {
+                return Err(UNENDED.into()); // and none will come: the file is closed
+            }
             _ => {} // the last one isn't complete: the next run offers it
         }
     }
@@ -65,7 +72,7 @@ fn step(
     saved: &Path,
 ) -> Result<(), Failure> {
     if rows.iter().any(|(row, _)| GTID_EVENTS.contains(row)) {
-        return Err("a transaction without an end".into());
+        return Err(UNENDED.into());
     }
     let offer = set.offer(event_type, body)?;
     match offer.answer() {
@@ -76,7 +83,7 @@ fn step(
             let (event, _) = GtidEvent::read(event_type, body)?;
             tool.copy_once(event.gtid().to_string(), rows)?;
             offer.commit();
-            set.save(saved)?;
+            set.save(saved).map_err(|error| named(saved, error))?;
         }
     }
     Ok(())
@@ -88,17 +95,18 @@ fn start(before: ResumeSet, saved: &Path) -> Result<ResumeSet, Failure> {
         Ok(set) if has_all(&set, &before) => Ok(set),
         Ok(_) => Err("transactions before EVENTS are missing: follow an older file first".into()),
         Err(error) if error.kind() == ErrorKind::NotFound => {
-            before.save(saved)?;
+            before.save(saved).map_err(|error| named(saved, error))?;
             Ok(before)
         }
-        Err(error) => Err(error.into()),
+        Err(error) if error.kind() == ErrorKind::InvalidData => Err(error.into()), // it names the file
+        Err(error) => Err(named(saved, error).into()),
     }
 }
 
 fn has_all(set: &ResumeSet, listed: &ResumeSet) -> bool {
     let covers = |mine: Entry, wanted: Entry, (start, end)| {
         let mut intervals = mine.intervals();
-        (mine.sid(), mine.tag()) == (wanted.sid(), wanted.tag())
+        (mine.uuid(), mine.tag()) == (wanted.uuid(), wanted.tag())
             && intervals.any(|(from, to)| from <= start && end <= to)
     };
     let has = |wanted: Entry, interval| set.entries().any(|mine| covers(mine, wanted, interval));
@@ -125,8 +133,19 @@ fn events_of(binlog: &[u8]) -> Result<Vec<Event<'_>>, Failure> {
     Ok(events)
 }
 
+/// Whether the events of a binlog end in checksums. Its format description does in any case, and before that stands their kind, 0 for none.
+fn has_checksums(events: &[Event]) -> bool {
+    match events {
+        [(FORMAT_DESCRIPTION_EVENT, [.., kind, _, _, _, _]), ..] => *kind != 0,
+        _ => false,
+    }
+}
+
 /// The ids that the opening event lists, and the events behind it.
 fn open<'e, 'b>(events: &'e [Event<'b>]) -> Result<(ResumeSet, &'e [Event<'b>]), Failure> {
+    if has_checksums(events) {
+        return Err("EVENTS has checksums".into());
+    }
     match events {
         [(FORMAT_DESCRIPTION_EVENT, _), (PREVIOUS_GTIDS_EVENT, body), behind @ ..]
         | [(PREVIOUS_GTIDS_EVENT, body), behind @ ..] => Ok((ResumeSet::take_in(body)?, behind)),

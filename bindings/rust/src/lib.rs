@@ -4,6 +4,10 @@
 //! whatever bytes it is given. This crate lends them memory and turns their numbers into Rust's types; it is small, and it is tested, not
 //! proved.
 //!
+//! The archive is for x86-64 Linux. `rt staticlib abi` in the repository makes it (it is looked for in `target/staticlib` there, or in the
+//! folder that GTID_LIB_DIR names); then depend on this crate by its path. On another machine build for x86-64 and emulate: the variables
+//! that this takes stand in `tools/needs`. A call uses up to 200 KB of the stack.
+//!
 //! A follower's step, run for each transaction: offer its id, copy it and commit it in the tool, commit the offer, and save. In this order
 //! no crash loses a transaction; [`ResumeSet::offer`] says what the tool must do about one that it is given twice.
 //!
@@ -22,7 +26,7 @@
 //!     match offer.answer() {
 //!         Offered::AlreadyThere => return Ok(()), // the tool has it
 //!         Offered::Taken => tool.copy_and_commit(transaction)?, // unless the tool knows the id
-//!         Offered::NoId => tool.copy_and_commit(transaction)?, // anonymous: copied too, after a crash perhaps twice
+//!         Offered::NoId => tool.copy_and_commit(transaction)?, // anonymous: copied too, each time that it is offered
 //!     }
 //!     offer.commit();
 //!     set.save(saved)
@@ -54,7 +58,7 @@ mod sys;
 
 pub use event::GtidEvent;
 pub use gtid::Gtid;
-pub use previous::{Entry, PreviousGtids};
+pub use previous::{Entry, PreviousGtidsEvent};
 pub use refusal::Refusal;
 pub use set::{Offer, Offered, ResumeSet, LONGEST_SET};
 

@@ -4,12 +4,12 @@ use crate::Refusal;
 /// The entries of a Previous-GTIDs event, the opening event of a binlog. They stay in the event's body, and nothing is copied.
 ///
 /// ```
-/// let (previous, used) = gtid_resume::PreviousGtids::read(&[0; 8])?;
+/// let (previous, used) = gtid_resume::PreviousGtidsEvent::read(&[0; 8])?;
 /// assert_eq!((previous.len(), used), (0, 8));
 /// # Ok::<(), gtid_resume::Refusal>(())
 /// ```
 #[derive(Clone, Copy, Debug)]
-pub struct PreviousGtids<'a> {
+pub struct PreviousGtidsEvent<'a> {
     /// The header and the entries, and nothing behind them.
     body: &'a [u8],
     len: usize,
@@ -23,21 +23,21 @@ pub struct PreviousGtids<'a> {
 /// # for number in [1u64, 1, 6] {
 /// #     body.extend(number.to_le_bytes());
 /// # }
-/// let (previous, _) = gtid_resume::PreviousGtids::read(&body)?;
-/// for entry in previous.entries() {
-///     println!("{:02x?} {:?}", entry.sid(), entry.intervals().collect::<Vec<_>>());
+/// let (previous, _) = gtid_resume::PreviousGtidsEvent::read(&body)?;
+/// for entry in previous.sids() {
+///     println!("{:02x?} {:?}", entry.uuid(), entry.intervals().collect::<Vec<_>>());
 /// }
 /// # Ok::<(), gtid_resume::Refusal>(())
 /// ```
 #[derive(Clone, Copy, Debug, PartialEq, Eq, Hash)]
 pub struct Entry<'a> {
-    sid: &'a [u8; 16],
+    uuid: &'a [u8; 16],
     tag: &'a [u8],
     /// Sixteen bytes each.
     intervals: &'a [u8],
 }
 
-impl<'a> PreviousGtids<'a> {
+impl<'a> PreviousGtidsEvent<'a> {
     /// Reads the body of a Previous-GTIDs event (type 35), without header and checksum: its entries, and how many bytes were used.
     ///
     /// # Errors
@@ -45,7 +45,7 @@ impl<'a> PreviousGtids<'a> {
     /// [`Refusal::TooLong`], [`Refusal::Ended`] or [`Refusal::BadTag`].
     ///
     /// ```
-    /// use gtid_resume::{PreviousGtids, Refusal};
+    /// use gtid_resume::{PreviousGtidsEvent, Refusal};
     ///
     /// // one uuid with the transactions 1 to 5
     /// let mut body = vec![1, 0, 0, 0, 0, 0, 0, 0];
@@ -53,22 +53,22 @@ impl<'a> PreviousGtids<'a> {
     /// for number in [1u64, 1, 6] {
     ///     body.extend(number.to_le_bytes());
     /// }
-    /// let (previous, used) = PreviousGtids::read(&body)?;
+    /// let (previous, used) = PreviousGtidsEvent::read(&body)?;
     /// assert_eq!(used, 48);
-    /// for entry in previous.entries() {
-    ///     assert_eq!((entry.sid(), entry.tag()), (&[7; 16], &b""[..]));
+    /// for entry in previous.sids() {
+    ///     assert_eq!((entry.uuid(), entry.tag()), (&[7; 16], &b""[..]));
     ///     assert!(entry.intervals().eq([(1, 6)]));
     /// }
-    /// assert_eq!(PreviousGtids::read(&body[..47]).unwrap_err(), Refusal::Ended);
+    /// assert_eq!(PreviousGtidsEvent::read(&body[..47]).unwrap_err(), Refusal::Ended);
     /// # Ok::<(), Refusal>(())
     /// ```
-    pub fn read(body: &'a [u8]) -> Result<(PreviousGtids<'a>, usize), Refusal> {
+    pub fn read(body: &'a [u8]) -> Result<(PreviousGtidsEvent<'a>, usize), Refusal> {
         let (mut entries, mut used) = (0, 0);
         let number =
             unsafe { sys::gtid_read_previous(body.as_ptr(), body.len(), &mut entries, &mut used) };
         Refusal::unless_zero(number)?;
         // each entry has bytes of its own, so that their number is a usize
-        let previous = PreviousGtids {
+        let previous = PreviousGtidsEvent {
             body: &body[..used],
             len: entries as usize,
         };
@@ -78,7 +78,7 @@ impl<'a> PreviousGtids<'a> {
     /// How many entries there are.
     ///
     /// ```
-    /// assert_eq!(gtid_resume::PreviousGtids::read(&[0; 8])?.0.len(), 0);
+    /// assert_eq!(gtid_resume::PreviousGtidsEvent::read(&[0; 8])?.0.len(), 0);
     /// # Ok::<(), gtid_resume::Refusal>(())
     /// ```
     pub fn len(&self) -> usize {
@@ -88,7 +88,7 @@ impl<'a> PreviousGtids<'a> {
     /// Whether there are none.
     ///
     /// ```
-    /// assert!(gtid_resume::PreviousGtids::read(&[0; 8])?.0.is_empty());
+    /// assert!(gtid_resume::PreviousGtidsEvent::read(&[0; 8])?.0.is_empty());
     /// # Ok::<(), gtid_resume::Refusal>(())
     /// ```
     pub fn is_empty(&self) -> bool {
@@ -99,15 +99,15 @@ impl<'a> PreviousGtids<'a> {
     ///
     /// ```
     /// let mut body = vec![2, 0, 0, 0, 0, 0, 0, 0];
-    /// for sid in [9, 4] {
-    ///     body.extend([sid; 16]);
+    /// for uuid in [9, 4] {
+    ///     body.extend([uuid; 16]);
     ///     body.extend([0; 8]); // no intervals
     /// }
-    /// let (previous, _) = gtid_resume::PreviousGtids::read(&body)?;
-    /// assert!(previous.entries().map(|entry| entry.sid()[0]).eq([9, 4]));
+    /// let (previous, _) = gtid_resume::PreviousGtidsEvent::read(&body)?;
+    /// assert!(previous.sids().map(|entry| entry.uuid()[0]).eq([9, 4]));
     /// # Ok::<(), gtid_resume::Refusal>(())
     /// ```
-    pub fn entries(&self) -> impl ExactSizeIterator<Item = Entry<'a>> {
+    pub fn sids(&self) -> impl ExactSizeIterator<Item = Entry<'a>> {
         Entries {
             body: self.body,
             at: 8,
@@ -123,12 +123,12 @@ impl<'a> Entry<'a> {
     /// # let mut body = vec![1, 0, 0, 0, 0, 0, 0, 0];
     /// # body.extend([7; 16]);
     /// # body.extend([0; 8]);
-    /// let (previous, _) = gtid_resume::PreviousGtids::read(&body)?;
-    /// assert_eq!(previous.entries().next().unwrap().sid(), &body[8..24]);
+    /// let (previous, _) = gtid_resume::PreviousGtidsEvent::read(&body)?;
+    /// assert_eq!(previous.sids().next().unwrap().uuid(), &body[8..24]);
     /// # Ok::<(), gtid_resume::Refusal>(())
     /// ```
-    pub fn sid(&self) -> &'a [u8; 16] {
-        self.sid
+    pub fn uuid(&self) -> &'a [u8; 16] {
+        self.uuid
     }
 
     /// The tag's bytes, none where there is no tag.
@@ -139,8 +139,8 @@ impl<'a> Entry<'a> {
     /// body.push(10); // twice its length
     /// body.extend(b"depot");
     /// body.extend([0; 8]);
-    /// let (previous, _) = gtid_resume::PreviousGtids::read(&body)?;
-    /// assert_eq!(previous.entries().next().unwrap().tag(), b"depot");
+    /// let (previous, _) = gtid_resume::PreviousGtidsEvent::read(&body)?;
+    /// assert_eq!(previous.sids().next().unwrap().tag(), b"depot");
     /// # Ok::<(), gtid_resume::Refusal>(())
     /// ```
     pub fn tag(&self) -> &'a [u8] {
@@ -158,8 +158,8 @@ impl<'a> Entry<'a> {
     /// # for number in [2u64, 1, 6, 9, 10] {
     /// #     body.extend(number.to_le_bytes());
     /// # }
-    /// let (previous, _) = gtid_resume::PreviousGtids::read(&body)?;
-    /// let intervals = previous.entries().next().unwrap().intervals();
+    /// let (previous, _) = gtid_resume::PreviousGtidsEvent::read(&body)?;
+    /// let intervals = previous.sids().next().unwrap().intervals();
     /// assert_eq!(intervals.len(), 2);
     /// assert_eq!(intervals.map(|(start, end)| end - start).sum::<u64>(), 6);
     /// # Ok::<(), gtid_resume::Refusal>(())
@@ -200,7 +200,7 @@ impl<'a> Iterator for Entries<'a> {
         assert_eq!(number, 0, "the whole body was read before");
         self.at = next;
         Some(Entry {
-            sid: body[at..at + 16].try_into().expect("sixteen bytes"),
+            uuid: body[at..at + 16].try_into().expect("sixteen bytes"),
             tag: &body[first - 8 - tag_len..first - 8],
             intervals: &body[first..next],
         })

@@ -116,7 +116,10 @@ impl fmt::Debug for Refusal {
 
 impl Error for Refusal {}
 
-/// For functions that answer with `io::Result`. The refusal is the error's inner one.
+/// For functions that answer with `io::Result`. The refusal is the error's inner one. (Of an error of [`ResumeSet::load`], which also names
+/// the file, it is the [source](std::error::Error::source).)
+///
+/// [`ResumeSet::load`]: crate::ResumeSet::load
 ///
 /// ```
 /// use gtid_resume::{Refusal, ResumeSet};

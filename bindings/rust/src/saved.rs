@@ -48,7 +48,8 @@ impl ResumeSet {
     /// too; a crash before leaves the old set or the new one, whole.
     ///
     /// The bytes are written to a file beside it, whose name has `.new` at its end, which is then renamed; one that a crash left over does no
-    /// harm. Only one follower may save in a file at a time.
+    /// harm. So a symbolic link is replaced and not followed, and the file's permissions are those of a new one. Only one follower may save
+    /// in a file at a time.
     ///
     /// # Errors
     ///

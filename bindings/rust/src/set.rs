@@ -1,5 +1,5 @@
 use crate::sys;
-use crate::{Entry, PreviousGtids, Refusal};
+use crate::{Entry, PreviousGtidsEvent, Refusal};
 
 /// The bytes of the longest set.
 ///
@@ -27,8 +27,8 @@ pub enum Offered {
     Taken,
     /// The event's id is a member already: pass the transaction over.
     AlreadyThere,
-    /// An anonymous event (type 34) has no id: copy the transaction. The set stays the same and doesn't protect it, so that after a crash
-    /// it may be copied twice.
+    /// An anonymous event (type 34) has no id: copy the transaction. The set stays the same and doesn't protect it: it is copied again
+    /// whenever its event is offered again, after a crash or by another run over the same file.
     NoId,
 }
 
@@ -96,6 +96,43 @@ impl Offer<'_> {
     /// ```
     pub fn next_bytes(&self) -> &[u8] {
         &self.next
+    }
+
+    /// The next set by itself, for a follower that can't hold the offer until the transaction has ended, since the offer borrows the set.
+    ///
+    /// ```
+    /// use gtid_resume::{GtidEvent, Offered, ResumeSet, GTID_EVENT};
+    ///
+    /// # const ROW: u8 = 30;
+    /// # const XID: u8 = 16;
+    /// # let body = GtidEvent::new([7; 16], 6).write()?;
+    /// # let events = [(GTID_EVENT, body.as_slice()), (ROW, b"28.4 mm"), (XID, b"")];
+    /// # let mut set = ResumeSet::empty();
+    /// let mut pending = None;
+    /// let mut rows = Vec::new();
+    /// for (event_type, body) in events {
+    ///     match event_type {
+    ///         GTID_EVENT => {
+    ///             let offer = set.offer(event_type, body)?;
+    ///             pending = Some((offer.answer(), offer.into_next()));
+    ///         }
+    ///         ROW => rows.push(body),
+    ///         XID => match pending.take().expect("a transaction begins with its GTID event") {
+    ///             (Offered::AlreadyThere, _) => rows.clear(),
+    ///             (Offered::Taken | Offered::NoId, next) => {
+    ///                 // copy the rows, and commit them in the tool
+    ///                 rows.clear();
+    ///                 set = next; // and save it
+    ///             }
+    ///         },
+    ///         _ => {}
+    ///     }
+    /// }
+    /// # assert!(set.contains(&[7; 16], b"", 6));
+    /// # Ok::<(), gtid_resume::Refusal>(())
+    /// ```
+    pub fn into_next(self) -> ResumeSet {
+        ResumeSet { bytes: self.next }
     }
 
     /// Makes the next set the current one, once the tool has committed the transaction.
@@ -284,7 +321,7 @@ impl ResumeSet {
     ///
     /// fn has_all(set: &ResumeSet, listed: &ResumeSet) -> bool {
     ///     listed.entries().all(|wanted| {
-    ///         let mine = set.entries().find(|mine| (mine.sid(), mine.tag()) == (wanted.sid(), wanted.tag()));
+    ///         let mine = set.entries().find(|mine| (mine.uuid(), mine.tag()) == (wanted.uuid(), wanted.tag()));
     ///         wanted.intervals().all(|(start, end)| {
     ///             mine.map_or(false, |mine| mine.intervals().any(|(from, to)| from <= start && end <= to))
     ///         })
@@ -307,8 +344,8 @@ impl ResumeSet {
     /// # Ok::<(), gtid_resume::Refusal>(())
     /// ```
     pub fn entries(&self) -> impl ExactSizeIterator<Item = Entry<'_>> {
-        let (previous, _) = PreviousGtids::read(&self.bytes).expect("a set is such a body");
-        previous.entries()
+        let (previous, _) = PreviousGtidsEvent::read(&self.bytes).expect("a set is such a body");
+        previous.sids()
     }
 
     /// The bytes to save, where [`save`](ResumeSet::save) isn't used.

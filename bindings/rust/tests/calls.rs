@@ -1,7 +1,8 @@
 //! The examples of the repository, and the edges of a set, through the archive.
 use gtid_resume::{
-    list, read_varlen_uint, rewrite, Entry, GtidEvent, Offered, PreviousGtids, Refusal, ResumeSet,
-    ANONYMOUS_GTID_EVENT, GTID_EVENT, GTID_TAGGED_LOG_EVENT, LONGEST_SET, PREVIOUS_GTIDS_EVENT,
+    list, read_varlen_uint, rewrite, Entry, GtidEvent, Offered, PreviousGtidsEvent, Refusal,
+    ResumeSet, ANONYMOUS_GTID_EVENT, GTID_EVENT, GTID_TAGGED_LOG_EVENT, LONGEST_SET,
+    PREVIOUS_GTIDS_EVENT,
 };
 use std::fs;
 use std::path::Path;
@@ -59,18 +60,18 @@ fn tagged_previous(entries: &[Tagged]) -> Vec<u8> {
 
 /// The entries of a body that is used up to this place, against those that were put in.
 fn assert_entries(body: &[u8], used: usize, entries: &[Tagged]) {
-    let (previous, said) = PreviousGtids::read(body).unwrap();
+    let (previous, said) = PreviousGtidsEvent::read(body).unwrap();
     assert_eq!(
         (previous.len(), previous.is_empty(), said),
         (entries.len(), entries.is_empty(), used)
     );
-    assert_same(previous.entries(), entries);
+    assert_same(previous.sids(), entries);
 }
 
 fn assert_same<'a>(entries: impl ExactSizeIterator<Item = Entry<'a>>, wanted: &[Tagged]) {
     assert_eq!(entries.len(), wanted.len());
     for (entry, (sid, tag, intervals)) in entries.zip(wanted) {
-        assert_eq!((entry.sid(), entry.tag()), (&[*sid; 16], *tag));
+        assert_eq!((entry.uuid(), entry.tag()), (&[*sid; 16], *tag));
         assert_eq!(entry.intervals().len(), intervals.len());
         assert!(entry.intervals().eq(intervals.iter().copied()));
     }
@@ -277,7 +278,7 @@ fn every_cut_of_a_body_is_refused() {
     ] {
         for cut in 0..body.len() {
             assert_eq!(
-                PreviousGtids::read(&body[..cut]).unwrap_err().number(),
+                PreviousGtidsEvent::read(&body[..cut]).unwrap_err().number(),
                 1,
                 "{cut}"
             );
@@ -305,17 +306,20 @@ fn integers_have_nine_forms() {
 
 #[test]
 fn refusals_have_their_numbers() {
-    assert_eq!(PreviousGtids::read(&[0; 65_537]).unwrap_err().number(), 11);
-    assert_eq!(PreviousGtids::read(&[0; 7]).unwrap_err().number(), 1);
     assert_eq!(
-        PreviousGtids::read(&tagged_previous(&[(1, b"UPPER", &[])]))
+        PreviousGtidsEvent::read(&[0; 65_537]).unwrap_err().number(),
+        11
+    );
+    assert_eq!(PreviousGtidsEvent::read(&[0; 7]).unwrap_err().number(), 1);
+    assert_eq!(
+        PreviousGtidsEvent::read(&tagged_previous(&[(1, b"UPPER", &[])]))
             .unwrap_err()
             .number(),
         6
     );
     // the broken tag comes before the end that is missing
     assert_eq!(
-        PreviousGtids::read(&tagged_previous(&[(1, b"7", &[]), (1, b"a", &[])])[..33])
+        PreviousGtidsEvent::read(&tagged_previous(&[(1, b"7", &[]), (1, b"a", &[])])[..33])
             .unwrap_err()
             .number(),
         6

@@ -120,10 +120,20 @@ fn a_damaged_event_is_not_passed_over() {
     endless.transaction(GTID_EVENT, &gtid(8), &row("eight"));
     let mut headless = with_six();
     headless.event(16, &[0; 8]);
+    let mut last = with_six();
+    last.event(33, &gtid(7));
+    last.event(2, b"CREATE TABLE");
+    last.event(4, b"the next file's name");
+    let mut anonymous = with_six();
+    anonymous.event(34, &gtid(0));
+    anonymous.event(2, b"CREATE TABLE");
+    anonymous.event(3, b"");
     for (binlog, says) in [
         (short, "refusal 1:"),
         (nameless, "refusal 8:"),
         (endless, "without an end"),
+        (last, "without an end"),
+        (anonymous, "without an end"),
         (headless, "without one"),
     ] {
         let folder = Folder::new("bad-event");
@@ -132,6 +142,31 @@ fn a_damaged_event_is_not_passed_over() {
         let tool = fs::read_to_string(folder.file("tool")).unwrap();
         assert_eq!(tool, line(6, "six"));
     }
+}
+
+#[test]
+fn checksums_are_not_taken_for_rows() {
+    for kind in [0, 1] {
+        let mut binlog = Binlog(b"\xfebin".to_vec());
+        binlog.event(15, &[&[4, 0][..], &[0; 55], &[kind, 9, 9, 9, 9]].concat());
+        binlog.event(35, &opening(&WITH_FIVE));
+        binlog.transaction(GTID_EVENT, &gtid(6), &row("six"));
+        let folder = Folder::new("checksums");
+        if kind == 0 {
+            assert_eq!(followed(&folder, &binlog.0), line(6, "six"));
+        } else {
+            assert_stops(&folder, &binlog.0, "checksums");
+            assert!(!folder.file("tool").exists());
+        }
+    }
+}
+
+#[test]
+fn an_error_names_its_file() {
+    let folder = Folder::new("set-folder");
+    fs::create_dir(folder.file("set")).unwrap();
+    let name = folder.file("set").display().to_string();
+    assert_stops(&folder, &with_six().0, &name);
 }
 
 #[test]

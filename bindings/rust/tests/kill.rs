@@ -13,8 +13,11 @@ mod common;
 use common::{follower, opening, Binlog, Folder};
 
 const KILLS: usize = 200;
-/// For a run without kills, about. The whole test takes three to five times as long.
-const UNBROKEN_SECONDS: f64 = 6.0;
+/// For a run without kills, about.
+const UNBROKEN_SECONDS: f64 = 4.0;
+/// Each start goes over the whole binlog again, so that the test's time grows with its length and with the kills.
+const MOST_TRANSACTIONS: usize = 600;
+const LEAST_TRANSACTIONS: usize = 300;
 /// Then the test fails, whatever it is at. GTID_KILL_SECONDS names more for a slow machine.
 const ALL_SECONDS: u64 = 60;
 const SIGKILL: i32 = 9;
@@ -146,7 +149,7 @@ fn affordable(folder: &Folder) -> usize {
     }
     let one = started.elapsed().as_secs_f64() / 20.0;
     fs::remove_file(folder.file("set")).unwrap();
-    ((UNBROKEN_SECONDS / one) as usize).clamp(200, 1_200)
+    ((UNBROKEN_SECONDS / one) as usize).clamp(LEAST_TRANSACTIONS, MOST_TRANSACTIONS)
 }
 
 /// What is wrong with the tool's lines.
