@@ -1,6 +1,6 @@
 -- A key is the 16 uuid bytes followed by the tag's bytes, none where there is no tag. As every uuid has 16 bytes, the one bytewise
--- order with a prefix first is the order by uuid bytes, then no tag, then tags bytewise with a prefix first: `order-append` and
--- `prefix-first` of proofs/Keys.antt state that.
+-- order with a prefix first is the order by uuid bytes, then no tag, then tags bytewise with a prefix first (`order-append` and
+-- `prefix-first` of proofs/Keys.antt). That it rises with the bytes, `Rules` of promises says.
 use Prim.Native.Nat.{ℕ, compare, Ordering, Ordering·lt, Ordering·eq, Ordering·gt}
 use mathlib.Core.Path.{_≡_}
 use mathlib.Core.Bool.{Bool}
