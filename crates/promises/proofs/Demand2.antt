@@ -49,7 +49,7 @@ read-laid-record type s e used are read =
     one-of : eqb type 33 || eqb type 34 ≡ true → (type ≡ 33) ⊎ (type ≡ 34)
     one-of h = split (eqb type 33) (λ is. inl (eqb-true type 33 is)) (λ isnt. inr (eqb-true type 34 (rw isnt at h)))
 
-laid-record-read : (type : ℕ) (s : List ℕ) (e : GtidEvent) (used : ℕ) → RecordLaid type s e used → gtid type s ≡ parsed e used
+pub laid-record-read : (type : ℕ) (s : List ℕ) (e : GtidEvent) (used : ℕ) → RecordLaid type s e used → gtid type s ≡ parsed e used
 unfolding gtid
 laid-record-read type s e used (RecordLaid.untagged fits (inl is) laid) = rw (le-leb (length s) bodyLimit fits, is) (untagged-reads s e used laid)
 laid-record-read type s e used (RecordLaid.untagged fits (inr is) laid) = rw (le-leb (length s) bodyLimit fits, is) (untagged-reads s e used laid)

@@ -1,6 +1,6 @@
 -- A case of the table forces its number: the language of reading, and integers. (`Gives` goes the other way.)
 use Prim.Native.Nat.{ℕ, zero, suc, _+_, _<_}
-use mathlib.Core.Path.{_≡_, refl, sym, ap, _∙_}
+use mathlib.Core.Path.{_≡_, refl, sym, _∙_}
 use mathlib.Core.List.{List}
 use mathlib.Core.Logic.{_⊎_, inl, inr}
 use native.Mathlib.Omega.{arith}
@@ -35,10 +35,6 @@ is-refused r e = (r, e, refl)
 -- what is refused with a part's refusal
 pub same-refused : {A B : Type 0} {p : Parse A} {q : Parse B} {n : ℕ} → Refuses p n → ((r : Refusal) → p ≡ refuse r → q ≡ refuse r) → Refuses q n
 same-refused (r, e, is) f = (r, f r e, is)
-
--- it is refused with one number only
-pub one-number : {A : Type 0} {p : Parse A} {n m : ℕ} → Refuses p n → Refuses p m → n ≡ m
-one-number (r, e, is) (t, f, this) = let same : r ≡ t = cc in sym is ∙ ap number same ∙ this
 
 -- and then nothing is read
 pub refused-not-read : {A : Type 0} {p : Parse A} {n : ℕ} {a : A} {next : ℕ} → Refuses p n → p ≡ parsed a next → ⊥

@@ -1,7 +1,8 @@
 -- The demands hold of what our functions promise. Demand 1: `integers-exact`, `events-exact`, `bodies-exact`, `reader-exact`, `sets-exact`,
--- `listing-exact`, `archive-exact`, `offers-exactly`, `asks-exactly`, `sets-told`; `orders`, `zeros` and `outputs`. Demand 2: `records-mean`, `records-back`,
--- `records-again`, `least-size`, `entries-back`, `entries-mean`. Demand 3: `tells-history`, `replays`, `refusals-keep`. No two cases hold at once, and what is
--- laid out has no fault (`OneOutcome`). Wrong programs don't meet the demands (`ShutOut`).
+-- `listing-exact`, `archive-exact`, `offers-exactly`, `asks-exactly`, `sets-told`; `integers-told`, `events-told`, `bodies-told`, `listing-told`;
+-- `orders`, `zeros`, `outputs` and `rules`. Demand 2: `records-mean`, `records-back`, `records-again`, `least-size`, `entries-back`, `entries-mean`.
+-- Demand 3: `tells-history`, `replays`, `refusals-keep`. No two cases hold at once, and what is laid out has no fault (`OneOutcome`). Wrong programs don't
+-- meet the demands (`ShutOut`).
 pub mod EdgesAgree
 -- the language: what is refused has its case, and a case forces its number
 pub mod Gives
@@ -33,6 +34,8 @@ pub mod SetsTold
 pub mod BodiesExact
 pub mod ReaderExact
 pub mod ArchiveExact
+pub mod AnswersTold
 pub mod OrdersHold
+pub mod RulesHold
 pub mod OneOutcome
 pub mod ShutOut

@@ -102,6 +102,7 @@ pub zeros : (r : Refusal) → Zeros r
 unfolding outputOf answerOf withTag newTagged lengthOf
 zeros r =
     record {
+      no-event = refl;
       uint = refl;
       int = refl;
       event = refl;

@@ -109,7 +109,7 @@ module _ (body : List ℕ) (are : Bytes body) where
           (λ good f. joined es (body-is read) (limits (takeIn es)) good refl f)
           (λ bad f. let same : r ≡ badGno = cc in rw same (TakeInFault.gnoRule (body-is read) bad))
 
-  take-in-forced : (n : ℕ) → TakeInFault body n → WriterRefuses (takenIn (previous body)) n
+  pub take-in-forced : (n : ℕ) → TakeInFault body n → WriterRefuses (takenIn (previous body)) n
   take-in-forced n (TakeInFault.badBody fault) = let (r, e, is) = body-forced body are n fault in (r, rw e, is)
   take-in-forced n (TakeInFault.gnoRule is bad) = let (used, read) = body-read is in (badGno, rw (read, bad), refl)
   take-in-forced n (TakeInFault.overLimits is good over) = let (used, read) = body-read is in (full, rw (read, good, over), refl)

@@ -1,10 +1,11 @@
 -- The statements of `specs/Told.antt`.
 use Prim.Native.Nat.{ℕ}
-use mathlib.Core.Path.{_≡_, refl, ap}
-use mathlib.Core.Bool.{true}
-use mathlib.Core.List.{List}
+use mathlib.Core.Path.{_≡_, refl, ap, _∙_}
+use mathlib.Core.Bool.{Bool, true, false}
+use mathlib.Core.List.{List, _++_}
 use native.Mathlib.Omega.{arith}
 use lib.ListN.{length}
+use Rattle.misc.specs.Pick.{pick}
 use Rattle.misc.specs.Parse.{Bytes}
 use Rattle.packets.specs.Key.{Key}
 use Rattle.previous_gtids_event.specs.Entry.{Entry}
@@ -25,7 +26,7 @@ use Rattle.resume_set_laws.specs.History.{member}
 use Rattle.promises.specs.SetFaults.{BodyIs}
 use Rattle.promises.specs.Exact.{Exactly}
 use Rattle.promises.specs.Told.{SetsTold}
-use Rattle.promises.proofs.SetsExact.{apart, body-read, asks-exactly}
+use Rattle.promises.proofs.SetsExact.{body-read, asks-exactly}
 
 has-members : (set : List ℕ) (s : List Entry) → SetLaid set s → (k : Key) (n : ℕ) → member set k n ≡ has s k n
 has-members set s laid k n = rw (is-lent set s laid)
@@ -57,12 +58,16 @@ module _ (body : List ℕ) (es : List Entry) (are : Bytes body) (is : BodyIs bod
   lists : (s : List Entry) × SetLaid (bodyBytes s) s × (eventText 35 body ≡ setText previousWord s) × ((k : Key) (n : ℕ) → has s k n ≡ has es k n)
   lists = (takeIn es, lent-is _ _ taken-lent, shown, has-takeIn es)
 
+as-number : (b : Bool) → bit b ≡ pick b 1 0
+as-number true = refl
+as-number false = refl
+
 pub sets-told : SetsTold
 sets-told = record {
   members = has-members;
   «check_set» = checks;
   list = lists;
-  «gtid_contains» = λ set uuid tag gno sixteen rule. ap bit (asks-exactly .id set uuid tag gno sixteen rule);
+  «gtid_contains» = λ set uuid tag gno sixteen rule. ap bit (asks-exactly .id set uuid tag gno sixteen rule) ∙ as-number (member set (uuid ++ tag) gno);
   refused = λ n len. refl;
   taken = λ len. refl;
   already-there = λ len. refl;

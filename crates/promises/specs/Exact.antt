@@ -14,7 +14,7 @@ use Rattle.misc.specs.Le.{leAt, leBytes}
 use Rattle.misc.specs.Varlen.{varlenAt, varlenBytes}
 use Rattle.misc.specs.Signed.{sentAs, signedAt, naturalAt, intRead}
 use Rattle.misc.specs.Lenenc.{lenencAt, lenencBytes}
-use Rattle.misc.specs.Output.{bytes, outputOf, answerOf}
+use Rattle.misc.specs.Output.{bytes, answerOf}
 use Rattle.previous_gtids_event.specs.Entry.{Entry}
 use Rattle.previous_gtids_event.specs.Previous.{noneOrTag, intervalAt, entryAt, previous}
 use Rattle.previous_gtids_event.specs.Rewrite.{rewritten}

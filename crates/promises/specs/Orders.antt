@@ -67,9 +67,28 @@ pub record Orders : Type 0 where
   pub gno-next : (set : List ℕ) (s : List Entry) (type : ℕ) (body : List ℕ) (e : GtidEvent) (room : ℕ) → Bytes body → SetLaid set s → Names type body e
       → (e .gno ≡ 0) ⊎ (gnoTop ≤ e .gno) → offered (lentSet set) (eventOf type body) room ≡ Refused 15 0
 
--- ---- what else a refusal answers: `noEvent` is the record that is all zero
+-- ---- what else a refusal answers
 
 pub record Zeros (r : Refusal) : Type 0 where
+  -- the record that it hands out
+  pub no-event :
+      noEvent
+      ≡ record {
+        flags = 0;
+        sid = replicate 16 0;
+        gno = 0;
+        tag = replicate 32 0;
+        «tag_len» = 0;
+        «lc_typecode» = 0;
+        «last_committed» = 0;
+        «sequence_number» = 0;
+        «immediate_commit_timestamp» = 0;
+        «original_commit_timestamp» = 0;
+        «tx_length» = 0;
+        «immediate_server_version» = 0;
+        «original_server_version» = 0;
+        «commit_group_ticket» = 0;
+      }
   -- calls that read
   pub uint : uintRead (refuse r) ≡ record { refusal = number r; value = 0; next = 0 }
   pub int : intRead (refuse r) ≡ record { refusal = number r; value = pos 0; next = 0 }

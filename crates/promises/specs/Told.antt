@@ -4,6 +4,7 @@ use mathlib.Core.Path.{_≡_}
 use mathlib.Core.Bool.{true}
 use mathlib.Core.List.{List, _++_}
 use lib.ListN.{length}
+use Rattle.misc.specs.Pick.{pick}
 use Rattle.misc.specs.Parse.{Bytes}
 use Rattle.packets.specs.Key.{Key}
 use Rattle.previous_gtids_event.specs.Entry.{Entry}
@@ -34,7 +35,7 @@ pub record SetsTold : Type 0 where
       → (s : List Entry) × SetLaid (bodyBytes s) s × (eventText 35 body ≡ setText previousWord s) × ((k : Key) (n : ℕ) → has s k n ≡ has es k n)
   -- the archive says 1 of a member and 0 of any other id
   pub «gtid_contains» : (set uuid tag : List ℕ) (gno : ℕ) → length uuid ≡ 16 → noneOrTag tag ≡ true
-      → bit (contained (lentSet set) uuid tag gno .present) ≡ bit (member set (uuid ++ tag) gno)
+      → bit (contained (lentSet set) uuid tag gno .present) ≡ pick (member set (uuid ++ tag) gno) 1 0
   -- and its kinds are 0 for a refusal, 1 for "taken", 2 for "already there" and 3 for "no id"
   pub refused : (n len : ℕ) → numbersOf (Refused n len) ≡ record { refusal = n; kind = 0; len = len }
   pub taken : (len : ℕ) → numbersOf (Taken len) ≡ record { refusal = 0; kind = 1; len = len }

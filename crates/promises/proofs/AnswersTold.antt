@@ -1,0 +1,113 @@
+-- The statements of `specs/Answers.antt`.
+use Prim.Native.Nat.{ℕ, _+_, _≤_}
+use mathlib.Core.Path.{_≡_, ap}
+use mathlib.Core.Bool.{Bool}
+use mathlib.Core.List.{List, [], _∷_, _++_, append-nil}
+use mathlib.Core.Logic.{inl, inr}
+use native.Mathlib.Omega.{arith}
+use lib.ListN.{length, drop, length-append, length-drop}
+use borrow.Author.Tests.{le-leb, ne-eqb}
+use Rattle.misc.specs.Parse.{parsed, many}
+use Rattle.misc.specs.Signed.{signedAt}
+use Rattle.misc.specs.Forms.{Number}
+use Rattle.misc.specs.Body.{bodyLimit}
+use Rattle.misc.proofs.ParseLaws.{then-parsed}
+use Rattle.misc.proofs.Places.{From, from-next}
+use Rattle.misc.proofs.FormsRead.{form-some, form-reads, number-reads, lenenc-some, lenenc-reads}
+use Rattle.packets.specs.Gno.{interval}
+use Rattle.previous_gtids_event.specs.Entry.{Entry, entry}
+use Rattle.previous_gtids_event.specs.Layout.{EntryLaid, EntriesLaid}
+use Rattle.previous_gtids_event.specs.Previous.{intervalAt, entryAt}
+use Rattle.previous_gtids_event.proofs.Reading.{uuid-of, tag-of}
+use Rattle.previous_gtids_event.proofs.Laying.{entries-read}
+use Rattle.previous_gtids_event.proofs.RoundTrip.{header-told}
+use Rattle.gtid_event.specs.declared.GtidEvent.{GtidEvent}
+use Rattle.gtid_event_write.specs.Write.{lengthCap, lengthOf}
+use Rattle.listing.specs.EventText.{eventText}
+use Rattle.promises.specs.Meaning.{RecordLaid}
+use Rattle.promises.specs.Answers.{IntegersTold, EventsTold, BodiesTold, ListingTold}
+use Rattle.promises.proofs.Demand2.{laid-record-read, entries-mean}
+use Rattle.promises.proofs.IntegersExact.{write-writes}
+use Rattle.promises.proofs.EventExact.{event-refused}
+use Rattle.promises.proofs.SetsExact.{take-in-forced}
+
+-- a place where some bytes stand is inside
+stands : (s : List ℕ) (at : ℕ) (item rest : List ℕ) → 1 ≤ length item → drop at s ≡ item ++ rest → From s at (item ++ rest)
+stands s at item rest some is = record { is = is; inside = omega (arith, ap length is, length-drop at s, length-append item rest) }
+
+pub integers-told : IntegersTold
+unfolding signedAt
+integers-told = record {
+  fixed = λ w v s at item rest some number is. rw (number-reads s w at v item rest number (stands s at item rest (omega (arith, number .long)) is));
+  varlen = λ v s at item rest form is. rw (form-reads s at v item rest form (stands s at item rest (form-some form) is));
+  signed = λ v s at item rest form is. rw (form-reads s at v item rest form (stands s at item rest (form-some form) is));
+  lenenc = λ v s at item rest form is. rw (lenenc-reads s at v item rest form (stands s at item rest (lenenc-some v item form) is));
+}
+
+pub events-told : EventsTold
+unfolding lengthOf lengthCap
+events-told = record {
+  read = λ type body e used laid. rw (laid-record-read type body e used laid);
+  unread = λ type body e used laid. rw (laid-record-read type body e used laid);
+  length-of = λ e bs w. let (can, is) = write-writes e bs w in rw (can, is);
+}
+
+-- ---- Previous-GTIDs
+
+module _ (body : List ℕ) (at : ℕ) where
+  -- as a list of one
+  entry-reads : (tagged : Bool) (e : Entry) (laid rest : List ℕ) → EntryLaid tagged e laid → From body at (laid ++ rest)
+      → entryAt tagged body at ≡ parsed e (at + length laid)
+  unfolding many
+  entry-reads tagged e laid rest is from =
+      let one : EntriesLaid tagged (e ∷ []) laid = rw append-nil at (EntriesLaid.more is EntriesLaid.none) in
+      let (a, next, read, end) = then-parsed (entryAt tagged body at) _ (e ∷ []) (at + length laid) (entries-read body tagged (e ∷ []) laid one at rest from) in
+      cc
+
+  interval-reads : (start end : ℕ) (a b rest : List ℕ) → Number 8 start a → Number 8 end b → From body at (a ++ (b ++ rest))
+      → intervalAt body at ≡ parsed (interval start end) (at + 8 + 8)
+  unfolding intervalAt
+  interval-reads start end a b rest x y h =
+      let second : From body (at + 8) (b ++ rest) = rw (x .long) at (from-next body at a (b ++ rest) h) in
+      rw (number-reads body 8 at start a (b ++ rest) x h, number-reads body 8 (at + 8) end b rest y second)
+
+entry-some : {tagged : Bool} {e : Entry} (laid : List ℕ) → EntryLaid tagged e laid → 1 ≤ length laid
+entry-some laid (EntryLaid.parts uuid {bytes = tag} {count = count} {intervals = list} sixteen _ _ _) =
+    omega (arith, length-append uuid (tag ++ (count ++ list)))
+
+pub bodies-told : BodiesTold
+unfolding bodyLimit
+bodies-told = record {
+  read = λ body es used are short laid. rw (entries-mean body es used are short .1 laid);
+  unread = λ body es used are short laid. rw (entries-mean body es used are short .1 laid);
+  header = λ body tagged n laid rest are short is whole. header-told body are short tagged n laid rest whole is;
+  entry = λ body at tagged uuid tag is laid rest short sixteen this there.
+      rw (
+        le-leb (length body) bodyLimit short,
+        entry-reads body at tagged (entry (uuid ++ tag) is) laid rest this (stands body at laid rest (entry-some laid this) there),
+        uuid-of uuid tag sixteen,
+        tag-of uuid tag sixteen,
+      );
+  interval = λ body at start end a b rest short x y is.
+      rw (
+        le-leb (length body) bodyLimit short,
+        interval-reads body at start end a b rest x y (stands body at a (b ++ rest) (omega (arith, x .long)) is),
+      );
+}
+
+-- ---- the listing
+
+not-35 : (type : ℕ) {body : List ℕ} {e : GtidEvent} {used : ℕ} → RecordLaid type body e used → type ≡ 35 → ⊥
+not-35 type (RecordLaid.untagged _ (inl is) _) other = omega arith
+not-35 type (RecordLaid.untagged _ (inr is) _) other = omega arith
+not-35 type (RecordLaid.tagged _ is _) other = omega arith
+
+pub listing-told : ListingTold
+unfolding eventText
+listing-told = record {
+  refused-event = λ type body n other fault. let (r, e, is) = event-refused type body n fault in rw (ne-eqb type 35 other, e, is);
+  refused-body = λ body n are fault. let (r, e, is) = take-in-forced body are n fault in rw (e, is);
+  named = λ type body e n.
+      rw (ne-eqb type 35 (not-35 type (n .laid)), laid-record-read type body e (n .used) (n .laid), ne-eqb type 34 (n .named));
+  anonymous = λ body e used laid. rw (laid-record-read 34 body e used laid);
+}

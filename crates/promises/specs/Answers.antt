@@ -1,0 +1,86 @@
+-- What a call answers that doesn't refuse, by the layouts: every part of the answer.
+use Prim.Native.Nat.{ℕ, _+_, _-_, _*_, _^_, _≤_, min}
+use mathlib.Core.Path.{_≡_}
+use mathlib.Core.Bool.{Bool}
+use mathlib.Core.List.{List, [], _∷_, _++_}
+use lib.ListN.{length, drop}
+use Rattle.misc.specs.Parse.{Bytes, uintRead}
+use Rattle.misc.specs.Le.{leAt}
+use Rattle.misc.specs.Varlen.{varlenAt}
+use Rattle.misc.specs.Signed.{meantBy, signedAt, intRead}
+use Rattle.misc.specs.Lenenc.{lenencAt}
+use Rattle.misc.specs.Forms.{Number, Form, LenencForm}
+use Rattle.misc.specs.Body.{bodyLimit, ofBody, unreadOf}
+use Rattle.misc.specs.Output.{bytes}
+use Rattle.packets.specs.Kept.{padded}
+use Rattle.packets.specs.Gno.{Interval}
+use Rattle.previous_gtids_event.specs.Entry.{Entry, entry}
+use Rattle.previous_gtids_event.specs.Layout.{HeaderLaid, EntryLaid, BodyLaid}
+use Rattle.previous_gtids_event.specs.Previous.{intervalAt, entryAt, previous}
+use Rattle.previous_gtids_event.specs.Answers.{previousRead, headerRead, entryRead, intervalRead}
+use Rattle.gtid_event.specs.declared.GtidEvent.{GtidEvent}
+use Rattle.gtid_event_read.specs.Read.{gtid, gtidRead}
+use Rattle.gtid_event_write.specs.Write.{eventOutput, lengthOf}
+use Rattle.listing.specs.SetText.{newline}
+use Rattle.listing.specs.EventText.{anonymousWord, refusedText, idText, eventText}
+use Rattle.promises.specs.Meaning.{RecordLaid}
+use Rattle.promises.specs.Faults.{EventFault}
+use Rattle.promises.specs.SetFaults.{Names, TakeInFault}
+
+-- ---- integers: `item` stands at a place of the bytes
+
+pub record IntegersTold : Type 0 where
+  pub fixed : (w v : ℕ) (s : List ℕ) (at : ℕ) (item rest : List ℕ) → 1 ≤ w → Number w v item → drop at s ≡ item ++ rest
+      → uintRead (leAt w s at) ≡ record { refusal = 0; value = v; next = at + w }
+  pub varlen : (v : ℕ) (s : List ℕ) (at : ℕ) (item rest : List ℕ) → Form v item → drop at s ≡ item ++ rest
+      → uintRead (varlenAt s at) ≡ record { refusal = 0; value = v; next = at + length item }
+  pub signed : (v : ℕ) (s : List ℕ) (at : ℕ) (item rest : List ℕ) → Form v item → drop at s ≡ item ++ rest
+      → intRead (signedAt s at) ≡ record { refusal = 0; value = meantBy v; next = at + length item }
+  pub lenenc : (v : ℕ) (s : List ℕ) (at : ℕ) (item rest : List ℕ) → LenencForm v item → drop at s ≡ item ++ rest
+      → uintRead (lenencAt s at) ≡ record { refusal = 0; value = v; next = at + length item }
+
+-- ---- records
+
+pub record EventsTold : Type 0 where
+  pub read : (type : ℕ) (body : List ℕ) (e : GtidEvent) (used : ℕ) → RecordLaid type body e used
+      → gtidRead (gtid type body) ≡ record { refusal = 0; used = used; event = e }
+  pub unread : (type : ℕ) (body : List ℕ) (e : GtidEvent) (used : ℕ) → RecordLaid type body e used
+      → unreadOf body (gtid type body) ≡ drop used body
+  -- the length is that of the bytes written, capped at 2^32-1-19
+  pub length-of : (e : GtidEvent) (bs : List ℕ) → eventOutput e ≡ bytes bs
+      → lengthOf e ≡ record { refusal = 0; len = min (length bs) (2 ^ 32 - 1 - 19) }
+
+-- ---- Previous-GTIDs
+
+pub record BodiesTold : Type 0 where
+  pub read : (body : List ℕ) (es : List Entry) (used : ℕ) → Bytes body → length body ≤ bodyLimit → BodyLaid body es used
+      → previousRead (previous body) ≡ record { refusal = 0; used = used; entries = length es }
+  pub unread : (body : List ℕ) (es : List Entry) (used : ℕ) → Bytes body → length body ≤ bodyLimit → BodyLaid body es used
+      → unreadOf body (previous body) ≡ drop used body
+  pub header : (body : List ℕ) (tagged : Bool) (n : ℕ) (laid rest : List ℕ) → Bytes body → length body ≤ bodyLimit → HeaderLaid tagged n laid → body ≡ laid ++ rest
+      → headerRead (ofBody body (leAt 8 body 0)) ≡ record { refusal = 0; tagged = tagged; entries = n }
+  -- an entry's parts, where its intervals begin, and where it ends
+  pub entry : (body : List ℕ) (at : ℕ) (tagged : Bool) (uuid tag : List ℕ) (is : List Interval) (laid rest : List ℕ) → length body ≤ bodyLimit
+      → length uuid ≡ 16 → EntryLaid tagged (entry (uuid ++ tag) is) laid → drop at body ≡ laid ++ rest
+      → entryRead (ofBody body (entryAt tagged body at))
+      ≡ record {
+        refusal = 0;
+        uuid = uuid;
+        tag = padded 32 tag;
+        «tag_len» = length tag;
+        intervals = length is;
+        first = at + length laid - 16 * length is;
+        next = at + length laid;
+      }
+  pub interval : (body : List ℕ) (at start end : ℕ) (a b rest : List ℕ) → length body ≤ bodyLimit → Number 8 start a → Number 8 end b
+      → drop at body ≡ a ++ (b ++ rest)
+      → intervalRead (ofBody body (intervalAt body at)) ≡ record { refusal = 0; start = start; end = end }
+
+-- ---- the listing: beside a Previous-GTIDs event that is taken in, which `Told` has
+
+pub record ListingTold : Type 0 where
+  pub refused-event : (type : ℕ) (body : List ℕ) (n : ℕ) → (type ≡ 35 → ⊥) → EventFault type body n → eventText type body ≡ refusedText n
+  pub refused-body : (body : List ℕ) (n : ℕ) → Bytes body → TakeInFault body n → eventText 35 body ≡ refusedText n
+  pub named : (type : ℕ) (body : List ℕ) (e : GtidEvent) → Names type body e → eventText type body ≡ idText e
+  pub anonymous : (body : List ℕ) (e : GtidEvent) (used : ℕ) → RecordLaid 34 body e used
+      → eventText 34 body ≡ anonymousWord ++ (newline ∷ [])
