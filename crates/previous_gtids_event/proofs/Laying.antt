@@ -60,7 +60,7 @@ header-reads s bs rest laid are h =
 -- ---- entries
 
 module _ (s : List ℕ) where
-  interval-reads : (at start end : ℕ) (a b rest : List ℕ) → Number 8 start a → Number 8 end b → From s at (a ++ (b ++ rest))
+  pub interval-reads : (at start end : ℕ) (a b rest : List ℕ) → Number 8 start a → Number 8 end b → From s at (a ++ (b ++ rest))
       → (intervalAt s at ≡ parsed (interval start end) (at + 8 + 8)) × From s (at + 8 + 8) rest
   unfolding intervalAt
   interval-reads at start end a b rest x y h =
@@ -97,7 +97,7 @@ module _ (s : List ℕ) where
   pub uuid-there : (at : ℕ) (uuid rest : List ℕ) → length uuid ≡ 16 → From s at (uuid ++ rest) → (at + 16 ≤ length s) × From s (at + 16) rest
   uuid-there at uuid rest sixteen h = (omega (arith, from-room s at uuid rest h), rw sixteen at (from-next s at uuid rest h))
 
-  entry-reads : (tagged : Bool) (at : ℕ) (e : Entry) (bs rest : List ℕ) → EntryLaid tagged e bs → From s at (bs ++ rest) → entryAt tagged s at ≡ parsed e (at + length bs)
+  pub entry-reads : (tagged : Bool) (at : ℕ) (e : Entry) (bs rest : List ℕ) → EntryLaid tagged e bs → From s at (bs ++ rest) → entryAt tagged s at ≡ parsed e (at + length bs)
   unfolding entryAt headAt keyAt
   entry-reads tagged at e bs rest (EntryLaid.parts uuid {tag = t} {bytes = tag} {count = count} {intervals = list} {is = is} sixteen tag-is count-is list-is) h =
       let flat : From s at (uuid ++ (tag ++ (count ++ (list ++ rest)))) = simp append-assoc at h in

@@ -1,28 +1,24 @@
 -- The statements of `specs/Answers.antt`.
-use Prim.Native.Nat.{ℕ, _+_, _≤_}
+use Prim.Native.Nat.{ℕ, _+_, _*_, _/_, _%_, _≤_}
 use mathlib.Core.Path.{_≡_, ap}
 use mathlib.Core.Bool.{Bool}
-use mathlib.Core.List.{List, [], _∷_, _++_, append-nil}
+use mathlib.Core.List.{List, _++_}
 use mathlib.Core.Logic.{inl, inr}
 use native.Mathlib.Omega.{arith}
 use lib.ListN.{length, drop, length-append, length-drop}
 use borrow.Author.Tests.{le-leb, ne-eqb}
-use Rattle.misc.specs.Parse.{parsed, many}
-use Rattle.misc.specs.Signed.{signedAt}
-use Rattle.misc.specs.Forms.{Number}
+use Rattle.misc.specs.Signed.{meantBy, signedAt, naturalAt}
 use Rattle.misc.specs.Body.{bodyLimit}
-use Rattle.misc.proofs.ParseLaws.{then-parsed}
-use Rattle.misc.proofs.Places.{From, from-next}
+use Rattle.misc.proofs.Places.{From}
 use Rattle.misc.proofs.FormsRead.{form-some, form-reads, number-reads, lenenc-some, lenenc-reads}
-use Rattle.packets.specs.Gno.{interval}
 use Rattle.previous_gtids_event.specs.Entry.{Entry, entry}
-use Rattle.previous_gtids_event.specs.Layout.{EntryLaid, EntriesLaid}
-use Rattle.previous_gtids_event.specs.Previous.{intervalAt, entryAt}
+use Rattle.previous_gtids_event.specs.Layout.{EntryLaid}
 use Rattle.previous_gtids_event.proofs.Reading.{uuid-of, tag-of}
-use Rattle.previous_gtids_event.proofs.Laying.{entries-read}
+use Rattle.previous_gtids_event.proofs.Laying.{entry-reads, interval-reads}
 use Rattle.previous_gtids_event.proofs.RoundTrip.{header-told}
 use Rattle.gtid_event.specs.declared.GtidEvent.{GtidEvent}
 use Rattle.gtid_event_write.specs.Write.{lengthCap, lengthOf}
+use Rattle.resume_set.specs.Answers.{eventOf}
 use Rattle.listing.specs.EventText.{eventText}
 use Rattle.promises.specs.Meaning.{RecordLaid}
 use Rattle.promises.specs.Answers.{IntegersTold, EventsTold, BodiesTold, ListingTold}
@@ -35,41 +31,41 @@ use Rattle.promises.proofs.SetsExact.{take-in-forced}
 stands : (s : List ℕ) (at : ℕ) (item rest : List ℕ) → 1 ≤ length item → drop at s ≡ item ++ rest → From s at (item ++ rest)
 stands s at item rest some is = record { is = is; inside = omega (arith, ap length is, length-drop at s, length-append item rest) }
 
+even : (n : ℕ) → n * 2 % 2 ≡ 0
+even n = omega arith
+
+half : (n : ℕ) → n * 2 / 2 ≡ n
+half n = omega arith
+
+odd : (n : ℕ) → (n * 2 + 1) % 2 ≡ 1
+odd n = omega arith
+
+half-odd : (n : ℕ) → (n * 2 + 1) / 2 ≡ n
+half-odd n = omega arith
+
 pub integers-told : IntegersTold
-unfolding signedAt
+unfolding signedAt naturalAt meantBy
 integers-told = record {
   fixed = λ w v s at item rest some number is. rw (number-reads s w at v item rest number (stands s at item rest (omega (arith, number .long)) is));
   varlen = λ v s at item rest form is. rw (form-reads s at v item rest form (stands s at item rest (form-some form) is));
-  signed = λ v s at item rest form is. rw (form-reads s at v item rest form (stands s at item rest (form-some form) is));
+  positive = λ n s at item rest form is. rw (form-reads s at (n * 2) item rest form (stands s at item rest (form-some form) is), even n, half n);
+  negative = λ n s at item rest form is.
+      rw (form-reads s at (n * 2 + 1) item rest form (stands s at item rest (form-some form) is), odd n, half-odd n);
+  natural = λ n s at item rest form is. rw (form-reads s at (n * 2) item rest form (stands s at item rest (form-some form) is), even n, half n);
   lenenc = λ v s at item rest form is. rw (lenenc-reads s at v item rest form (stands s at item rest (lenenc-some v item form) is));
 }
 
 pub events-told : EventsTold
-unfolding lengthOf lengthCap
+unfolding lengthOf lengthCap eventOf
 events-told = record {
   read = λ type body e used laid. rw (laid-record-read type body e used laid);
   unread = λ type body e used laid. rw (laid-record-read type body e used laid);
   length-of = λ e bs w. let (can, is) = write-writes e bs w in rw (can, is);
+  named = λ type body e n. rw (laid-record-read type body e (n .used) (n .laid), ne-eqb type 34 (n .named));
+  unnamed = λ body e used laid. rw (laid-record-read 34 body e used laid);
 }
 
 -- ---- Previous-GTIDs
-
-module _ (body : List ℕ) (at : ℕ) where
-  -- as a list of one
-  entry-reads : (tagged : Bool) (e : Entry) (laid rest : List ℕ) → EntryLaid tagged e laid → From body at (laid ++ rest)
-      → entryAt tagged body at ≡ parsed e (at + length laid)
-  unfolding many
-  entry-reads tagged e laid rest is from =
-      let one : EntriesLaid tagged (e ∷ []) laid = rw append-nil at (EntriesLaid.more is EntriesLaid.none) in
-      let (a, next, read, end) = then-parsed (entryAt tagged body at) _ (e ∷ []) (at + length laid) (entries-read body tagged (e ∷ []) laid one at rest from) in
-      cc
-
-  interval-reads : (start end : ℕ) (a b rest : List ℕ) → Number 8 start a → Number 8 end b → From body at (a ++ (b ++ rest))
-      → intervalAt body at ≡ parsed (interval start end) (at + 8 + 8)
-  unfolding intervalAt
-  interval-reads start end a b rest x y h =
-      let second : From body (at + 8) (b ++ rest) = rw (x .long) at (from-next body at a (b ++ rest) h) in
-      rw (number-reads body 8 at start a (b ++ rest) x h, number-reads body 8 (at + 8) end b rest y second)
 
 entry-some : {tagged : Bool} {e : Entry} (laid : List ℕ) → EntryLaid tagged e laid → 1 ≤ length laid
 entry-some laid (EntryLaid.parts uuid {bytes = tag} {count = count} {intervals = list} sixteen _ _ _) =
@@ -84,14 +80,14 @@ bodies-told = record {
   entry = λ body at tagged uuid tag is laid rest short sixteen this there.
       rw (
         le-leb (length body) bodyLimit short,
-        entry-reads body at tagged (entry (uuid ++ tag) is) laid rest this (stands body at laid rest (entry-some laid this) there),
+        entry-reads body tagged at (entry (uuid ++ tag) is) laid rest this (stands body at laid rest (entry-some laid this) there),
         uuid-of uuid tag sixteen,
         tag-of uuid tag sixteen,
       );
   interval = λ body at start end a b rest short x y is.
       rw (
         le-leb (length body) bodyLimit short,
-        interval-reads body at start end a b rest x y (stands body at a (b ++ rest) (omega (arith, x .long)) is),
+        interval-reads body at start end a b rest x y (stands body at a (b ++ rest) (omega (arith, x .long)) is) .0,
       );
 }
 

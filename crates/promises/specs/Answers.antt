@@ -4,10 +4,11 @@ use mathlib.Core.Path.{_≡_}
 use mathlib.Core.Bool.{Bool}
 use mathlib.Core.List.{List, [], _∷_, _++_}
 use lib.ListN.{length, drop}
+use lib.IntN.{pos, negsuc}
 use Rattle.misc.specs.Parse.{Bytes, uintRead}
 use Rattle.misc.specs.Le.{leAt}
 use Rattle.misc.specs.Varlen.{varlenAt}
-use Rattle.misc.specs.Signed.{meantBy, signedAt, intRead}
+use Rattle.misc.specs.Signed.{signedAt, naturalAt, intRead}
 use Rattle.misc.specs.Lenenc.{lenencAt}
 use Rattle.misc.specs.Forms.{Number, Form, LenencForm}
 use Rattle.misc.specs.Body.{bodyLimit, ofBody, unreadOf}
@@ -21,11 +22,13 @@ use Rattle.previous_gtids_event.specs.Answers.{previousRead, headerRead, entryR
 use Rattle.gtid_event.specs.declared.GtidEvent.{GtidEvent}
 use Rattle.gtid_event_read.specs.Read.{gtid, gtidRead}
 use Rattle.gtid_event_write.specs.Write.{eventOutput, lengthOf}
+use Rattle.gtid_sets.specs.Run.{names, anonymous}
+use Rattle.resume_set.specs.Answers.{eventOf}
 use Rattle.listing.specs.SetText.{newline}
 use Rattle.listing.specs.EventText.{anonymousWord, refusedText, idText, eventText}
 use Rattle.promises.specs.Meaning.{RecordLaid}
 use Rattle.promises.specs.Faults.{EventFault}
-use Rattle.promises.specs.SetFaults.{Names, TakeInFault}
+use Rattle.promises.specs.SetFaults.{keyOf, Names, TakeInFault}
 
 -- ---- integers: `item` stands at a place of the bytes
 
@@ -34,8 +37,13 @@ pub record IntegersTold : Type 0 where
       → uintRead (leAt w s at) ≡ record { refusal = 0; value = v; next = at + w }
   pub varlen : (v : ℕ) (s : List ℕ) (at : ℕ) (item rest : List ℕ) → Form v item → drop at s ≡ item ++ rest
       → uintRead (varlenAt s at) ≡ record { refusal = 0; value = v; next = at + length item }
-  pub signed : (v : ℕ) (s : List ℕ) (at : ℕ) (item rest : List ℕ) → Form v item → drop at s ≡ item ++ rest
-      → intRead (signedAt s at) ≡ record { refusal = 0; value = meantBy v; next = at + length item }
+  pub positive : (n : ℕ) (s : List ℕ) (at : ℕ) (item rest : List ℕ) → Form (n * 2) item → drop at s ≡ item ++ rest
+      → intRead (signedAt s at) ≡ record { refusal = 0; value = pos n; next = at + length item }
+  -- `negsuc n` is - (n + 1)
+  pub negative : (n : ℕ) (s : List ℕ) (at : ℕ) (item rest : List ℕ) → Form (n * 2 + 1) item → drop at s ≡ item ++ rest
+      → intRead (signedAt s at) ≡ record { refusal = 0; value = negsuc n; next = at + length item }
+  pub natural : (n : ℕ) (s : List ℕ) (at : ℕ) (item rest : List ℕ) → Form (n * 2) item → drop at s ≡ item ++ rest
+      → uintRead (naturalAt s at) ≡ record { refusal = 0; value = n; next = at + length item }
   pub lenenc : (v : ℕ) (s : List ℕ) (at : ℕ) (item rest : List ℕ) → LenencForm v item → drop at s ≡ item ++ rest
       → uintRead (lenencAt s at) ≡ record { refusal = 0; value = v; next = at + length item }
 
@@ -49,6 +57,9 @@ pub record EventsTold : Type 0 where
   -- the length is that of the bytes written, capped at 2^32-1-19
   pub length-of : (e : GtidEvent) (bs : List ℕ) → eventOutput e ≡ bytes bs
       → lengthOf e ≡ record { refusal = 0; len = min (length bs) (2 ^ 32 - 1 - 19) }
+  -- the id that an offer sees
+  pub named : (type : ℕ) (body : List ℕ) (e : GtidEvent) → Names type body e → eventOf type body ≡ names (keyOf e) (e .gno)
+  pub unnamed : (body : List ℕ) (e : GtidEvent) (used : ℕ) → RecordLaid 34 body e used → eventOf 34 body ≡ anonymous
 
 -- ---- Previous-GTIDs
 
