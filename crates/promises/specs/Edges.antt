@@ -1,21 +1,26 @@
 -- Both sides of each edge: what the definitions give, beside what the rules say. One table, under one statement.
 use Prim.Native.Nat.{ℕ, _+_, _-_, _^_}
 use mathlib.Core.Path.{_≡_}
-use mathlib.Core.Bool.{true}
-use mathlib.Core.List.{List, [], _∷_, _++_}
+use mathlib.Core.Bool.{Bool, true}
+use mathlib.Core.List.{List, [], _∷_, _++_, map}
 use lib.IntN.{pos, negsuc}
 use lib.ListN.{length, replicate}
 use Rattle.misc.specs.Parse.{Parse, refuse, parsed}
+use Rattle.misc.specs.Lenenc.{lenencBytes}
 use Rattle.misc.specs.Varlen.{varlenAt, varlenSize, varlenBytes}
 use Rattle.misc.specs.Signed.{sentAs}
 use Rattle.packets.specs.Gno.{Interval, interval}
 use Rattle.packets.specs.Kept.{padded}
+use Rattle.packets.specs.Tag.{isTag}
 use Rattle.previous_gtids_event.specs.Entry.{Entry, entry}
 use Rattle.previous_gtids_event.specs.Rewrite.{headerBytes}
+use Rattle.gtid_event.specs.Event.{fresh, setNumber, setTag}
 use Rattle.gtid_event.specs.declared.GtidEvent.{GtidEvent}
 use Rattle.gtid_event_write.specs.Size.{payloadSize}
 use Rattle.gtid_event_write.specs.Write.{eventBytes}
 use Rattle.gtid_sets.specs.Set.{add}
+use Rattle.abi.specs.Answers.{bit}
+use Rattle.abi.specs.Flat.{flat, flatRead}
 
 -- a row: what a definition gives, and what the rules say
 pub record Edge : Type 0 where
@@ -26,6 +31,10 @@ pub record Edge : Type 0 where
 
 abbrev only : ℕ → List ℕ
 only n = n ∷ []
+
+-- 1 for true and 0 for false
+abbrev truth : Bool → List ℕ
+truth b = only (bit b)
 
 -- a value that was read, and the bytes that it took; a refusal has neither
 abbrev readAs : Parse ℕ → List ℕ
@@ -61,19 +70,60 @@ small =
       «commit_group_ticket» = 0;
     }
 
--- and its bytes: the envelope, then flags, uuid, gno, tag, last_committed, sequence_number, timestamp, transaction length, server version
-abbrev smallBytes : List ℕ
-smallBytes =
-    (2 ∷ 74 ∷ 0 ∷ [])
+-- its bytes: the envelope with the size as it is sent, then flags, uuid, gno, tag, last_committed, sequence_number, and what follows
+abbrev smallThen : ℕ → List ℕ → List ℕ
+smallThen size rest =
+    (2 ∷ size ∷ 0 ∷ [])
     ++ (0 ∷ 0 ∷ [])
     ++ (2 ∷ replicate 16 0)
     ++ (4 ∷ 4 ∷ [])
     ++ (6 ∷ 2 ∷ 97 ∷ [])
     ++ (8 ∷ 0 ∷ [])
     ++ (10 ∷ 4 ∷ [])
-    ++ (12 ∷ 0 ∷ [])
-    ++ (16 ∷ 0 ∷ [])
-    ++ (18 ∷ 0 ∷ [])
+    ++ rest
+
+-- timestamp, transaction length and server version follow
+abbrev smallBytes : List ℕ
+smallBytes = smallThen 74 (12 ∷ 0 ∷ 16 ∷ 0 ∷ 18 ∷ 0 ∷ [])
+
+-- `small` with immediate timestamp and version 1, one original for both, and a ticket
+abbrev smallWith : ℕ → ℕ → GtidEvent
+smallWith original ticket = setNumber 6 1 (setNumber 7 original (setNumber 9 1 (setNumber 10 original (setNumber 11 ticket small))))
+
+-- untagged: zero uuid, gno 1, typecode 2, timestamp 258 and the original, transaction length 300, version 80400 and the original
+abbrev plain : ℕ → ℕ → GtidEvent
+plain timestamp version =
+    setNumber 6 258 (setNumber 7 timestamp (setNumber 8 300 (setNumber 9 80400 (setNumber 10 version (fresh (replicate 16 0) 1 2 0)))))
+
+-- its bytes: flags and uuid, gno, typecode, last_committed and sequence_number; timestamp and version have this top byte
+abbrev plainBytes : ℕ → List ℕ → List ℕ → List ℕ
+plainBytes top timestamp version =
+    replicate 17 0 ++ (1 ∷ replicate 7 0) ++ (2 ∷ replicate 16 0)
+    ++ (2 ∷ 1 ∷ 0 ∷ 0 ∷ 0 ∷ 0 ∷ top ∷ timestamp)
+    ++ (0xFC ∷ 0x2C ∷ 1 ∷ [])
+    ++ (0x10 ∷ 0x3A ∷ 1 ∷ top ∷ version)
+
+-- a record whose fields all differ
+abbrev full : GtidEvent
+full =
+    setTag (97 ∷ 98 ∷ 99 ∷ []) (setNumber 0 21 (setNumber 4 0x0506 (setNumber 5 0x0708 (setNumber 6 0x090A (setNumber 7 0x0B0C
+    (setNumber 8 0x0D0E (setNumber 9 0x0F10 (setNumber 10 0x1112 (setNumber 11 0x1314 (fresh (22 ∷ replicate 15 23) 0x0304 2 0))))))))))
+
+-- eight bytes, the lowest first: two, and six zeros
+abbrev eight : ℕ → ℕ → List ℕ
+eight low high = low ∷ high ∷ replicate 6 0
+
+-- the places that bindings/c/gtid.h names: flags and uuid, gno, tag, typecode, four numbers, transaction length, versions, ticket
+abbrev fullBytes : List ℕ
+fullBytes =
+    (21 ∷ 22 ∷ replicate 15 23)
+    ++ eight 4 3
+    ++ (3 ∷ 97 ∷ 98 ∷ 99 ∷ replicate 29 0)
+    ++ (1 ∷ 2 ∷ [])
+    ++ eight 6 5 ++ eight 8 7 ++ eight 10 9 ++ eight 12 11
+    ++ eight 14 13
+    ++ (16 ∷ 15 ∷ 0 ∷ 0 ∷ 18 ∷ 17 ∷ 0 ∷ 0 ∷ [])
+    ++ eight 20 19
 
 -- ---- the table
 
@@ -112,9 +162,43 @@ edges =
     ∷ edge (firstPairs (add (replicate 16 0) 6 (entry (replicate 16 0) (interval 1 6 ∷ interval 7 8 ∷ []) ∷ []))) (1 ∷ 8 ∷ [])
     -- tagged header for one entry: 01 01 00 00 00 00 00 01
     ∷ edge (headerBytes true 1) (1 ∷ 1 ∷ 0 ∷ 0 ∷ 0 ∷ 0 ∷ 0 ∷ 1 ∷ [])
+    -- "a", "a0" and "z_9" are tags; nothing, "A" and a digit first aren't
+    ∷ edge (truth (isTag (97 ∷ []))) (only 1)
+    ∷ edge (truth (isTag (97 ∷ 48 ∷ []))) (only 1)
+    ∷ edge (truth (isTag (122 ∷ 95 ∷ 57 ∷ []))) (only 1)
+    ∷ edge (truth (isTag [])) (only 0)
+    ∷ edge (truth (isTag (65 ∷ []))) (only 0)
+    ∷ edge (truth (isTag (48 ∷ 97 ∷ []))) (only 0)
+    -- "a" with a neighbour of letters, digits or underscore isn't: 96 and 123, 47 and 58, 94
+    ∷ edge (truth (isTag (97 ∷ 96 ∷ []))) (only 0)
+    ∷ edge (truth (isTag (97 ∷ 123 ∷ []))) (only 0)
+    ∷ edge (truth (isTag (97 ∷ 47 ∷ []))) (only 0)
+    ∷ edge (truth (isTag (97 ∷ 58 ∷ []))) (only 0)
+    ∷ edge (truth (isTag (97 ∷ 94 ∷ []))) (only 0)
+    -- 32 underscores are a tag, 33 aren't
+    ∷ edge (truth (isTag (replicate 32 95))) (only 1)
+    ∷ edge (truth (isTag (replicate 33 95))) (only 0)
+    -- length-encoded: 250 is FA; 251 is FC FB 00; 2^16-1 is FC FF FF; 2^16 is FD 00 00 01
+    ∷ edge (lenencBytes 250) (0xFA ∷ [])
+    ∷ edge (lenencBytes 251) (0xFC ∷ 0xFB ∷ 0 ∷ [])
+    ∷ edge (lenencBytes 65535) (0xFC ∷ ones 2)
+    ∷ edge (lenencBytes 65536) (0xFD ∷ 0 ∷ 0 ∷ 1 ∷ [])
+    -- 2^24-1 is FD FF FF FF; 2^24 is FE 00 00 00 01 00 00 00 00
+    ∷ edge (lenencBytes (2 ^ 24 - 1)) (0xFD ∷ ones 3)
+    ∷ edge (lenencBytes (2 ^ 24)) (0xFE ∷ 0 ∷ 0 ∷ 0 ∷ 1 ∷ replicate 4 0)
+    -- untagged, equal originals: bits 55 and 31 are clear, one of each is sent; others: the bits are set, both are sent
+    ∷ edge (eventBytes (plain 258 80400)) (plainBytes 0 [] [])
+    ∷ edge (eventBytes (plain 259 80401)) (plainBytes 0x80 (3 ∷ 1 ∷ replicate 5 0) (0x11 ∷ 0x3A ∷ 1 ∷ 0 ∷ []))
+    -- tagged, other originals and a ticket: 43 bytes with fields 7, 10 and 11; equal originals and no ticket: 37 without them
+    ∷ edge (eventBytes (smallWith 2 3)) (smallThen 86 (12 ∷ 2 ∷ 14 ∷ 4 ∷ 16 ∷ 0 ∷ 18 ∷ 2 ∷ 20 ∷ 4 ∷ 22 ∷ 6 ∷ []))
+    ∷ edge (only (length (eventBytes (smallWith 2 3)))) (only 43)
+    ∷ edge (eventBytes (smallWith 1 0)) (smallThen 74 (12 ∷ 2 ∷ 16 ∷ 0 ∷ 18 ∷ 2 ∷ []))
+    -- a record as 116 bytes, and back
+    ∷ edge (flat full) fullBytes
+    ∷ edge (flat (flatRead fullBytes)) fullBytes
+    ∷ edge (only (length fullBytes)) (only 116)
     ∷ []
 
--- every row agrees
+-- every row agrees: the two columns are equal
 abbrev pub Agree : List Edge → Type 0
-Agree [] = Unit {0}
-Agree (e ∷ es) = (e .gives ≡ e .says) × Agree es
+Agree rows = map (λ e. e .gives) rows ≡ map (λ e. e .says) rows
