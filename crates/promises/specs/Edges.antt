@@ -1,4 +1,4 @@
--- Both sides of each edge: what the definitions give, beside what the rules say. One table, under one statement.
+-- Both sides of each edge, and other rows computed whole: what the definitions give, beside what the rules say. One table, under one statement.
 use Prim.Native.Nat.{ℕ, _+_, _-_, _^_}
 use mathlib.Core.Path.{_≡_}
 use mathlib.Core.Bool.{Bool, true}

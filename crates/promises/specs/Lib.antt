@@ -1,4 +1,4 @@
--- The page to read first, in this order. The edges that the rules name (`Edges`). The layouts, which name no parser: untagged and tagged records
+-- The page to read first, in this order. The edges that the rules name, and other rows computed whole (`Edges`). The layouts, which name no parser: untagged and tagged records
 -- (`UntaggedLayout`, `TaggedLayout`); integers are laid out in `Forms` of misc, Previous-GTIDs bodies in `Layout` of previous_gtids_event, and sets are
 -- `SetLaid` of `Lent` of gtid_sets. Demand 2, of any reader and writer, over them (`Meaning`).
 -- Demand 1, the table of refusals, over the same layouts: events (`Faults`), bodies (`BodyFaults`), integers, parts of bodies and calls that write
