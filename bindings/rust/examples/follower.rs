@@ -49,13 +49,17 @@ fn follow(events: &Path, tool: &Path, saved: &Path) -> Result<(), Failure> {
         match transaction {
             [gtid, rows @ .., (XID_EVENT, _)] => step(*gtid, rows, &mut tool, &mut set, saved)?,
             [(XID_EVENT, _)] => return Err("the end of a transaction without one".into()),
-            [(first, _), .., (STOP_EVENT | ROTATE_EVENT, _)] if GTID_EVENTS.contains(first) => {
+            [left @ .., (STOP_EVENT | ROTATE_EVENT, _)] if left.iter().any(is_gtid) => {
                 return Err(UNENDED.into()); // and none will come: the file is closed
             }
             _ => {} // the last one isn't complete: the next run offers it
         }
     }
     Ok(())
+}
+
+fn is_gtid((event_type, _): &Event) -> bool {
+    GTID_EVENTS.contains(event_type)
 }
 
 fn named(path: &Path, error: io::Error) -> String {
@@ -71,7 +75,7 @@ fn step(
     set: &mut ResumeSet,
     saved: &Path,
 ) -> Result<(), Failure> {
-    if rows.iter().any(|(row, _)| GTID_EVENTS.contains(row)) {
+    if rows.iter().any(is_gtid) {
         return Err(UNENDED.into());
     }
     let offer = set.offer(event_type, body)?;
