@@ -11,6 +11,7 @@ use borrow.Author.Tests.{le-leb, lt-leb, le-ltb}
 use Rattle.misc.specs.Refusal.{Refusal, smallPayload, tooLong}
 use Rattle.misc.specs.Parse.{refuse}
 use Rattle.misc.specs.Body.{bodyLimit}
+use Rattle.misc.specs.Le.{leBytes}
 use Rattle.misc.specs.Forms.{Form}
 use Rattle.misc.specs.Output.{outputOf, answerOf}
 use Rattle.packets.specs.Gno.{gnoTop, isGno}
@@ -27,6 +28,7 @@ use Rattle.gtid_sets.specs.Lent.{unfit, lentSet, SetLaid}
 use Rattle.gtid_sets.proofs.LentLaws.{is-lent}
 use Rattle.resume_set.specs.Answers.{eventOf, offered}
 use Rattle.resume_set.specs.declared.Offered.the-variants.{Refused}
+use Rattle.abi.specs.Flat.{flatIdentity, flatClock, flatRest, flat}
 use Rattle.promises.specs.Faults.{EventFault}
 use Rattle.promises.specs.Orders.{LongFirst, Orders, Zeros, Outputs}
 use Rattle.promises.proofs.TaggedRefused.{read-envelope, payload}
@@ -99,7 +101,7 @@ orders =
 -- ---- what else a refusal answers, and what is left in an output
 
 pub zeros : (r : Refusal) → Zeros r
-unfolding outputOf answerOf withTag newTagged lengthOf
+unfolding outputOf answerOf withTag newTagged lengthOf leBytes flatIdentity flatClock flatRest flat
 zeros r =
     record {
       no-event = refl;

@@ -1,10 +1,12 @@
--- The page to read first, in this order. The edges that the rules name, and other rows computed whole (`Edges`). The layouts, which name no parser: untagged and tagged records
--- (`UntaggedLayout`, `TaggedLayout`); integers are laid out in `Forms` of misc, Previous-GTIDs bodies in `Layout` of previous_gtids_event, and sets are
--- `SetLaid` of `Lent` of gtid_sets. Demand 2, of any reader and writer, over them (`Meaning`).
+-- The page to read first, in this order. The edges that the rules name, and other rows computed whole (`Edges`).
+-- The layouts, which name no parser: untagged and tagged records (`UntaggedLayout`, `TaggedLayout`); integers are laid out in `Forms` of misc,
+-- Previous-GTIDs bodies in `Layout` of previous_gtids_event, and sets are `SetLaid` of `Lent` of gtid_sets.
+-- Demand 2, of any reader and writer, over them (`Meaning`).
 -- Demand 1, the table of refusals, over the same layouts: events (`Faults`), bodies (`BodyFaults`), integers, parts of bodies and calls that write
--- (`PlainFaults`), sets and what else an offer answers (`SetFaults`); that every public function gives a number exactly where the table has its case, an
--- offer each of its answers, and that `contains` tells the members (`Exact`); what the other calls say of them (`Told`); which of several faults counts, and what else is answered and written
--- (`Orders`); what a call answers that doesn't refuse (`Answers`); and what the order, the limits and the ranges come to (`Rules`).
+-- (`PlainFaults`), sets and what else an offer answers (`SetFaults`); that every public function gives a number exactly where the table has its
+-- case, an offer each of its answers, and that `contains` tells the members (`Exact`); what the other calls say of them (`Told`); which of several
+-- faults counts, and what else is answered and written (`Orders`); what a call answers that doesn't refuse (`Answers`); and what the order, the
+-- limits and the ranges come to (`Rules`).
 -- Demand 3, of any offer, is `History` of resume_set_laws. Last, wrong programs that all this shuts out (`WrongOnes`).
 pub mod Edges
 pub mod UntaggedLayout

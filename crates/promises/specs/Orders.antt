@@ -32,6 +32,7 @@ use Rattle.gtid_sets.specs.Lent.{unfit, lentSet, SetLaid}
 use Rattle.set_check.specs.Check.{checkedOf}
 use Rattle.resume_set.specs.Answers.{setRead, contained, saved, takenIn, eventOf, offered, output}
 use Rattle.resume_set.specs.declared.Offered.the-variants.{Refused}
+use Rattle.abi.specs.Flat.{flat}
 use Rattle.promises.specs.Faults.{EventFault}
 use Rattle.promises.specs.SetFaults.{SetFault, BodyIs, Names}
 
@@ -70,25 +71,8 @@ pub record Orders : Type 0 where
 -- ---- what else a refusal answers
 
 pub record Zeros (r : Refusal) : Type 0 where
-  -- the record that it hands out
-  pub no-event :
-      noEvent
-      ≡ record {
-        flags = 0;
-        sid = replicate 16 0;
-        gno = 0;
-        tag = replicate 32 0;
-        «tag_len» = 0;
-        «lc_typecode» = 0;
-        «last_committed» = 0;
-        «sequence_number» = 0;
-        «immediate_commit_timestamp» = 0;
-        «original_commit_timestamp» = 0;
-        «tx_length» = 0;
-        «immediate_server_version» = 0;
-        «original_server_version» = 0;
-        «commit_group_ticket» = 0;
-      }
+  -- the record that it hands out: laid out for Rust and C it is 116 zeros
+  pub no-event : flat noEvent ≡ replicate 116 0
   -- calls that read
   pub uint : uintRead (refuse r) ≡ record { refusal = number r; value = 0; next = 0 }
   pub int : intRead (refuse r) ≡ record { refusal = number r; value = pos 0; next = 0 }
