@@ -97,10 +97,13 @@ uint8_t gtid_list(const uint8_t *input, size_t input_len, uint8_t *out, size_t o
  *       76      8  immediate commit timestamp
  *       84      8  original commit timestamp
  *       92      8  transaction length
- *      100      4  immediate server version
- *      104      4  original server version
+ *      100      4  immediate server version; GTID_UNDEFINED_SERVER_VERSION where it isn't known, not 0
+ *      104      4  original server version, likewise
  *      108      8  commit group ticket */
 #define GTID_RECORD_LEN 116
+
+/* The server version of a record that tells none: what gtid_read gives where none was sent. */
+#define GTID_UNDEFINED_SERVER_VERSION 999999
 
 /* Reads the body of a GTID event (type 33, 34 or 42): writes its record, GTID_RECORD_LEN bytes, and `*used` is how many bytes
  * of the body it takes. Refuses with 8, with what the body is refused for (1 to 11; then `*used` is 0), and with 13 if there

@@ -35,6 +35,22 @@ static void write_longest_event(void)
     EXPECT(gtid_write(record, sizeof record, written, sizeof written, &len) == 0 && len == GTID_LONGEST_EVENT);
 }
 
+/* A new record, of which no more is known than uuid and number: written in 25 bytes, and read back equal; refused where it claims server
+ * version 0. */
+static void write_new_event(void)
+{
+    uint8_t record[GTID_RECORD_LEN] = {0}, back[GTID_RECORD_LEN], written[GTID_LONGEST_EVENT];
+    size_t len = 9, used = 9;
+
+    memset(record + 1, 7, 16);
+    put(record + 17, 5);
+    EXPECT(gtid_write(record, sizeof record, written, sizeof written, &len) == 12 && len == 0);
+    put(record + 100, ((uint64_t)GTID_UNDEFINED_SERVER_VERSION << 32) + GTID_UNDEFINED_SERVER_VERSION);
+    EXPECT(gtid_write(record, sizeof record, written, sizeof written, &len) == 0 && len == 25);
+    EXPECT(gtid_read(33, written, len, back, sizeof back, &used) == 0 && used == 25);
+    EXPECT(memcmp(back, record, sizeof record) == 0);
+}
+
 int main(void)
 {
     size_t len = 9, used = 9, tag_len = 9, first = 9, end = 9;
@@ -90,5 +106,6 @@ int main(void)
     EXPECT(gtid_read_varlen_uint(item, sizeof item, &value, &used) == 0 && value == 1 && used == 2);
 
     write_longest_event();
+    write_new_event();
     return faults != 0;
 }

@@ -1,4 +1,4 @@
-//! Which of the differences D1 to D11 of docs/DIFFERENCES.md a pair of unequal answers is. Each has a test of its own,
+//! Which of the differences D1 to D12 of docs/DIFFERENCES.md a pair of unequal answers is. Each has a test of its own,
 //! on the question and on both answers. Where several fit, the first counts.
 
 use crate::{
@@ -6,9 +6,9 @@ use crate::{
     words,
 };
 use std::io::ErrorKind;
-use theirs::answers::{self, Fields, Told};
+use theirs::answers::{self, Fields, Step, Told};
 
-pub const COUNT: usize = 11;
+pub const COUNT: usize = 12;
 
 /// Body lengths that the rules serve.
 const GREATEST_BODY: usize = 65_536;
@@ -38,7 +38,7 @@ pub fn equal(ours: &str, theirs: &Told<String>) -> bool {
 /// The number of the first difference that fits, from 1; None where none fits.
 pub fn sort(case: &Case, ours: &str, theirs: &Told<String>) -> Option<usize> {
     const TESTS: [fn(&Case, &str, &Told<String>) -> bool; COUNT] =
-        [d1, d2, d3, d4, d5, d6, d7, d8, d9, d10, d11];
+        [d1, d2, d3, d4, d5, d6, d7, d8, d9, d10, d11, d12];
     TESTS
         .iter()
         .position(|test| test(case, ours, theirs))
@@ -247,4 +247,29 @@ fn d10(case: &Case, ours: &str, theirs: &Told<String>) -> bool {
 fn d11(case: &Case, ours: &str, theirs: &Told<String>) -> bool {
     let previous = matches!(case.kind, Kind::ReadPrevious | Kind::RewritePrevious);
     previous && *theirs == Told::Unreservable && matches!(ours, "refused 1" | "refused 6")
+}
+
+/// The same steps, with both server versions set right after each `new`.
+fn with_versions(case: &Case, steps: &[Step], version: u32) -> Case {
+    let set = |step: &Step| match step {
+        Step::New(..) => vec![
+            step.clone(),
+            Step::ImmediateVersion(version),
+            Step::OriginalVersion(version),
+        ],
+        _ => vec![step.clone()],
+    };
+    Case {
+        input: Input::Steps(steps.iter().flat_map(set).collect()),
+        ..case.clone()
+    }
+}
+
+/// A record that `new` begins: its server versions are 999,999 until they are set. The crate's are 0.
+fn d12(case: &Case, ours: &str, theirs: &Told<String>) -> bool {
+    let Input::Steps(steps) = &case.input else {
+        return false;
+    };
+    let begun_with = |version| with_versions(case, steps, version).theirs();
+    begun_with(NO_VERSION) == Told::Ok(ours.to_owned()) && begun_with(0) == *theirs
 }

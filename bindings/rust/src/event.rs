@@ -9,9 +9,7 @@ const LONGEST_EVENT: usize = 156;
 
 const LOGICAL_TIMESTAMP_TYPECODE: u8 = 2;
 
-const UNDEFINED_SERVER_VERSION: u32 = 999_999;
-
-/// The record of a GTID event. Times are in microseconds; an absent server version is 999,999.
+/// The record of a GTID event. Times are in microseconds; a server version that isn't known is [999,999](GtidEvent::UNDEFINED_SERVER_VERSION).
 ///
 /// It is read from an event's body, or built step by step; names and steps are those of mysql_common.
 ///
@@ -63,18 +61,49 @@ macro_rules! steps {
 }
 
 impl GtidEvent {
-    /// A new untagged record: typecode 2, and zeros but for what is given.
+    /// The server version of a record that tells none: what a reader gives where none was sent, and what a new record begins with.
     ///
     /// ```
-    /// let event = gtid_resume::GtidEvent::new([7; 16], 1);
-    /// assert_eq!((event.lc_typecode, event.immediate_server_version), (Some(2), 0));
+    /// use gtid_resume::{GtidEvent, GTID_EVENT};
+    ///
+    /// let (event, _) = GtidEvent::read(GTID_EVENT, &[0; 25])?;
+    /// assert_eq!(event.immediate_server_version, GtidEvent::UNDEFINED_SERVER_VERSION);
+    /// # Ok::<(), gtid_resume::Refusal>(())
+    /// ```
+    pub const UNDEFINED_SERVER_VERSION: u32 = 999_999;
+
+    /// A new untagged record: typecode 2, [no server versions](GtidEvent::UNDEFINED_SERVER_VERSION), and zeros but for what is given.
+    ///
+    /// In mysql_common the server versions of a new untagged record are 0. Whoever needs that sets it.
+    ///
+    /// ```
+    /// use gtid_resume::GtidEvent;
+    ///
+    /// let event = GtidEvent::new([7; 16], 1);
+    /// assert_eq!((event.lc_typecode, event.immediate_server_version), (Some(2), 999_999));
+    /// let marker = event.with_immediate_server_version(0).with_original_server_version(0);
+    /// assert_eq!((marker.immediate_server_version, marker.original_server_version), (0, 0));
     /// ```
     #[must_use]
     pub fn new(sid: [u8; 16], gno: u64) -> GtidEvent {
-        GtidEvent::fresh(sid, gno, Some(LOGICAL_TIMESTAMP_TYPECODE), 0)
+        GtidEvent {
+            flags: 0,
+            sid,
+            gno,
+            tag: Vec::new(),
+            lc_typecode: Some(LOGICAL_TIMESTAMP_TYPECODE),
+            last_committed: 0,
+            sequence_number: 0,
+            immediate_commit_timestamp: 0,
+            original_commit_timestamp: 0,
+            tx_length: 0,
+            immediate_server_version: GtidEvent::UNDEFINED_SERVER_VERSION,
+            original_server_version: GtidEvent::UNDEFINED_SERVER_VERSION,
+            commit_group_ticket: 0,
+        }
     }
 
-    /// A new tagged record: no typecode, server versions 999,999, and zeros but for what is given.
+    /// A new tagged record: no typecode, [no server versions](GtidEvent::UNDEFINED_SERVER_VERSION), and zeros but for what is given.
     ///
     /// # Errors
     ///
@@ -89,26 +118,7 @@ impl GtidEvent {
     /// # Ok::<(), Refusal>(())
     /// ```
     pub fn new_tagged(sid: [u8; 16], tag: &[u8], gno: u64) -> Result<GtidEvent, Refusal> {
-        GtidEvent::fresh(sid, gno, None, UNDEFINED_SERVER_VERSION).with_tag(tag)
-    }
-
-    /// All zero but for what is given.
-    fn fresh(sid: [u8; 16], gno: u64, lc_typecode: Option<u8>, server_version: u32) -> GtidEvent {
-        GtidEvent {
-            flags: 0,
-            sid,
-            gno,
-            tag: Vec::new(),
-            lc_typecode,
-            last_committed: 0,
-            sequence_number: 0,
-            immediate_commit_timestamp: 0,
-            original_commit_timestamp: 0,
-            tx_length: 0,
-            immediate_server_version: server_version,
-            original_server_version: server_version,
-            commit_group_ticket: 0,
-        }
+        GtidEvent::new(sid, gno).without_lc_typecode().with_tag(tag)
     }
 
     /// Reads the body of a GTID event (types 33, 34 and 42), without header and checksum: the record, and how many bytes were used.
@@ -204,7 +214,8 @@ impl GtidEvent {
         GTID_EVENT
     }
 
-    /// The record with a tag. The typecode stays, as in mysql_common; a tagged record can't be written with one.
+    /// The record with a tag. All else stays: the server versions, and, as in mysql_common, the typecode; a tagged record can't be written
+    /// with one.
     ///
     /// # Errors
     ///
@@ -323,10 +334,12 @@ impl GtidEvent {
     }
 }
 
-/// The tag rule stands in the archive alone: a record with a tag, no typecode and zeros else can be written just if the tag is one. (One
-/// without a tag can't either: its server versions would have to be 999,999.)
+/// The tag rule stands in the archive alone: a new record with a tag, without a typecode, can be written just if the tag is one. (One
+/// without a tag could be, too; a server version, here 0, shuts it out, since without a typecode it has no place.)
 fn judge_tag(tag: &[u8]) -> Result<(), Refusal> {
-    let mut probe = GtidEvent::fresh([0; 16], 0, None, 0);
+    let mut probe = GtidEvent::new([0; 16], 0)
+        .without_lc_typecode()
+        .with_immediate_server_version(0);
     probe.tag = tag.to_vec();
     match probe.write() {
         Ok(_) => Ok(()),

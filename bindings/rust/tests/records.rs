@@ -64,21 +64,55 @@ fn ids_have_the_order_of_a_set() {
 fn new_records_are_as_the_rules_say() {
     let untagged = GtidEvent::new([7; 16], 5);
     assert_eq!(untagged.lc_typecode, Some(2));
-    assert_eq!(untagged.immediate_server_version, 0);
-    assert_eq!(untagged.original_server_version, 0);
     let tagged = GtidEvent::new_tagged([7; 16], b"a", 5).unwrap();
     assert_eq!(tagged.lc_typecode, None);
-    assert_eq!(tagged.immediate_server_version, 999_999);
-    assert_eq!(tagged.original_server_version, 999_999);
     for event in [untagged, tagged] {
         assert_eq!((event.sid, event.gno, event.flags), ([7; 16], 5, 0));
         assert_eq!((event.last_committed, event.sequence_number), (0, 0));
         assert_eq!(event.immediate_commit_timestamp, 0);
         assert_eq!(event.original_commit_timestamp, 0);
         assert_eq!((event.tx_length, event.commit_group_ticket), (0, 0));
+        assert_eq!(versions(&event), (999_999, 999_999));
         let read = GtidEvent::read(event.event_type(), &event.write().unwrap()).unwrap();
         assert_eq!(read.0, event);
     }
+}
+
+fn versions(event: &GtidEvent) -> (u32, u32) {
+    (
+        event.immediate_server_version,
+        event.original_server_version,
+    )
+}
+
+#[test]
+fn a_new_record_without_its_typecode_is_25_bytes() {
+    let event = GtidEvent::new([7; 16], 5).without_lc_typecode();
+    let body = event.write().unwrap();
+    assert_eq!(body, [&[0][..], &[7; 16], &5u64.to_le_bytes()].concat());
+    assert_eq!(GtidEvent::read(GTID_EVENT, &body), Ok((event, 25)));
+}
+
+#[test]
+fn a_record_of_which_no_version_was_sent_has_those_of_a_new_one() {
+    let new = versions(&GtidEvent::new([7; 16], 5));
+    let (short, _) = GtidEvent::read(GTID_EVENT, &[0; 25]).unwrap();
+    assert_eq!(versions(&short), new);
+    let whole = GtidEvent::new([7; 16], 5).write().unwrap();
+    let (cut, _) = GtidEvent::read(GTID_EVENT, &whole[..whole.len() - 4]).unwrap();
+    assert_eq!(versions(&cut), new);
+    // version byte, size 6, last non-ignorable id, and the tag alone
+    let (tagged, _) = GtidEvent::read(GTID_TAGGED_LOG_EVENT, &[2, 12, 0, 6, 2, b'a']).unwrap();
+    assert_eq!(versions(&tagged), new);
+}
+
+#[test]
+fn a_tag_keeps_versions_that_were_set_to_zero() {
+    let event = GtidEvent::new([7; 16], 5)
+        .with_immediate_server_version(0)
+        .with_original_server_version(0);
+    assert_eq!(versions(&event), (0, 0));
+    assert_eq!(versions(&event.with_tag(b"a").unwrap()), (0, 0));
 }
 
 #[test]

@@ -11,13 +11,9 @@ use Rattle.packets.specs.Tag.{isTag}
 use Rattle.gtid_event.specs.declared.EventStep.{EventStep}
 use Rattle.gtid_event.specs.declared.GtidEvent.{GtidEvent}
 
--- the server version that stands for an unknown one
+-- the server version that stands for an unknown one; a new record has it in both versions
 abbrev pub undefinedVersion : ℕ
 undefinedVersion = 999999
-
--- both server versions of a new untagged record
-abbrev pub newVersion : ℕ
-newVersion = 0
 
 -- all zero but for uuid, gno, typecode and server versions
 abbrev pub fresh : List ℕ → ℕ → ℕ → ℕ → GtidEvent
@@ -45,7 +41,7 @@ noEvent = fresh (replicate 16 0) 0 0 0
 
 -- a new untagged record: typecode 2
 abbrev pub newUntagged : List ℕ → ℕ → GtidEvent
-newUntagged sid gno = fresh sid gno 2 newVersion
+newUntagged sid gno = fresh sid gno 2 undefinedVersion
 
 -- whether the record has a tag
 abbrev pub tagged : GtidEvent → Bool

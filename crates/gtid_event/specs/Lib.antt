@@ -1,2 +1,4 @@
--- What `gtid_event` promises is said by this definition: the GTID record's values, and what each building step changes.
+-- What `gtid_event` promises is said by `Event`: the GTID record's values, and what each building step changes. `Parts` says it a second
+-- time, part by part.
 pub mod Event
+pub mod Parts

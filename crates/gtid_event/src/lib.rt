@@ -10,9 +10,6 @@ pub const LOGICAL_TIMESTAMP_TYPECODE: u8 = 2;
 
 pub const UNDEFINED_SERVER_VERSION: u32 = 999_999;
 
-// Both server versions of a new untagged record.
-const NEW_SERVER_VERSION: u32 = 0;
-
 pub const GTID_EVENT: u8 = 33;
 
 pub const ANONYMOUS_GTID_EVENT: u8 = 34;
@@ -77,7 +74,12 @@ impl GtidEvent {
     pub fn new(sid: [u8; 16], gno: u64) -> Self
         ensures { λ r. ⌜ r ≡ newUntagged sid gno ⌝ }
     {
-        Self::fresh(sid, gno, LOGICAL_TIMESTAMP_TYPECODE, NEW_SERVER_VERSION)
+        Self::fresh(
+            sid,
+            gno,
+            LOGICAL_TIMESTAMP_TYPECODE,
+            UNDEFINED_SERVER_VERSION,
+        )
     }
 
     // A new tagged event.

@@ -15,6 +15,7 @@ use Rattle.misc.proofs.VarlenLaws.{length-varlenBytes, size-range}
 use Rattle.packets.proofs.Tests.{split}
 use Rattle.gtid_event.specs.Event as event
 use Rattle.gtid_event.specs.declared.GtidEvent.{GtidEvent}
+use Rattle.gtid_event.proofs.BuiltLaws.{same-event}
 use Rattle.gtid_event_read.specs.declared.Fields.{Fields}
 use Rattle.gtid_event_read.specs.Fields.{noFields, withNumber, withUuid, withTagBytes, fieldsOf}
 use Rattle.gtid_event_read.specs.Tagged.{recordOf, tagged}
@@ -23,7 +24,7 @@ use Rattle.gtid_event_write.specs.Size.{payloadSize}
 use Rattle.gtid_event_write.specs.Layout.{numberBytes, unlessBytes, itemsBytes, identityBytes, clockBytes, restBytes, fieldBytes, taggedBytes}
 use Rattle.gtid_event_laws.specs.Fits.{Fits}
 use Rattle.gtid_event_laws.proofs.Stands.{Stands, at-front, each, stands-within, part-stands, byte-stands, varlen-stands}
-use Rattle.gtid_event_laws.proofs.WritableLaws.{TaggedFacts, same-event, tagged-facts}
+use Rattle.gtid_event_laws.proofs.WritableLaws.{TaggedFacts, tagged-facts}
 use Rattle.gtid_event_laws.proofs.AtMost.{AtMost, _plus_}
 use Rattle.gtid_event_write.proofs.SizeLaws.{payload-agrees}
 use Rattle.gtid_event_laws.proofs.FieldsBack.{Run, plain, limited, doubled, one, _then_, perhaps, varlen-length, number-field, uuid-field, tag-field, optional, run-read}

@@ -20,13 +20,14 @@ use Rattle.misc.proofs.MarkLaws.{top-bit-clear, top-bit-set}
 use Rattle.packets.proofs.Tests.{split}
 use Rattle.gtid_event.specs.Event.{undefinedVersion, tagged}
 use Rattle.gtid_event.specs.declared.GtidEvent.{GtidEvent}
+use Rattle.gtid_event.proofs.BuiltLaws.{same-event}
 use Rattle.gtid_event_read.specs.Untagged.{Pair, pair, pairAt, timestampsAt, lengthAt, versionsAt, opened, openingAt, clocked, clockAt, typecodeAt, untagged, ifLeft}
 use Rattle.gtid_event_write.specs.Writable.{writable}
 use Rattle.gtid_event_write.specs.Layout.{pairBytes, openingBytes, laterBytes, untaggedBytes}
 use Rattle.gtid_event_laws.specs.Fits.{Fits}
 use Rattle.gtid_event_laws.proofs.Stands.{Stands, at-front, each, stands-within, bytes-stand, byte-stands, first-stands, le-stands, lenenc-stands}
 use Rattle.gtid_event_laws.proofs.AtMost.{AtMost, _plus_}
-use Rattle.gtid_event_laws.proofs.WritableLaws.{LaterAbsent, Later, UntaggedFacts, there, absent, same-event, untagged-facts}
+use Rattle.gtid_event_laws.proofs.WritableLaws.{LaterAbsent, Later, UntaggedFacts, there, absent, untagged-facts}
 
 -- a part that may be absent is read where its bytes stand
 if-left : {A : Type 0} (n : ℕ) (none : A) (item : Parse A) {bs s : List ℕ} {at : ℕ} → n ≤ length bs → Stands bs s at → ifLeft n s at none item ≡ item

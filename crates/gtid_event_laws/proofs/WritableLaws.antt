@@ -16,31 +16,6 @@ use Rattle.gtid_event_write.specs.Writable.{allZero, tagOf, laterAbsent, writab
 use Rattle.gtid_event_write.proofs.WritableLaws.{TaggedFits, UntaggedFits, tagged-fits, untagged-fits, parts, as-tagged, as-untagged}
 use Rattle.gtid_event_laws.specs.Fits.{Fits}
 
--- two records with the same fields are the same
-pub same-event : (a b : GtidEvent) → a .flags ≡ b .flags → a .sid ≡ b .sid → a .gno ≡ b .gno → a .tag ≡ b .tag → a .«tag_len» ≡ b .«tag_len»
-    → a .«lc_typecode» ≡ b .«lc_typecode» → a .«last_committed» ≡ b .«last_committed» → a .«sequence_number» ≡ b .«sequence_number»
-    → a .«immediate_commit_timestamp» ≡ b .«immediate_commit_timestamp» → a .«original_commit_timestamp» ≡ b .«original_commit_timestamp»
-    → a .«tx_length» ≡ b .«tx_length» → a .«immediate_server_version» ≡ b .«immediate_server_version»
-    → a .«original_server_version» ≡ b .«original_server_version» → a .«commit_group_ticket» ≡ b .«commit_group_ticket» → a ≡ b
-same-event a b flags sid gno tag tagLen typecode last sequence immediate original len version originalVersion ticket =
-    λ i.
-    record {
-      flags = flags i;
-      sid = sid i;
-      gno = gno i;
-      tag = tag i;
-      «tag_len» = tagLen i;
-      «lc_typecode» = typecode i;
-      «last_committed» = last i;
-      «sequence_number» = sequence i;
-      «immediate_commit_timestamp» = immediate i;
-      «original_commit_timestamp» = original i;
-      «tx_length» = len i;
-      «immediate_server_version» = version i;
-      «original_server_version» = originalVersion i;
-      «commit_group_ticket» = ticket i;
-    }
-
 -- ---- zeros
 
 zeros : (bs : List ℕ) → allZero bs ≡ true → replicate (length bs) 0 ≡ bs

@@ -55,8 +55,6 @@ fn read_opening(s: &[u8]) -> GtidEvent
     let mut event = GtidEvent::new(sid, gno.value);
     event.flags = s[0];
     event.lc_typecode = 0;
-    event.immediate_server_version = UNDEFINED_SERVER_VERSION;
-    event.original_server_version = UNDEFINED_SERVER_VERSION;
     event
 }
 

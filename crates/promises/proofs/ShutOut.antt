@@ -27,7 +27,7 @@ use Rattle.previous_gtids_event.specs.Previous as previous-specs
 use Rattle.previous_gtids_event.specs.Previous.{keyAt, headAt, intervalAt, entryAt, saysTagged, saysCount, previous}
 use Rattle.previous_gtids_event.specs.Rewrite.{intervalsBytes, entryBytes, entriesBytes, anyTag, headerBytes, bodyBytes}
 use Rattle.gtid_event.specs.declared.GtidEvent.{GtidEvent}
-use Rattle.gtid_event.specs.Event.{newUntagged, typeOf, setNumber}
+use Rattle.gtid_event.specs.Event.{newUntagged, typeOf, setNumber, withTag}
 use Rattle.gtid_event_read.specs.Untagged.{openingAt, untagged}
 use Rattle.gtid_event_read.specs.Fields.{tagAt, fieldAt, fieldsFrom}
 use Rattle.gtid_event_read.specs.Tagged.{tagged}
@@ -43,12 +43,14 @@ use Rattle.resume_set.specs.declared.Offered.the-variants.{NoId, Taken, Refused
 use Rattle.resume_set_laws.specs.History.{Turn, Offering, member, TakesIn, TellsHistory}
 use Rattle.resume_set_laws.specs.Ours.{ours}
 use Rattle.promises.specs.Meaning.{EventReader, EventWriter, RecordLaid, RecordsMean, RecordsBack, EntriesMean}
-use Rattle.promises.specs.UntaggedLayout.{untaggedRecord}
+use Rattle.promises.specs.UntaggedLayout.{NoTypecode, untaggedRecord, ShortLaid}
 use Rattle.promises.specs.TaggedLayout.{number, the-tag, said}
 use Rattle.promises.proofs.Demand2.{records-mean, one-record, entries-mean}
-use Rattle.promises.specs.WrongOnes.{refusesBodies, topByteTwo, tagsByOne, refusesAll, constantRecord, madeUpCount, swapsClock, equalId, ignoresEqual, writesNothing, copiesItsSet, addsOnlyTheFirst, alwaysNoId, noIdForZero, asksTaggedOnly}
+use Rattle.promises.specs.Building.{Unversioned, NewVersions, KeepsVersions}
+use Rattle.promises.specs.WrongOnes.{claimsZero, forgetsVersions, refusesBodies, topByteTwo, tagsByOne, refusesAll, constantRecord, madeUpCount, swapsClock, equalId, ignoresEqual, writesNothing, copiesItsSet, addsOnlyTheFirst, alwaysNoId, noIdForZero, asksTaggedOnly}
 use Rattle.promises.specs.Exact.{OffersExactly, AsksExactly}
 use Rattle.promises.proofs.SetsExact.{offers-exactly}
+use Rattle.promises.proofs.BuildingHolds.{fresh-fits}
 use Rattle.promises.proofs.OneOutcome.{same-offers}
 
 -- ---- records: one that can be written, gno 2
@@ -57,24 +59,7 @@ abbrev some : GtidEvent
 some = newUntagged (replicate 16 0) 2
 
 some-fits : Fits some
-some-fits = record {
-  flags-fit = omega arith;
-  sid-size = refl;
-  sid-fits = zeros-bytes 16;
-  gno-fits = omega arith;
-  tag-size = refl;
-  tag-fits = zeros-bytes 32;
-  tag-len-fits = omega arith;
-  typecode-fits = omega arith;
-  last-fits = omega arith;
-  sequence-fits = omega arith;
-  immediate-fits = omega arith;
-  original-fits = omega arith;
-  length-fits = omega arith;
-  version-fits = omega arith;
-  original-version-fits = omega arith;
-  ticket-fits = omega arith;
-}
+some-fits = fresh-fits (replicate 16 0) 2 2 refl (zeros-bytes 16) (omega arith) (omega arith)
 
 some-can : writable some ≡ true
 unfolding writable allZero
@@ -225,6 +210,40 @@ refuses-bodies-unlike mean =
     let are = below-bytes topByteTwo refl in
     let few : length topByteTwo ≤ bodyLimit = omega (arith, bodyLimit-is) in
     never (mean topByteTwo _ 33 are few .1 (entries-mean topByteTwo _ 33 are few .0 read-two))
+
+-- ---- building a record
+
+-- 25 zeros: nothing follows the gno
+zeros-laid : ShortLaid (replicate 25 0) (untaggedRecord 0 (replicate 16 0) 0 0 0 0 0 0 0 999999 999999) 25
+unfolding leOf
+zeros-laid = record {
+  flags = 0;
+  uuid = replicate 16 0;
+  gno = 0;
+  gno-bytes = replicate 8 0;
+  unread = [];
+  whole = refl;
+  uuid-is = refl;
+  gno-is = record { long = refl; spells = refl };
+  no-typecode = NoTypecode.nothing;
+  is = refl;
+  uses = refl;
+}
+
+-- a new record that claims server version 0
+pub claims-zero-out : NewVersions claimsZero → ⊥
+claims-zero-out new =
+    let same : _≡_ {A = List ℕ} (0 ∷ 0 ∷ []) (999999 ∷ 999999 ∷ []) = new _ _ _ (Unversioned.short zeros-laid) (replicate 16 0) 0 in
+    let clash : _≡_ {A = ℕ} 0 999999 = cc in
+    omega arith
+
+-- a step that adds the tag "a", and forgets the versions
+pub forgets-versions-out : KeepsVersions forgetsVersions → ⊥
+unfolding withTag isTag allTagBytes
+forgets-versions-out keeps =
+    let same : _≡_ {A = List ℕ} (999999 ∷ 999999 ∷ []) (0 ∷ 0 ∷ []) = keeps (97 ∷ []) (claimsZero (replicate 16 0) 0) refl in
+    let clash : _≡_ {A = ℕ} 999999 0 = cc in
+    omega arith
 
 -- ---- offers: to the empty set, ids of the zero uuid
 

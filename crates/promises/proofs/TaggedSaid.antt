@@ -11,10 +11,10 @@ use borrow.Author.Tests.{eqb-true, eqb-false}
 use Rattle.misc.specs.Pick.{pick}
 use Rattle.packets.specs.Kept.{padded}
 use Rattle.packets.proofs.Tests.{split}
+use Rattle.gtid_event.proofs.BuiltLaws.{same-event}
 use Rattle.gtid_event_read.specs.declared.Fields.{Fields}
 use Rattle.gtid_event_read.specs.Fields.{noFields, withNumber, withUuid, withTagBytes}
 use Rattle.gtid_event_read.specs.Tagged.{recordOf}
-use Rattle.gtid_event_laws.proofs.WritableLaws.{same-event}
 use Rattle.promises.specs.TaggedLayout.{Sent, number, the-uuid, the-tag, Value, FieldsLaid, lastNumber, lastUuid, lastTag, hasTag, said}
 
 -- ---- what is kept

@@ -1,7 +1,7 @@
 -- The page to read first, in this order. The edges that the rules name, and other rows computed whole (`Edges`).
 -- The layouts, which name no parser: untagged and tagged records (`UntaggedLayout`, `TaggedLayout`); integers are laid out in `Forms` of misc,
 -- Previous-GTIDs bodies in `Layout` of previous_gtids_event, and sets are `SetLaid` of `Lent` of gtid_sets.
--- Demand 2, of any reader and writer, over them (`Meaning`).
+-- Demand 2, of any reader and writer, over them (`Meaning`); and what building a record gives (`Building`).
 -- Demand 1, the table of refusals, over the same layouts: events (`Faults`), bodies (`BodyFaults`), integers, parts of bodies and calls that write
 -- (`PlainFaults`), sets and what else an offer answers (`SetFaults`); that every public function gives a number exactly where the table has its
 -- case, an offer each of its answers, and that `contains` tells the members (`Exact`); what the other calls say of them (`Told`); which of several
@@ -12,6 +12,7 @@ pub mod Edges
 pub mod UntaggedLayout
 pub mod TaggedLayout
 pub mod Meaning
+pub mod Building
 pub mod Faults
 pub mod BodyFaults
 pub mod PlainFaults

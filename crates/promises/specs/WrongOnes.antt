@@ -9,8 +9,9 @@ use Rattle.misc.specs.Refusal.{ended, notWritable}
 use Rattle.misc.specs.Parse.{Parse, refuse, parsed}
 use Rattle.misc.specs.Output.{refused, bytes, outputOf}
 use Rattle.previous_gtids_event.specs.Previous.{previous}
+use Rattle.gtid_event.specs.declared.EventStep.{EventStep}
 use Rattle.gtid_event.specs.declared.GtidEvent.{GtidEvent}
-use Rattle.gtid_event.specs.Event.{newUntagged, setNumber}
+use Rattle.gtid_event.specs.Event.{undefinedVersion, fresh, newUntagged, setNumber, withTag}
 use Rattle.gtid_event_read.specs.Read.{gtid}
 use Rattle.gtid_sets.specs.Run.{Event, anonymous, broken, names}
 use Rattle.resume_set.specs.Answers.{eventOf}
@@ -69,6 +70,14 @@ tagsByOne body = pick (same body topByteTwo) (refuse ended) (previous body)
 -- writes no record
 abbrev pub writesNothing : EventWriter
 writesNothing e = refused notWritable
+
+-- makes a record that claims server version 0
+abbrev pub claimsZero : List ℕ → ℕ → GtidEvent
+claimsZero sid gno = fresh sid gno 2 0
+
+-- adds a tag, and takes the versions for unknown
+abbrev pub forgetsVersions : List ℕ → GtidEvent → EventStep
+forgetsVersions tag e = withTag tag (setNumber 9 undefinedVersion (setNumber 10 undefinedVersion e))
 
 -- says "taken", and copies its set
 abbrev pub copiesItsSet : Offering

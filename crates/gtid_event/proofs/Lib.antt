@@ -1,0 +1,2 @@
+-- A law that other crates cite too: how records are built.
+pub mod BuiltLaws

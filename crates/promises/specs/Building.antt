@@ -1,0 +1,71 @@
+-- Building a record: each step changes its own part alone, and a new record has the server versions that a reader gives where none were sent.
+use Prim.Native.Nat.{ℕ, _^_, _<_}
+use mathlib.Core.Path.{_≡_}
+use mathlib.Core.Bool.{Bool, true, false, _||_}
+use mathlib.Core.List.{List, [], _∷_, _++_}
+use lib.Dec.{eqb}
+use lib.ListN.{length}
+use Rattle.misc.specs.Parse.{Bytes, parsed}
+use Rattle.misc.specs.Le.{leBytes}
+use Rattle.misc.specs.Output.{bytes}
+use Rattle.packets.specs.Tag.{isTag}
+use Rattle.gtid_event.specs.Event.{newUntagged, newTagged, withTag, setNumber, setTypecode}
+use Rattle.gtid_event.specs.Parts.{Built}
+use Rattle.gtid_event.specs.declared.EventStep.{EventStep}
+use Rattle.gtid_event.specs.declared.GtidEvent.{GtidEvent}
+use Rattle.gtid_event_read.specs.Read.{gtid}
+use Rattle.gtid_event_write.specs.Write.{eventOutput}
+use Rattle.promises.specs.UntaggedLayout.{ShortLaid, LongLaid}
+use Rattle.promises.specs.TaggedLayout.{Sent, number, the-uuid, the-tag, TaggedLaid}
+
+-- the server versions of a record, immediate and original
+abbrev pub serverVersions : GtidEvent → List ℕ
+serverVersions e = e .«immediate_server_version» ∷ e .«original_server_version» ∷ []
+
+-- whether a number was sent as the field with this id
+abbrev pub sends : ℕ → List Sent → Bool
+sends id [] = false
+sends id (number k v ∷ told) = eqb k id || sends id told
+sends id (the-uuid us ∷ told) = sends id told
+sends id (the-tag t ∷ told) = sends id told
+
+-- bytes that are laid out as this record, of which no server version was sent
+pub data Unversioned (s : List ℕ) (e : GtidEvent) (used : ℕ) : Type 0 where
+  -- nothing follows the gno
+  short : ShortLaid s e used → Unversioned s e used
+  -- nothing is left for the versions
+  long : (laid : LongLaid s e used) → laid .versions ≡ [] → Unversioned s e used
+  -- neither field is there
+  tagged : (laid : TaggedLaid s e used) → sends 9 (laid .told) ≡ false → sends 10 (laid .told) ≡ false → Unversioned s e used
+
+-- of anything that makes a record of a uuid and a gno: it has the versions that a reader gives where none were sent
+abbrev pub NewVersions : (List ℕ → ℕ → GtidEvent) → Type 0
+NewVersions new = (s : List ℕ) (e : GtidEvent) (used : ℕ) → Unversioned s e used → (sid : List ℕ) (gno : ℕ)
+    → serverVersions (new sid gno) ≡ serverVersions e
+
+-- of any step that adds a tag: the versions stay
+abbrev pub KeepsVersions : (List ℕ → GtidEvent → EventStep) → Type 0
+KeepsVersions step = (tag : List ℕ) (e : GtidEvent) → isTag tag ≡ true → serverVersions (step tag e .event) ≡ serverVersions e
+
+-- a new untagged record without its typecode, and its bytes: flags, uuid, gno
+abbrev pub bare : List ℕ → ℕ → GtidEvent
+bare sid gno = setTypecode 0 (newUntagged sid gno)
+
+abbrev pub bareBytes : List ℕ → ℕ → List ℕ
+bareBytes sid gno = 0 ∷ (sid ++ leBytes 8 gno)
+
+pub record Building : Type 0 where
+  -- new records and steps, part by part
+  pub built : Built
+  -- tagged or not, a new record has the versions that a reader gives where none were sent
+  pub untagged : NewVersions newUntagged
+  pub tagged : (tag : List ℕ) → isTag tag ≡ true → NewVersions (λ sid gno. newTagged sid tag gno .event)
+  -- a tag keeps the versions that it finds, also those that were set to 0
+  pub kept : KeepsVersions withTag
+  pub zeros-kept : (sid tag : List ℕ) (gno : ℕ) → isTag tag ≡ true
+      → serverVersions (withTag tag (setNumber 9 0 (setNumber 10 0 (newUntagged sid gno))) .event) ≡ 0 ∷ 0 ∷ []
+  -- without its typecode a new untagged record is written, as 25 bytes, and comes back equal from them
+  pub written : (sid : List ℕ) (gno : ℕ) → length sid ≡ 16 → Bytes sid → gno < 2 ^ 64
+      → (eventOutput (bare sid gno) ≡ bytes (bareBytes sid gno))
+      × (length (bareBytes sid gno) ≡ 25)
+      × (gtid 33 (bareBytes sid gno) ≡ parsed (bare sid gno) 25)
