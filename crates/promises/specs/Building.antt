@@ -29,9 +29,9 @@ sends id (number k v ∷ told) = eqb k id || sends id told
 sends id (the-uuid us ∷ told) = sends id told
 sends id (the-tag t ∷ told) = sends id told
 
--- bytes that are laid out as this record, of which no server version was sent
+-- bytes that are laid out as this record, and so read as it, in which no server version was sent
 pub data Unversioned (s : List ℕ) (e : GtidEvent) (used : ℕ) : Type 0 where
-  -- nothing follows the gno
+  -- there is no typecode, and so nothing behind the gno
   short : ShortLaid s e used → Unversioned s e used
   -- nothing is left for the versions
   long : (laid : LongLaid s e used) → laid .versions ≡ [] → Unversioned s e used
