@@ -72,7 +72,7 @@ impl GtidEvent {
     /// ```
     pub const UNDEFINED_SERVER_VERSION: u32 = 999_999;
 
-    /// A new untagged record: typecode 2, [no server versions](GtidEvent::UNDEFINED_SERVER_VERSION), and zeros but for what is given.
+    /// A new untagged record: typecode 2, server versions [999,999](GtidEvent::UNDEFINED_SERVER_VERSION), and zeros but for what is given.
     ///
     /// In mysql_common the server versions of a new untagged record are 0. Whoever needs that sets it.
     ///
@@ -103,7 +103,7 @@ impl GtidEvent {
         }
     }
 
-    /// A new tagged record: no typecode, [no server versions](GtidEvent::UNDEFINED_SERVER_VERSION), and zeros but for what is given.
+    /// A new tagged record: no typecode, server versions [999,999](GtidEvent::UNDEFINED_SERVER_VERSION), and zeros but for what is given.
     ///
     /// # Errors
     ///
