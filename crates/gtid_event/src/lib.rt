@@ -105,7 +105,7 @@ impl GtidEvent {
         GTID_EVENT
     }
 
-    // With a tag. The typecode stays, as in the Rust.
+    // With a tag. All else stays: the typecode, as in the Rust, and the versions, whatever they are.
     pub fn with_tag(mut self, tag: &[u8]) -> EventStep
         ensures { λ r. ⌜ r ≡ withTag (now (tag .entry)) self ⌝ }
     {

@@ -15,6 +15,7 @@ use Rattle.packets.specs.Tag.{isTag}
 use Rattle.previous_gtids_event.specs.Entry.{Entry, entry}
 use Rattle.previous_gtids_event.specs.Rewrite.{headerBytes}
 use Rattle.gtid_event.specs.Event.{fresh, setNumber, setTag}
+use Rattle.gtid_event.specs.Parts.{only}
 use Rattle.gtid_event.specs.declared.GtidEvent.{GtidEvent}
 use Rattle.gtid_event_write.specs.Size.{payloadSize}
 use Rattle.gtid_event_write.specs.Write.{eventBytes}
@@ -28,9 +29,6 @@ pub record Edge : Type 0 where
   pub says : List ℕ
 
 -- ---- numbers, values and sets as lists of numbers
-
-abbrev only : ℕ → List ℕ
-only n = n ∷ []
 
 -- 1 for true and 0 for false
 abbrev truth : Bool → List ℕ
