@@ -272,7 +272,7 @@ mod ours {
 
 /// A word for it, what it is, and the smaller number of turns; the other is twice that.
 #[rustfmt::skip]
-const TABLE: [(&str, &str, u64); 47] = [
+const TABLE: [(&str, &str, u64); 50] = [
     ("varint-1", "read 64 variable-length integers of 1 byte", 1000),
     ("varint-2", "read 64 variable-length integers of 2 bytes", 1000),
     ("varint-3", "read 64 variable-length integers of 3 bytes", 1000),
@@ -282,6 +282,9 @@ const TABLE: [(&str, &str, u64); 47] = [
     ("varint-7", "read 64 variable-length integers of 7 bytes", 1000),
     ("varint-8", "read 64 variable-length integers of 8 bytes", 1000),
     ("varint-9", "read 64 variable-length integers of 9 bytes", 1000),
+    ("alone-2", "read 64 variable-length integers of 2 bytes, each alone in its slice", 1000),
+    ("alone-5", "read 64 variable-length integers of 5 bytes, each alone in its slice", 1000),
+    ("alone-8", "read 64 variable-length integers of 8 bytes, each alone in its slice", 1000),
     ("read-untagged", "read an untagged record (type 33), all fields", 1000),
     ("read-short", "read an untagged record of 25 bytes", 1000),
     ("read-tagged", "read a tagged record (type 42), all fields, tag of 10 bytes", 1000),
@@ -351,6 +354,9 @@ fn made(what: &str) -> Option<Made> {
         "varint-7" => integers(7),
         "varint-8" => integers(8),
         "varint-9" => integers(9),
+        "alone-2" => integers_alone(2),
+        "alone-5" => integers_alone(5),
+        "alone-8" => integers_alone(8),
         "read-untagged" => reading(33, untagged()),
         "read-short" => reading(33, short()),
         "read-tagged" => reading(42, tagged(b"billing_eu")),
@@ -411,9 +417,8 @@ fn made(what: &str) -> Option<Made> {
     })
 }
 
-/// 64 integers of so many bytes each, one after another. They are read until no bytes are left.
-fn integers(len: u32) -> Made {
-    // From the least that needs so many bytes on, all over the range.
+/// 64 integers of so many bytes each, from the least that needs so many on, all over the range; and their bytes, one after another.
+fn values_of(len: u32) -> (Vec<u64>, Vec<u8>) {
     let least = if len == 1 { 0 } else { 1 << (7 * (len - 1)) };
     let greatest = if len == 9 {
         u64::MAX
@@ -428,6 +433,12 @@ fn integers(len: u32) -> Made {
         .iter()
         .for_each(|value| write_varlen_uint(&mut bytes, *value));
     assert_eq!(bytes.len(), 64 * len as usize);
+    (values, bytes)
+}
+
+/// They are read one after another, until no bytes are left.
+fn integers(len: u32) -> Made {
+    let (values, bytes) = values_of(len);
     let mut buf = ParseBuf(&bytes);
     for (place, value) in values.iter().enumerate() {
         let rest = &bytes[place * len as usize..];
@@ -456,6 +467,45 @@ fn integers(len: u32) -> Made {
             let mut sum = 0;
             while !buf.is_empty() {
                 let Ok(value) = read_varlen_uint(&mut buf) else {
+                    break;
+                };
+                sum ^= value;
+            }
+            black_box(sum);
+        })),
+    }
+}
+
+/// Each is read out of a slice that ends with it.
+fn integers_alone(len: u32) -> Made {
+    let (values, bytes) = values_of(len);
+    let len = len as usize;
+    for (item, value) in bytes.chunks_exact(len).zip(values) {
+        assert_eq!(ours::read_uint(item), (0, value, len));
+        assert_eq!(
+            read_varlen_uint(&mut ParseBuf(item)).expect("an integer"),
+            value
+        );
+    }
+
+    let again = bytes.clone();
+    Made {
+        bytes: bytes.len(),
+        ours: turns(move || {
+            let mut sum = 0;
+            for item in black_box(&bytes).chunks_exact(len) {
+                let (refusal, value, _) = ours::read_uint(item);
+                if refusal != 0 {
+                    break;
+                }
+                sum ^= value;
+            }
+            black_box(sum);
+        }),
+        theirs: Some(turns(move || {
+            let mut sum = 0;
+            for item in black_box(&again).chunks_exact(len) {
+                let Ok(value) = read_varlen_uint(&mut ParseBuf(item)) else {
                     break;
                 };
                 sum ^= value;

@@ -3,14 +3,14 @@ use mathlib.Core.Path.{_≡_, refl, sym, ap, _∙_}
 use mathlib.Core.List.{List, [], _∷_, _++_, append-assoc}
 use Prim.Native.Nat.{ℕ, zero, suc, _+_, _-_, _*_, _/_, _%_, _^_, _≤_, _<_}
 use native.Mathlib.Numerals.{add-one}
-use native.Mathlib.Nat.{pow-suc, pow-le-pow-right, mul-assoc, mul-le-mul-right, mod-eq-of-lt}
+use native.Mathlib.Nat.{pow-suc, pow-le-pow-right, mul-assoc, mul-le-mul-right, mod-lt, mod-eq-of-lt}
 use native.Mathlib.Omega.{arith}
-use lib.ListN.{length, drop, length-drop, getD, set}
+use lib.ListN.{length, take, drop, length-drop, getD, set}
 use lib.Bits.{bitOr, or-shifted-r}
-use lib.Pow.{pow-add, pow-pos}
-use lib.Seq.{drop-append-seam, take-append-seam, take-suc, getD-drop, length-take-le}
+use lib.Pow.{pow-add, pow-pos, field, mod-pow-add, shl-exact, shl-shr}
+use lib.Seq.{drop-cons, drop-append-seam, take-append-seam, take-suc, getD-drop, length-take-le}
 use Rattle.misc.specs.Refusal.{number, ended}
-use Rattle.misc.specs.Parse.{refuse, parsed, part, refusedUint, uintRead}
+use Rattle.misc.specs.Parse.{refuse, parsed, Bytes, part, refusedUint, uintRead}
 use Rattle.misc.specs.declared.ReadUint.{ReadUint}
 use Rattle.misc.specs.Le.{leOf, leBytes, leAt}
 use Rattle.misc.proofs.ParseLaws.{bytes-here, bytes-gone}
@@ -114,3 +114,47 @@ module _ (i scale : ℕ) (few : i ≤ 7) (is : scale ≡ 2 ^ (8 * i) % 2 ^ 64) w
       let all : leOf (part s at (i + 1)) ≡ leOf (part s at i) + b * P = rw (one, leOf-snoc (part s at i) b, size) in
       let power : 256 ^ (i + 1) ≡ P * 256 = rw (add-one, pow-suc, pow-bytes i) in
       rw (scale-held .0, sum, all, power) (omega arith, omega (arith, most, below))
+
+-- ---- eight bytes at once
+
+-- the first n of m bytes spell the low 8 n bits of what all of them spell
+low-bytes : (n m : ℕ) (bs : List ℕ) → Bytes bs → n ≤ m → leOf (take m bs) % 2 ^ (8 * n) ≡ leOf (take n bs)
+unfolding leOf
+low-bytes zero m bs small h = omega arith
+low-bytes (suc n) zero bs small h = absurd (omega arith)
+low-bytes (suc n) (suc m) [] small h = mod-eq-of-lt (pow-pos (8 * suc n))
+low-bytes (suc n) (suc m) (b ∷ bs) small h =
+    let all = leOf (take m bs) in
+    let byte : b < 256 = small 0 in
+    let e : 8 * suc n ≡ 8 * n + 8 = omega arith in
+    let rest : (b + 256 * all) / 2 ^ 8 ≡ all = omega arith in
+    let first : (b + 256 * all) % 2 ^ 8 ≡ b = omega arith in
+    rw (e, mod-pow-add (b + 256 * all) (8 * n) 8, rest, first, low-bytes n m bs (λ i. small (suc i)) (omega arith)) (omega arith)
+
+-- what a machine number holds above its n low bytes is shifted out of it, and the rest back
+shifted-out : (v n : ℕ) → n ≤ 8 → (v * 2 ^ (64 - 8 * n)) % 2 ^ 64 / 2 ^ (64 - 8 * n) ≡ v % 2 ^ (8 * n)
+shifted-out v n h =
+    let k = 64 - 8 * n in
+    let e : 64 ≡ 8 * n + k = omega arith in
+    ap (λ (w : ℕ). (v * 2 ^ k) % 2 ^ w / 2 ^ k) e ∙ field (v * 2 ^ k) (8 * n) k ∙ rw (shl-shr v k)
+
+-- the first n of the eight bytes that were loaded
+pub loaded-low : (s : List ℕ) (at n v : ℕ) → Bytes s → n ≤ 8 → v ≡ leOf (part s at 8)
+    → ((v * 2 ^ (64 - 8 * n)) % 2 ^ 64 / 2 ^ (64 - 8 * n) ≡ leOf (part s at n)) × ((v * 2 ^ (64 - 8 * n)) % 2 ^ 64 / 2 ^ (64 - 8 * n) < 256 ^ n)
+loaded-low s at n v small few is =
+    let from : Bytes (drop at s) = λ i. rw (getD-drop at s i 0) (small (at + i)) in
+    let out = shifted-out v n few in
+    (out ∙ rw is (low-bytes n 8 (drop at s) from few), rw (pow-bytes n, out) (mod-lt v (pow-pos (8 * n))))
+
+-- the lowest byte of a part, and the part behind it
+le-next : (s : List ℕ) (at n : ℕ) → at < length s → leOf (part s at (n + 1)) ≡ getD s at 0 + 256 * leOf (part s (at + 1) n)
+unfolding leOf
+le-next s at n inside = rw (add-one n, drop-cons s at 0 inside, add-one at)
+
+-- a byte, and above it the number of the n bytes behind it
+pub byte-below : (s : List ℕ) (at n b v : ℕ) → at < length s → n ≤ 7 → b ≡ getD s at 0 → b < 256 → (v ≡ leOf (part s (at + 1) n)) × (v < 256 ^ n)
+    → bitOr b ((v * 2 ^ 8) % 2 ^ 64) ≡ leOf (part s at (n + 1))
+byte-below s at n b v inside few byte small is =
+    let low : v < 2 ^ (8 * n) = rw (pow-bytes n) at (is .1) in
+    let held : (v * 2 ^ 8) % 2 ^ 64 ≡ v * 2 ^ 8 = shl-exact (8 * n) 8 64 low (omega arith) in
+    rw (held, or-shifted-r v 8 b small, le-next s at n inside, ← byte, ← is .0) (omega arith)

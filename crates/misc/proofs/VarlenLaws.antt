@@ -9,15 +9,15 @@ use borrow.Author.Tests.{lt-ltb, le-ltb, ltb-true}
 use native.Mathlib.Numerals.{add-one}
 use native.Mathlib.Decide.{decLt}
 use native.Mathlib.Omega.{arith}
-use Rattle.misc.proofs.LeLaws.{length-leBytes}
+use Rattle.misc.proofs.LeLaws.{length-leBytes, le-here, le-gone}
 use lib.Pow.{pow-pos, pow-mono, shl-exact}
 use lib.Bits.{bitOr, or-shifted}
 use lib.ListN.{length, getD, drop}
 use lib.Seq.{drop-cons}
 use Rattle.misc.specs.Refusal.{ended}
 use Rattle.misc.specs.Parse.{refuse, parsed, part}
-use Rattle.misc.specs.Le.{leOf, leBytes}
-use Rattle.misc.proofs.ParseLaws.{bytes-here, bytes-gone, byte-here, byte-gone}
+use Rattle.misc.specs.Le.{leOf, leBytes, leAt}
+use Rattle.misc.proofs.ParseLaws.{split, bytes-here, bytes-gone, byte-here, byte-gone}
 use lib.Count.{trailingZeros, under}
 use Rattle.misc.specs.Pick.{pick}
 use Rattle.misc.specs.Varlen.{above, trailingOnes, itemValue, itemAt, varlenAt, sizeFrom, varlenSize, itemOf, varlenBytes}
@@ -94,6 +94,34 @@ module _ (s : List ℕ) (at t : ℕ) (inside : at < length s) (ones : t ≡ trai
   varlen-nine h e =
       let rest : drop 1 (part s at 9) ≡ part s (at + 1) 8 = rw (drop-cons s at 0 inside, add-one) in
       varlen-inside ∙ rw (e, bytes-here 9 s at h, rest)
+
+  -- after eight ones a fixed number of eight bytes follows, if they are there
+  pub varlen-led : t ≡ 8 → varlenAt s at ≡ leAt 8 s (at + 1)
+  varlen-led e =
+      let next : at + 1 + 8 ≡ at + 9 = omega arith in
+      split (at + 9) (length s)
+      (λ here. varlen-nine here e ∙ sym (le-here 8 s (at + 1) (omega arith) ∙ ap (parsed (leOf (part s (at + 1) 8))) next))
+      (λ gone. varlen-cut (omega arith) ∙ sym (le-gone 8 s (at + 1) (omega arith)))
+
+-- ---- one byte
+
+-- an even byte has no trailing ones, an odd one some
+ones-even : (k b : ℕ) → b % 2 ≡ 0 → 0 ≡ trailingOnes (suc k) b
+unfolding trailingOnes
+ones-even k b e = rw e
+
+pub ones-odd : (k b : ℕ) → 1 ≤ b % 2 → 1 ≤ trailingOnes (suc k) b
+unfolding trailingOnes
+ones-odd k b h =
+    let e : b % 2 ≡ 1 = omega arith in
+    rw e (omega arith)
+
+-- an even first byte is the whole item
+pub varlen-even : (s : List ℕ) (at : ℕ) → at < length s → getD s at 0 % 2 ≡ 0 → varlenAt s at ≡ parsed (getD s at 0 / 2) (at + 1)
+unfolding leOf
+varlen-even s at inside even =
+    let one : leOf (part s at 1) ≡ getD s at 0 = rw (drop-cons s at 0 inside) (omega arith) in
+    varlen-narrow s at 0 inside (ones-even 7 (getD s at 0) even) (omega arith) (omega arith) ∙ ap (λ (v : ℕ). parsed (v / 2) (at + 1)) one
 
 -- ---- the shortest size
 size-case : (k n v : ℕ) (b : Bool) → ltb v (2 ^ (7 * n)) ≡ b

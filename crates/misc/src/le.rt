@@ -1,6 +1,7 @@
 // Little-endian integers of a fixed width: 4, 7 and 8 bytes.
 use crate::ReadUint;
 use crate::Wrote;
+use crate::bytes::left_at;
 use crate::refusal::ENDED;
 use crate::refusal::NO_ROOM;
 use crate::refused_uint;
@@ -18,7 +19,7 @@ pub(crate) fn wide(b: u8) -> u64
 }
 
 // The number that the `n` bytes from `at` on spell.
-pub(crate) fn gather(s: &[u8], at: usize, n: usize) -> u64
+fn gather(s: &[u8], at: usize, n: usize) -> u64
     requires { ⌜ (n ≤ 8) × (at + n ≤ length (now s)) ⌝ }
     ensures { λ r. ⌜ (r ≡ leOf (part (now (s .entry)) at n)) × (r < 256 ^ n) ⌝ }
 {
@@ -31,6 +32,27 @@ pub(crate) fn gather(s: &[u8], at: usize, n: usize) -> u64
         i += 1;
     }
     value
+}
+
+// Eight bytes. As a function of its own it becomes one load, before the compiler sees that some bytes are shifted out.
+fn gather_eight(s: &[u8], at: usize) -> u64
+    requires { ⌜ at + 8 ≤ length (now s) ⌝ }
+    ensures { λ r. ⌜ r ≡ leOf (part (now (s .entry)) at 8) ⌝ }
+{
+    gather(s, at, 8)
+}
+
+// As `gather`, for a width that the machine has no load for, or that isn't known beforehand: where eight bytes are there, all
+// are loaded at once, and those above the first `n` are shifted out.
+pub(crate) fn gather_at_once(s: &[u8], at: usize, n: usize) -> u64
+    requires { ⌜ (1 ≤ n) × (n ≤ 8) × (at + n ≤ length (now s)) ⌝ }
+    ensures { λ r. ⌜ (r ≡ leOf (part (now (s .entry)) at n)) × (r < 256 ^ n) ⌝ }
+{
+    if s.len() - at < 8 {
+        return gather(s, at, n);
+    }
+    let above = 64 - 8 * n;
+    (gather_eight(s, at) << above) >> above
 }
 
 // Puts the `n` low bytes of `value` from `at` on.
@@ -74,7 +96,14 @@ pub fn read_u32_le(s: &[u8], at: usize) -> ReadUint
 pub fn read_u56_le(s: &[u8], at: usize) -> ReadUint
     ensures { λ r. ⌜ (r ≡ uintRead (leAt 7 (now (s .entry)) at)) × (r .value < 2 ^ 56) ⌝ }
 {
-    read_le(s, at, 7)
+    if left_at(s, at) < 7 {
+        return refused_uint(ENDED);
+    }
+    ReadUint {
+        refusal: 0,
+        value: gather_at_once(s, at, 7),
+        next: at + 7,
+    }
 }
 
 pub fn read_u64_le(s: &[u8], at: usize) -> ReadUint

@@ -24,19 +24,25 @@ pub fn read_varlen_uint(s: &[u8], at: usize) -> ReadUint
     if s.len() <= at {
         return refused_uint(ENDED);
     }
-    let ones = trailing_ones(s[at]);
+    let first = s[at];
+    // No trailing one: the first byte is the whole item.
+    if first % 2 == 0 {
+        return ReadUint {
+            refusal: 0,
+            value: le::wide(first >> 1),
+            next: at + 1,
+        };
+    }
+    let ones = trailing_ones(first);
+    if ones == 8 {
+        return le::read_u64_le(s, at + 1);
+    }
     let num_bytes = ones + 1;
     if s.len() - at < num_bytes {
         return refused_uint(ENDED);
     }
-    if ones == 8 {
-        return ReadUint {
-            refusal: 0,
-            value: le::gather(s, at + 1, 8),
-            next: at + 9,
-        };
-    }
-    let le_val = le::gather(s, at, num_bytes);
+    // Gathered are the bytes behind the first: with one that was loaded before, eight become eight loads.
+    let le_val = le::wide(first) | (le::gather_at_once(s, at + 1, ones) << 8);
     ReadUint {
         refusal: 0,
         value: le_val >> num_bytes,

@@ -1,9 +1,11 @@
 -- `misc::varlen::read_varlen_uint` meets its contract.
 -- Assumes nothing.
-use Rattle.misc.proofs.VarlenLaws.{varlen-past, varlen-cut, varlen-narrow, varlen-nine}
+use Rattle.misc.proofs.LeLaws.{byte-below}
+use Rattle.misc.proofs.VarlenLaws.{varlen-past, varlen-even, varlen-led, varlen-cut, varlen-narrow, ones-odd}
 use Rattle.misc.specs.Parse.{parsed, uintRead}
 use native.Mathlib.Omega.{arith}
 use Prim.Native.Nat.{ℕ, _+_, _/_, _^_, _<_}
+use lib.ListN.{getD}
 use mathlib.Core.Path.{sym, ap, _∙_}
 use borrow.Author.Needs.{needs}
 use Rattle.misc.proofs.varlen.read_varlen_uint.Statement.{statement}
@@ -15,60 +17,81 @@ refused-uint-requires c κs = search needs
 returns : tie.Need-returns
 returns c = c .refused-uint .ensures ∙ ap uintRead (sym (varlen-past _ _ (c .before .if1 .taken)))
 
-shared-slice-read-trailing-ones : tie.Need-shared-slice-read-trailing-ones
-shared-slice-read-trailing-ones c = search needs
+shared-slice-read-first : tie.Need-shared-slice-read-first
+shared-slice-read-first c = search needs
 
-trailing-ones-requires : tie.Need-trailing-ones-requires
-trailing-ones-requires c κs = search needs
-
-add-num-bytes : tie.Need-add-num-bytes
-add-num-bytes c = search needs
-
-sub-if2 : tie.Need-sub-if2
-sub-if2 c = search needs
-
-refused-uint-requires-2 : tie.Need-refused-uint-requires-2
-refused-uint-requires-2 c κs = search needs
-
-returns-2 : tie.Need-returns-2
-returns-2 c =
-    let t = c .before .before .trailing-ones in
-    let a = c .before .before .before .before .before .before .args in
-    c .refused-uint2 .ensures ∙ ap uintRead (sym (varlen-cut (a .s .now) (a .at) (t .result) (omega arith) (t .ensures .0) (omega arith)))
-
-add-gather : tie.Need-add-gather
-add-gather c = search needs
-
-gather-requires : tie.Need-gather-requires
-gather-requires c κs = search needs
+wide-requires : tie.Need-wide-requires
+wide-requires c κs = search needs
 
 add-t13 : tie.Need-add-t13
 add-t13 c = search needs
 
+returns-2 : tie.Need-returns-2
+returns-2 c =
+    let a = c .before .before .before .before .before .args in
+    let law = varlen-even (a .s .now) (a .at) (omega arith) (c .before .if2 .taken) in
+    ap (λ (v : ℕ). uintRead (parsed v (a .at + 1))) (c .wide .ensures) ∙ ap uintRead (sym law)
+
+trailing-ones-requires : tie.Need-trailing-ones-requires
+trailing-ones-requires c κs = search needs
+
+add-read-u64-le : tie.Need-add-read-u64-le
+add-read-u64-le c = search needs
+
+read-u64-le-requires : tie.Need-read-u64-le-requires
+read-u64-le-requires c κs = search needs
+
 returns-3 : tie.Need-returns-3
 returns-3 c =
-    let t = c .before .before .before .trailing-ones in
+    let t = c .before .before .trailing-ones in
     let a = c .before .before .before .before .before .before .before .args in
-    let law = varlen-nine (a .s .now) (a .at) (t .result) (omega arith) (t .ensures .0) (omega arith) (c .before .if3 .taken) in
-    ap (λ (v : ℕ). uintRead (parsed v (a .at + 9))) (c .gather .ensures .0) ∙ ap uintRead (sym law)
+    c .read-u64-le .ensures ∙ ap uintRead (sym (varlen-led (a .s .now) (a .at) (t .result) (omega arith) (t .ensures .0) (c .before .if3 .taken)))
 
-gather-requires-2 : tie.Need-gather-requires-2
-gather-requires-2 c κs = search needs
+add-num-bytes : tie.Need-add-num-bytes
+add-num-bytes c = search needs
 
-shr-t15 : tie.Need-shr-t15
-shr-t15 c = search needs
+sub-if4 : tie.Need-sub-if4
+sub-if4 c = search needs
 
-add-t6 : tie.Need-add-t6
-add-t6 c = search needs
+refused-uint-requires-2 : tie.Need-refused-uint-requires-2
+refused-uint-requires-2 c κs = search needs
 
 returns-4 : tie.Need-returns-4
 returns-4 c =
     let t = c .before .before .before .trailing-ones in
-    let a = c .before .before .before .before .before .before .before .args in
+    let a = c .before .before .before .before .before .before .before .before .args in
+    c .refused-uint2 .ensures ∙ ap uintRead (sym (varlen-cut (a .s .now) (a .at) (t .result) (omega arith) (t .ensures .0) (omega arith)))
+
+wide-requires-2 : tie.Need-wide-requires-2
+wide-requires-2 c κs = search needs
+
+add-gather-at-once : tie.Need-add-gather-at-once
+add-gather-at-once c = search needs
+
+gather-at-once-requires : tie.Need-gather-at-once-requires
+gather-at-once-requires c κs =
+    let t = c .before .before .before .trailing-ones in
+    let a = c .before .before .before .before .before .before .before .before .args in
+    let some = ones-odd 7 (getD (a .s .now) (a .at) 0) (omega arith) in
+    (omega (arith, some, t .ensures .0), omega arith, omega arith)
+
+shr-t18 : tie.Need-shr-t18
+shr-t18 c = search needs
+
+add-t15 : tie.Need-add-t15
+add-t15 c = search needs
+
+returns-5 : tie.Need-returns-5
+returns-5 c =
+    let t = c .before .before .before .before .trailing-ones in
+    let a = c .before .before .before .before .before .before .before .before .before .args in
     let n = t .result + 1 in
-    let below : t .result < 8 = omega (arith, c .before .if3 .left) in
-    let law = varlen-narrow (a .s .now) (a .at) (t .result) (omega arith) (t .ensures .0) (omega arith) below in
-    ap (λ (v : ℕ). uintRead (parsed (v / 2 ^ n) (a .at + n))) (c .gather2 .ensures .0) ∙ ap uintRead (sym law)
+    let few : t .result < 8 = omega (arith, c .before .before .before .if3 .left) in
+    let first = c .before .wide2 in
+    let byte = c .before .before .before .before .before .before .shared-slice-known2 .given (a .at) in
+    let item = byte-below (a .s .now) (a .at) (t .result) (first .result) (c .gather-at-once .result) (omega arith) (omega arith) (first .ensures) (omega arith) (c .gather-at-once .ensures) in
+    let law = varlen-narrow (a .s .now) (a .at) (t .result) (omega arith) (t .ensures .0) (omega arith) few in
+    ap (λ (v : ℕ). uintRead (parsed (v / 2 ^ n) (a .at + n))) item ∙ ap uintRead (sym law)
 
 pub read-varlen-uint-spec : {M : Type 1} → statement M
 read-varlen-uint-spec =
@@ -76,17 +99,21 @@ read-varlen-uint-spec =
     (tie.spec
     refused-uint-requires
     returns
-    shared-slice-read-trailing-ones
-    trailing-ones-requires
-    add-num-bytes
-    sub-if2
-    refused-uint-requires-2
-    returns-2
-    add-gather
-    gather-requires
+    shared-slice-read-first
+    wide-requires
     add-t13
+    returns-2
+    trailing-ones-requires
+    add-read-u64-le
+    read-u64-le-requires
     returns-3
-    gather-requires-2
-    shr-t15
-    add-t6
-    returns-4)
+    add-num-bytes
+    sub-if4
+    refused-uint-requires-2
+    returns-4
+    wide-requires-2
+    add-gather-at-once
+    gather-at-once-requires
+    shr-t18
+    add-t15
+    returns-5)
