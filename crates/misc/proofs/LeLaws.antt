@@ -7,8 +7,8 @@ use native.Mathlib.Nat.{pow-suc, pow-le-pow-right, mul-assoc, mul-le-mul-right, 
 use native.Mathlib.Omega.{arith}
 use lib.ListN.{length, take, drop, length-drop, getD, set}
 use lib.Bits.{bitOr, or-shifted-r}
-use lib.Pow.{pow-add, pow-pos, field, mod-pow-add, shl-exact, shl-shr}
-use lib.Seq.{drop-cons, drop-append-seam, take-append-seam, take-suc, getD-drop, length-take-le}
+use lib.Pow.{pow-add, pow-pos, field, mod-pow-add, shl-shr}
+use lib.Seq.{drop-append-seam, take-append-seam, take-suc, getD-drop, length-take-le}
 use Rattle.misc.specs.Refusal.{number, ended}
 use Rattle.misc.specs.Parse.{refuse, parsed, Bytes, part, refusedUint, uintRead}
 use Rattle.misc.specs.declared.ReadUint.{ReadUint}
@@ -145,16 +145,3 @@ loaded-low s at n v small few is =
     let from : Bytes (drop at s) = λ i. rw (getD-drop at s i 0) (small (at + i)) in
     let out = shifted-out v n few in
     (out ∙ rw is (low-bytes n 8 (drop at s) from few), rw (pow-bytes n, out) (mod-lt v (pow-pos (8 * n))))
-
--- the lowest byte of a part, and the part behind it
-le-next : (s : List ℕ) (at n : ℕ) → at < length s → leOf (part s at (n + 1)) ≡ getD s at 0 + 256 * leOf (part s (at + 1) n)
-unfolding leOf
-le-next s at n inside = rw (add-one n, drop-cons s at 0 inside, add-one at)
-
--- a byte, and above it the number of the n bytes behind it
-pub byte-below : (s : List ℕ) (at n b v : ℕ) → at < length s → n ≤ 7 → b ≡ getD s at 0 → b < 256 → (v ≡ leOf (part s (at + 1) n)) × (v < 256 ^ n)
-    → bitOr b ((v * 2 ^ 8) % 2 ^ 64) ≡ leOf (part s at (n + 1))
-byte-below s at n b v inside few byte small is =
-    let low : v < 2 ^ (8 * n) = rw (pow-bytes n) at (is .1) in
-    let held : (v * 2 ^ 8) % 2 ^ 64 ≡ v * 2 ^ 8 = shl-exact (8 * n) 8 64 low (omega arith) in
-    rw (held, or-shifted-r v 8 b small, le-next s at n inside, ← byte, ← is .0) (omega arith)

@@ -104,17 +104,9 @@ module _ (s : List ℕ) (at t : ℕ) (inside : at < length s) (ones : t ≡ trai
       (λ gone. varlen-cut (omega arith) ∙ sym (le-gone 8 s (at + 1) (omega arith)))
 
 -- ---- one byte
-
--- an even byte has no trailing ones, an odd one some
 ones-even : (k b : ℕ) → b % 2 ≡ 0 → 0 ≡ trailingOnes (suc k) b
 unfolding trailingOnes
 ones-even k b e = rw e
-
-pub ones-odd : (k b : ℕ) → 1 ≤ b % 2 → 1 ≤ trailingOnes (suc k) b
-unfolding trailingOnes
-ones-odd k b h =
-    let e : b % 2 ≡ 1 = omega arith in
-    rw e (omega arith)
 
 -- an even first byte is the whole item
 pub varlen-even : (s : List ℕ) (at : ℕ) → at < length s → getD s at 0 % 2 ≡ 0 → varlenAt s at ≡ parsed (getD s at 0 / 2) (at + 1)

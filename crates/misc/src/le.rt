@@ -34,7 +34,8 @@ fn gather(s: &[u8], at: usize, n: usize) -> u64
     value
 }
 
-// Eight bytes. As a function of its own it becomes one load, before the compiler sees that some bytes are shifted out.
+// Eight bytes. As a function of its own it becomes one load, before the compiler sees that one of them was loaded already, or is
+// shifted out.
 fn gather_eight(s: &[u8], at: usize) -> u64
     requires { ⌜ at + 8 ≤ length (now s) ⌝ }
     ensures { λ r. ⌜ r ≡ leOf (part (now (s .entry)) at 8) ⌝ }

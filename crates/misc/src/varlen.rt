@@ -41,8 +41,7 @@ pub fn read_varlen_uint(s: &[u8], at: usize) -> ReadUint
     if s.len() - at < num_bytes {
         return refused_uint(ENDED);
     }
-    // Gathered are the bytes behind the first: with one that was loaded before, eight become eight loads.
-    let le_val = le::wide(first) | (le::gather_at_once(s, at + 1, ones) << 8);
+    let le_val = le::gather_at_once(s, at, num_bytes);
     ReadUint {
         refusal: 0,
         value: le_val >> num_bytes,

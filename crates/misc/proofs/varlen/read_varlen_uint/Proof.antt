@@ -1,11 +1,9 @@
 -- `misc::varlen::read_varlen_uint` meets its contract.
 -- Assumes nothing.
-use Rattle.misc.proofs.LeLaws.{byte-below}
-use Rattle.misc.proofs.VarlenLaws.{varlen-past, varlen-even, varlen-led, varlen-cut, varlen-narrow, ones-odd}
+use Rattle.misc.proofs.VarlenLaws.{varlen-past, varlen-even, varlen-led, varlen-cut, varlen-narrow}
 use Rattle.misc.specs.Parse.{parsed, uintRead}
 use native.Mathlib.Omega.{arith}
 use Prim.Native.Nat.{ℕ, _+_, _/_, _^_, _<_}
-use lib.ListN.{getD}
 use mathlib.Core.Path.{sym, ap, _∙_}
 use borrow.Author.Needs.{needs}
 use Rattle.misc.proofs.varlen.read_varlen_uint.Statement.{statement}
@@ -62,36 +60,23 @@ returns-4 c =
     let a = c .before .before .before .before .before .before .before .before .args in
     c .refused-uint2 .ensures ∙ ap uintRead (sym (varlen-cut (a .s .now) (a .at) (t .result) (omega arith) (t .ensures .0) (omega arith)))
 
-wide-requires-2 : tie.Need-wide-requires-2
-wide-requires-2 c κs = search needs
-
-add-gather-at-once : tie.Need-add-gather-at-once
-add-gather-at-once c = search needs
-
 gather-at-once-requires : tie.Need-gather-at-once-requires
-gather-at-once-requires c κs =
-    let t = c .before .before .before .trailing-ones in
-    let a = c .before .before .before .before .before .before .before .before .args in
-    let some = ones-odd 7 (getD (a .s .now) (a .at) 0) (omega arith) in
-    (omega (arith, some, t .ensures .0), omega arith, omega arith)
+gather-at-once-requires c κs = search needs
 
-shr-t18 : tie.Need-shr-t18
-shr-t18 c = search needs
+shr-t17 : tie.Need-shr-t17
+shr-t17 c = search needs
 
-add-t15 : tie.Need-add-t15
-add-t15 c = search needs
+add-t7 : tie.Need-add-t7
+add-t7 c = search needs
 
 returns-5 : tie.Need-returns-5
 returns-5 c =
-    let t = c .before .before .before .before .trailing-ones in
-    let a = c .before .before .before .before .before .before .before .before .before .args in
+    let t = c .before .before .before .trailing-ones in
+    let a = c .before .before .before .before .before .before .before .before .args in
     let n = t .result + 1 in
-    let few : t .result < 8 = omega (arith, c .before .before .before .if3 .left) in
-    let first = c .before .wide2 in
-    let byte = c .before .before .before .before .before .before .shared-slice-known2 .given (a .at) in
-    let item = byte-below (a .s .now) (a .at) (t .result) (first .result) (c .gather-at-once .result) (omega arith) (omega arith) (first .ensures) (omega arith) (c .gather-at-once .ensures) in
+    let few : t .result < 8 = omega (arith, c .before .before .if3 .left) in
     let law = varlen-narrow (a .s .now) (a .at) (t .result) (omega arith) (t .ensures .0) (omega arith) few in
-    ap (λ (v : ℕ). uintRead (parsed (v / 2 ^ n) (a .at + n))) item ∙ ap uintRead (sym law)
+    ap (λ (v : ℕ). uintRead (parsed (v / 2 ^ n) (a .at + n))) (c .gather-at-once .ensures .0) ∙ ap uintRead (sym law)
 
 pub read-varlen-uint-spec : {M : Type 1} → statement M
 read-varlen-uint-spec =
@@ -111,9 +96,7 @@ read-varlen-uint-spec =
     sub-if4
     refused-uint-requires-2
     returns-4
-    wide-requires-2
-    add-gather-at-once
     gather-at-once-requires
-    shr-t18
-    add-t15
+    shr-t17
+    add-t7
     returns-5)
