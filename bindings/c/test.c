@@ -51,6 +51,22 @@ static void write_new_event(void)
     EXPECT(memcmp(back, record, sizeof record) == 0);
 }
 
+/* The highest number of a set is taken; the next one is read and written, and refused. */
+static void offer_highest(void)
+{
+    uint8_t event[25] = {0}, record[GTID_RECORD_LEN], written[GTID_LONGEST_EVENT], kind = 9;
+    size_t len = 9, used = 9;
+
+    memset(set, 0, 8);
+    put(event + 17, GTID_HIGHEST_GNO);
+    EXPECT(gtid_offer(set, 8, 33, event, sizeof event, next, sizeof next, &kind, &len) == 0 && kind == GTID_TAKEN);
+    put(event + 17, GTID_HIGHEST_GNO + 1);
+    EXPECT(gtid_offer(next, len, 33, event, sizeof event, set, sizeof set, &kind, &len) == 15 && kind == GTID_REFUSED);
+    EXPECT(gtid_read(33, event, sizeof event, record, sizeof record, &used) == 0);
+    EXPECT(gtid_write(record, sizeof record, written, sizeof written, &len) == 0);
+    EXPECT(len == sizeof event && memcmp(written, event, len) == 0);
+}
+
 int main(void)
 {
     size_t len = 9, used = 9, tag_len = 9, first = 9, end = 9;
@@ -107,5 +123,6 @@ int main(void)
 
     write_longest_event();
     write_new_event();
+    offer_highest();
     return faults != 0;
 }

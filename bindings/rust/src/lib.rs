@@ -60,7 +60,7 @@ pub use event::GtidEvent;
 pub use gtid::Gtid;
 pub use previous::{Entry, PreviousGtidsEvent};
 pub use refusal::Refusal;
-pub use set::{Offer, Offered, ResumeSet, LONGEST_SET};
+pub use set::{Offer, Offered, ResumeSet, HIGHEST_GNO, LONGEST_SET};
 
 /// The type of a GTID event.
 ///

@@ -10,6 +10,20 @@ use crate::{Entry, PreviousGtidsEvent, Refusal};
 /// ```
 pub const LONGEST_SET: usize = 47_368;
 
+/// The highest transaction number that a set can hold; the lowest is 1. An event may carry others, and is read, written and listed with
+/// them; offered, it is refused with [`Refusal::BadGno`].
+///
+/// ```
+/// use gtid_resume::{GtidEvent, Refusal, ResumeSet, GTID_EVENT, HIGHEST_GNO};
+///
+/// let mut set = ResumeSet::empty();
+/// set.offer(GTID_EVENT, &GtidEvent::new([7; 16], HIGHEST_GNO).write()?)?.commit();
+/// let beyond = GtidEvent::new([7; 16], HIGHEST_GNO + 1).write()?;
+/// assert_eq!(set.offer(GTID_EVENT, &beyond).unwrap_err(), Refusal::BadGno);
+/// # Ok::<(), Refusal>(())
+/// ```
+pub const HIGHEST_GNO: u64 = i64::MAX as u64 - 1;
+
 /// What an offer comes to, if it isn't refused, and what a follower does then. Nothing but [`Offered::AlreadyThere`] may be passed over.
 ///
 /// ```
@@ -233,7 +247,7 @@ impl ResumeSet {
     ///
     /// # Errors
     ///
-    /// The event's own refusals, 1 to 11; [`Refusal::BadGno`] for a transaction number outside its rule; and [`Refusal::Full`]. The event
+    /// The event's own refusals, 1 to 11; [`Refusal::BadGno`] for a transaction number that is 0 or above [`HIGHEST_GNO`]; and [`Refusal::Full`]. The event
     /// was not taken and must not be passed over.
     ///
     /// ```

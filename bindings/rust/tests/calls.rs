@@ -1,7 +1,7 @@
 //! The examples of the repository, and the edges of a set, through the archive.
 use gtid_resume::{
     list, read_varlen_uint, rewrite, Entry, GtidEvent, Offered, PreviousGtidsEvent, Refusal,
-    ResumeSet, ANONYMOUS_GTID_EVENT, GTID_EVENT, GTID_TAGGED_LOG_EVENT, LONGEST_SET,
+    ResumeSet, ANONYMOUS_GTID_EVENT, GTID_EVENT, GTID_TAGGED_LOG_EVENT, HIGHEST_GNO, LONGEST_SET,
     PREVIOUS_GTIDS_EVENT,
 };
 use std::fs;
@@ -190,6 +190,33 @@ fn the_longest_set_is_saved_and_listed() {
         list(PREVIOUS_GTIDS_EVENT, set.as_bytes()).lines().count(),
         257
     );
+}
+
+/// The number after the highest ends an interval, and events carry it.
+#[test]
+fn no_set_goes_past_the_highest_number() {
+    let beyond = HIGHEST_GNO + 1;
+    let mut set = ResumeSet::take_in(&previous(&[(1, &[(1, beyond)])])).unwrap();
+    assert!(set.contains(&[1; 16], b"", HIGHEST_GNO) && !set.contains(&[1; 16], b"", beyond));
+    let longer = previous(&[(1, &[(1, beyond + 1)])]);
+    assert_eq!(ResumeSet::take_in(&longer), Err(Refusal::BadGno));
+    assert_eq!(list(PREVIOUS_GTIDS_EVENT, &longer), "refused 15\n");
+    assert_eq!(ResumeSet::from_bytes(longer), Err(Refusal::NotASet));
+    for event in [
+        GtidEvent::new([1; 16], beyond),
+        GtidEvent::new_tagged([1; 16], b"a", beyond).unwrap(),
+    ] {
+        let body = event.write().unwrap();
+        assert_eq!(
+            GtidEvent::read(event.event_type(), &body),
+            Ok((event.clone(), body.len()))
+        );
+        assert!(list(event.event_type(), &body).ends_with(&format!(":{beyond}\n")));
+        assert_eq!(
+            take(&mut set, event.event_type(), &body),
+            Err(Refusal::BadGno)
+        );
+    }
 }
 
 #[test]

@@ -1,14 +1,14 @@
 -- How long a listed text is at most.
 use mathlib.Core.Path.{_≡_, refl, sym, ap}
 use mathlib.Core.List.{List, [], _∷_}
-use Prim.Native.Nat.{ℕ, suc, _+_, _-_, _*_, _^_, _≤_}
+use Prim.Native.Nat.{ℕ, suc, _+_, _-_, _*_, _≤_}
 use native.Mathlib.Omega.{arith}
 use lib.ListN.{length, take, length-append}
 use lib.Seq.{length-take-le}
 use lib.Dec.{eqb}
 use Rattle.misc.specs.Refusal.{number}
 use Rattle.misc.specs.Parse.{Parse, refuse, parsed}
-use Rattle.packets.specs.Gno.{Interval, interval}
+use Rattle.packets.specs.Gno.{gnoTop, Interval, interval}
 use Rattle.packets.proofs.Tests.{split}
 use Rattle.packets.proofs.GnoLaws.{gnoTop-is}
 use Rattle.previous_gtids_event.specs.Entry.{Entry, entry, uuidOf, tagOf}
@@ -40,17 +40,18 @@ longestText-is = refl
 -- ---- sets
 
 -- two numbers below 10^19, a colon and a dash
-last-most : (start end : ℕ) → end ≤ 2 ^ 63 → length (lastText start end) ≤ 20
+last-most : (start end : ℕ) → end ≤ gnoTop → length (lastText start end) ≤ 20
 last-most start end h =
-    split (eqb (start + 1) end) (λ t. rw t (omega arith)) (λ t. rw t (omega (arith, decimal-short 19 (end - 1) (omega arith) (omega arith))))
+    split (eqb (start + 1) end)
+    (λ t. rw t (omega arith))
+    (λ t. rw t (omega (arith, decimal-short 19 (end - 1) (omega arith) (omega (arith, gnoTop-is)))))
 
 intervals-most : (low : ℕ) (is : List Interval) → Gapped low is → length (intervalsText is) ≤ length is * 40
 unfolding intervalsText
 intervals-most low [] g = omega arith
 intervals-most low (interval start end ∷ is) g =
-    let small : end ≤ 2 ^ 63 = omega (arith, gnoTop-is) in
-    let first = decimal-short 19 start (omega arith) (omega arith) in
-    let last = last-most start end small in
+    let first = decimal-short 19 start (omega arith) (omega (arith, gnoTop-is)) in
+    let last = last-most start end (g .2) in
     let rest = intervals-most end is (g .3) in
     simp length-append (omega arith)
 

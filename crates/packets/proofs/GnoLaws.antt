@@ -1,5 +1,5 @@
 -- Laws of gnos and of intervals of them.
-use Prim.Native.Nat.{ℕ, _^_, _≤_, _<_}
+use Prim.Native.Nat.{ℕ, _-_, _^_, _≤_, _<_}
 use mathlib.Core.Path.{_≡_, refl}
 use mathlib.Core.Bool.{true, _&&_}
 use lib.Dec.{leb, ltb}
@@ -7,7 +7,7 @@ use borrow.Author.Tests.{le-leb, lt-ltb}
 use Rattle.packets.specs.Gno.{gnoTop, isGno, interval, isInterval}
 use Rattle.packets.proofs.Tests.{and-true, tests}
 
-pub gnoTop-is : gnoTop ≡ 2 ^ 63
+pub gnoTop-is : gnoTop ≡ 2 ^ 63 - 1
 unfolding gnoTop
 gnoTop-is = refl
 

@@ -1,11 +1,11 @@
 -- The gno rule, and that of intervals of gnos: both have the one top.
-use Prim.Native.Nat.{ℕ, _^_}
+use Prim.Native.Nat.{ℕ, _-_, _^_}
 use mathlib.Core.Bool.{Bool, _&&_}
 use lib.Dec.{leb, ltb}
 
 -- the first number that is too great for a gno; an interval ends there at the latest
 unfoldable pub gnoTop : ℕ
-gnoTop = 2 ^ 63
+gnoTop = 2 ^ 63 - 1
 
 -- a member's number lies from 1 up to, and without, the top
 abbrev pub isGno : ℕ → Bool

@@ -9,7 +9,7 @@ ghost use Rattle.packets.specs.Kept.{kept};
 use misc::bytes::write_bytes;
 
 // The first number that is too great for a gno; an interval ends there at the latest.
-const GNO_TOP: u64 = 0x8000_0000_0000_0000;
+const GNO_TOP: u64 = 0x7FFF_FFFF_FFFF_FFFF;
 
 fn is_tag_byte(b: u8) -> bool
     ensures { λ r. ⌜ r ≡ isTagByte b ⌝ }

@@ -75,7 +75,7 @@ writable-first : (e : GtidEvent) (out : List ℕ) → writable e ≡ false → a
 unfolding eventOutput answerOf
 writable-first e out cannot = rw cannot
 
-no-gno : (n : ℕ) → (n ≡ 0) ⊎ (gnoTop ≤ n) → isGno n ≡ false
+pub no-gno : (n : ℕ) → (n ≡ 0) ⊎ (gnoTop ≤ n) → isGno n ≡ false
 no-gno n (inl zero) = rw zero
 no-gno n (inr over) = rw (le-ltb n gnoTop over) (and-false (leb 1 n))
 

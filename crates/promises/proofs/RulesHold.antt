@@ -28,6 +28,7 @@ rules = record {
     λ h. let (least, rises, most) = interval-says start end h in (least, rises, omega (arith, gnoTop-is)),
     λ (least, rises, most). interval-from start end least rises (omega (arith, gnoTop-is)),
   );
+  gno-top = gnoTop-is;
   set-limits = λ s. (
     λ h. let (few, narrow) = limits-says s h in (omega (arith, maxEntries-is), omega (arith, maxIntervals-is)),
     λ (few, narrow). limits-from s (omega (arith, maxEntries-is)) (omega (arith, maxIntervals-is)),

@@ -253,7 +253,7 @@ covers-gno low (interval a b ∷ is) n (above, rises, below, rest) h = split (wi
     rw (le-leb 1 n least, lt-ltb n gnoTop most))
     (λ outside. covers-gno b is n rest (rw outside at h))
 
-has-gno : (s : List Entry) (k : Key) (n : ℕ) → SetForm s → has s k n ≡ true → isGno n ≡ true
+pub has-gno : (s : List Entry) (k : Key) (n : ℕ) → SetForm s → has s k n ≡ true → isGno n ≡ true
 has-gno [] k n f h = clash h refl
 has-gno (entry j is ∷ s) k n (some, gapped, above, rest) h = split (same k j && covers is n)
     (λ here. covers-gno 0 is n gapped (and-true (same k j) (covers is n) here .1))

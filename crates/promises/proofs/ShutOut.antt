@@ -37,7 +37,7 @@ use Rattle.gtid_event_write.specs.Write.{eventBytes, eventOutput}
 use Rattle.gtid_event_laws.specs.Fits.{Fits}
 use Rattle.gtid_event_laws.proofs.EventBack.{event-alone}
 use Rattle.gtid_sets.specs.Limits.{maxEntries, maxIntervals, limits}
-use Rattle.gtid_sets.specs.Lent.{lentSet}
+use Rattle.gtid_sets.specs.Lent.{form, unfit, lentSet}
 use Rattle.resume_set.specs.Answers.{eventOf}
 use Rattle.resume_set.specs.declared.Offered.the-variants.{NoId, Taken, Refused}
 use Rattle.resume_set_laws.specs.History.{Turn, Offering, member, TakesIn, TellsHistory}
@@ -47,7 +47,7 @@ use Rattle.promises.specs.UntaggedLayout.{NoTypecode, untaggedRecord, Sh
 use Rattle.promises.specs.TaggedLayout.{number, the-tag, said}
 use Rattle.promises.proofs.Demand2.{records-mean, one-record, entries-mean}
 use Rattle.promises.specs.Building.{Unversioned, NewVersions, KeepsVersions}
-use Rattle.promises.specs.WrongOnes.{claimsZero, forgetsVersions, refusesBodies, topByteTwo, tagsByOne, refusesAll, constantRecord, madeUpCount, swapsClock, equalId, ignoresEqual, writesNothing, copiesItsSet, addsOnlyTheFirst, alwaysNoId, noIdForZero, asksTaggedOnly}
+use Rattle.promises.specs.WrongOnes.{claimsZero, forgetsVersions, refusesBodies, topByteTwo, tagsByOne, refusesAll, constantRecord, madeUpCount, swapsClock, equalId, ignoresEqual, writesNothing, copiesItsSet, addsOnlyTheFirst, alwaysNoId, noIdForZero, takesTop, asksTaggedOnly}
 use Rattle.promises.specs.Exact.{OffersExactly, AsksExactly}
 use Rattle.promises.proofs.SetsExact.{offers-exactly}
 use Rattle.promises.proofs.BuildingHolds.{fresh-fits}
@@ -288,6 +288,18 @@ adds-only-the-first-out history =
     let (_, members) = history none [] none (offer 1 48 ∷ offer 3 48 ∷ []) none-taken-in (body-bytes 1 small-1, (body-bytes 3 small-3, tt)) in
     let clash : false ≡ true = members (replicate 16 0) 3 in
     false≢true clash
+
+-- one that takes the first number that is no gno: what it leaves is no set
+abbrev top : Turn
+top = record { type = 33; body = replicate 17 0 ++ leBytes 8 gnoTop; out = replicate 48 0 }
+
+pub takes-top-out : TellsHistory takesTop → ⊥
+unfolding eventOf gtid bodyLimit untagged openingAt byteAt bytesAt leAt leOf outputOf lentSet previous saysTagged saysCount many limits maxEntries maxIntervals bodyBytes anyTag headerBytes entriesBytes leBytes entryBytes intervalsBytes uuidOf tagOf entryAt headAt keyAt previous-specs.tagAt intervalAt gnoTop
+takes-top-out history =
+    let ((s, lent), _) = history none [] none (top ∷ []) none-taken-in (below-bytes (top .body) refl, tt) in
+    let same : unfit ≡ form s = lent in
+    let clash : _≡_ {A = ℕ} 0 1 = cc in
+    omega arith
 
 -- ---- offers against their cases
 

@@ -8,7 +8,10 @@ use Rattle.misc.specs.Pick.{pick}
 use Rattle.misc.specs.Refusal.{ended, notWritable}
 use Rattle.misc.specs.Parse.{Parse, refuse, parsed}
 use Rattle.misc.specs.Output.{refused, bytes, outputOf}
+use Rattle.packets.specs.Gno.{gnoTop, interval}
+use Rattle.previous_gtids_event.specs.Entry.{entry}
 use Rattle.previous_gtids_event.specs.Previous.{previous}
+use Rattle.previous_gtids_event.specs.Rewrite.{bodyBytes}
 use Rattle.gtid_event.specs.declared.EventStep.{EventStep}
 use Rattle.gtid_event.specs.declared.GtidEvent.{GtidEvent}
 use Rattle.gtid_event.specs.Event.{undefinedVersion, fresh, newUntagged, setNumber, withTag}
@@ -95,18 +98,29 @@ addsOnlyTheFirst =
 abbrev pub alwaysNoId : Offering
 alwaysNoId = record { answers = λ set t. NoId (length set); leaves = λ set t. outputOf (t .out) (bytes set) }
 
--- says "no id" to an event whose gno is 0, and is like ours otherwise
-abbrev pub namesZero : Event → Bool
-namesZero anonymous = false
-namesZero (broken r) = false
-namesZero (names k gno) = eqb gno 0
+abbrev pub namesGno : ℕ → Event → Bool
+namesGno n anonymous = false
+namesGno n (broken r) = false
+namesGno n (names k gno) = eqb gno n
 
-abbrev pub noIdForZero : Offering
-noIdForZero =
+-- like another offer for events with this gno, and like ours for all others
+abbrev pub onlyFor : ℕ → Offering → Offering
+onlyFor n other =
     record {
-      answers = λ set t. pick (namesZero (eventOf (t .type) (t .body))) (alwaysNoId .answers set t) (ours .answers set t);
-      leaves = λ set t. pick (namesZero (eventOf (t .type) (t .body))) (alwaysNoId .leaves set t) (ours .leaves set t);
+      answers = λ set t. pick (namesGno n (eventOf (t .type) (t .body))) (other .answers set t) (ours .answers set t);
+      leaves = λ set t. pick (namesGno n (eventOf (t .type) (t .body))) (other .leaves set t) (ours .leaves set t);
     }
+
+-- says "no id" to an event whose gno is 0
+abbrev pub noIdForZero : Offering
+noIdForZero = onlyFor 0 alwaysNoId
+
+-- takes the first number that is no gno, of the zero uuid and into the empty set
+abbrev pub topAlone : List ℕ
+topAlone = bodyBytes (entry (replicate 16 0) (interval gnoTop (gnoTop + 1) ∷ []) ∷ [])
+
+abbrev pub takesTop : Offering
+takesTop = onlyFor gnoTop (record { answers = λ set t. Taken (length topAlone); leaves = λ set t. outputOf (t .out) (bytes topAlone) })
 
 -- finds no id without a tag
 abbrev pub asksTaggedOnly : Asking

@@ -1,0 +1,155 @@
+-- The statements of `specs/Highest.antt` hold.
+use Prim.Native.Nat.{ℕ, _^_, _≤_, _<_}
+use mathlib.Core.Path.{_≡_, refl, ap, _∙_}
+use mathlib.Core.Bool.{true, false}
+use mathlib.Core.List.{List, [], _∷_, _++_}
+use mathlib.Core.Logic.{inl, inr}
+use native.Mathlib.Omega.{arith}
+use borrow.Author.Tests.{lt-ltb}
+use Rattle.misc.specs.Refusal.{badGno}
+use Rattle.misc.specs.Parse.{Bytes, parsed}
+use Rattle.packets.specs.Gno.{gnoTop, isGno, Interval, interval}
+use Rattle.packets.specs.Key.{Key}
+use Rattle.packets.proofs.GnoLaws.{gnoTop-is}
+use Rattle.packets.proofs.Tests.{split, clash}
+use Rattle.previous_gtids_event.specs.Entry.{Entry, entry}
+use Rattle.previous_gtids_event.specs.Previous.{previous}
+use Rattle.gtid_event.specs.Event.{tagged, typeOf, setNumber}
+use Rattle.gtid_event.specs.declared.GtidEvent.{GtidEvent}
+use Rattle.gtid_event_write.specs.Writable.{signedTop, writable}
+use Rattle.gtid_event_write.specs.Write.{eventBytes, eventOutput}
+use Rattle.gtid_event_write.proofs.WritableLaws.{tagged-fits, parts, as-tagged, as-untagged}
+use Rattle.gtid_event_laws.specs.Fits.{Fits}
+use Rattle.gtid_event_laws.proofs.EventBack.{event-alone}
+use Rattle.gtid_sets.specs.Interval.{Gapped}
+use Rattle.gtid_sets.specs.Set.{SetForm}
+use Rattle.gtid_sets.specs.TakeIn.{Proper, Lawful, lawful}
+use Rattle.gtid_sets.specs.Lent.{Lent, form, unfit, lentSet, SetLaid}
+use Rattle.gtid_sets.proofs.FormLaws.{lawful-holds}
+use Rattle.gtid_sets.proofs.LentLaws.{lent-is, is-lent, read-back}
+use Rattle.resume_set.specs.Answers.{eventOf, takeInAnswers}
+use Rattle.listing.specs.EventText.{refusedText, eventText}
+use Rattle.resume_set_laws.specs.History.{Turn, Offering, kept, keptAll, lentHas, member}
+use Rattle.resume_set_laws.specs.Ours.{ours}
+use Rattle.promises.specs.SetFaults.{SetFault, BodyIs, TakeInFault, Names}
+use Rattle.promises.specs.Highest.{EndsAt, HasEnd, CarriedOnly, Highest}
+use Rattle.promises.proofs.SetsExact.{body-read, event-named, has-gno}
+use Rattle.promises.proofs.AnswersTold.{listing-told}
+use Rattle.promises.proofs.OrdersHold.{no-gno, zeros}
+
+-- ---- an end behind the top
+
+module _ (end : ℕ) (over : gnoTop < end) where
+  none-gapped : (low : ℕ) (is : List Interval) → Gapped low is → EndsAt end is → ⊥
+  none-gapped low (interval a b ∷ is) g (inl here) = omega arith
+  none-gapped low (interval a b ∷ is) g (inr there) = none-gapped b is (g .3) there
+
+  none-formed : (s : List Entry) → SetForm s → HasEnd end s → ⊥
+  none-formed (entry k is ∷ s) f (inl here) = none-gapped 0 is (f .1) here
+  none-formed (entry k is ∷ s) f (inr there) = none-formed s (f .3) there
+
+  none-proper : (is : List Interval) → Proper is → EndsAt end is → ⊥
+  none-proper (interval a b ∷ is) p (inl here) = omega arith
+  none-proper (interval a b ∷ is) p (inr there) = none-proper is (p .3) there
+
+  none-lawful : (es : List Entry) → Lawful es → HasEnd end es → ⊥
+  none-lawful (entry k is ∷ es) l (inl here) = none-proper is (l .0) here
+  none-lawful (entry k is ∷ es) l (inr there) = none-lawful es (l .1) there
+
+  module _ (body : List ℕ) (es : List Entry) (are : Bytes body) (is : BodyIs body es) (has-end : HasEnd end es) where
+    unlent : SetFault body 14
+    unlent = SetFault.noSet (λ s laid.
+        let (used, read) = body-read body are is in
+        let back = ap previous (laid .written) ∙ read-back s (laid .formed) (laid .keyed) (laid .limited) in
+        let same : es ≡ s = cc in
+        none-formed s (laid .formed) (rw same at has-end))
+
+    unlawful : lawful es ≡ false
+    unlawful = split (lawful es) (λ good. absurd (none-lawful es (lawful-holds es good) has-end)) (λ bad. bad)
+
+    untaken : (out : List ℕ) → (takeInAnswers body out ≡ record { refusal = 15; len = 0 }) × (eventText 35 body ≡ refusedText 15)
+    untaken out =
+        let (used, read) = body-read body are is in
+        (rw (read, unlawful) (zeros badGno .wrote out), listing-told .refused-body body 15 are (TakeInFault.gnoRule is unlawful))
+
+-- ---- a record with the top as its gno
+
+with-top : (e : GtidEvent) → writable e ≡ true → writable (setNumber 2 gnoTop e) ≡ true
+unfolding writable signedTop gnoTop
+with-top e can =
+    let (code, behind, _) = parts e can in
+    split (tagged e)
+    (λ is.
+    let able = as-tagged e can is in
+    rw (code, behind, is) (rw (lt-ltb (e .gno) (2 ^ 63) (tagged-fits e able .gno)) at able))
+    (λ is. rw (code, behind, is) (as-untagged e can is))
+
+fits-top : (e : GtidEvent) → Fits e → Fits (setNumber 2 gnoTop e)
+fits-top e fits = record {
+  flags-fit = fits .flags-fit;
+  sid-size = fits .sid-size;
+  sid-fits = fits .sid-fits;
+  gno-fits = omega (arith, gnoTop-is);
+  tag-size = fits .tag-size;
+  tag-fits = fits .tag-fits;
+  tag-len-fits = fits .tag-len-fits;
+  typecode-fits = fits .typecode-fits;
+  last-fits = fits .last-fits;
+  sequence-fits = fits .sequence-fits;
+  immediate-fits = fits .immediate-fits;
+  original-fits = fits .original-fits;
+  length-fits = fits .length-fits;
+  version-fits = fits .version-fits;
+  original-version-fits = fits .original-version-fits;
+  ticket-fits = fits .ticket-fits;
+}
+
+top-none : isGno gnoTop ≡ false
+top-none = no-gno gnoTop (inr (omega arith))
+
+carried : (e : GtidEvent) → Fits e → writable e ≡ true → CarriedOnly (setNumber 2 gnoTop e)
+unfolding eventOutput eventText eventOf
+carried e fits can =
+    let high = setNumber 2 gnoTop e in
+    let able = with-top e can in
+    let read = event-alone high (fits-top e fits) able in
+    record {
+      body = eventBytes high;
+      written = rw able;
+      read = read;
+      listed = split (tagged e) (λ is. rw (read, is)) (λ is. rw (read, is));
+      offered = λ set s out laid. split (tagged e)
+          (λ is. rw (is-lent set s laid, read, is, top-none))
+          (λ is. rw (is-lent set s laid, read, is, top-none));
+    }
+
+-- ---- demand 3
+
+members : (set : List ℕ) (k : Key) (n : ℕ) → member set k n ≡ true → isGno n ≡ true
+members set k n = go (lentSet set) refl
+  where
+    go : (l : Lent) → lentSet set ≡ l → lentHas l k n ≡ true → isGno n ≡ true
+    go unfit lent h = clash h refl
+    go (form s) lent h = has-gno s k n (lent-is set s lent .formed) h
+
+-- a turn that leaves every set as it is can be left out
+left-out : (f : Offering) (t : Turn) → ((set : List ℕ) → kept f set t ≡ set) → (set : List ℕ) (before after : List Turn)
+    → keptAll f set (before ++ (t ∷ after)) ≡ keptAll f set (before ++ after)
+left-out f t same set [] after = ap (λ s. keptAll f s after) (same set)
+left-out f t same set (b ∷ before) after = left-out f t same (kept f set b) before after
+
+stays : (t : Turn) (e : GtidEvent) → Bytes (t .body) → Names (t .type) (t .body) e → gnoTop ≤ e .gno → (set : List ℕ) → kept ours set t ≡ set
+stays t e are named over set = go (lentSet set) refl
+  where
+    go : (l : Lent) → lentSet set ≡ l → kept ours set t ≡ set
+    go unfit lent = rw lent
+    go (form s) lent = rw (lent, event-named (t .type) (t .body) are named, no-gno (e .gno) (inr over))
+
+pub highest : Highest
+highest = record {
+  lent = λ set es end are is has-end over. unlent end over set es are is has-end;
+  taken-in = λ body out es end are is has-end over. untaken end over body es are is has-end out;
+  carried = carried;
+  members = members;
+  passed-over = λ set before after t e are named over. left-out ours t (stays t e are named over) set before after;
+}
