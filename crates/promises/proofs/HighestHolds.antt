@@ -21,11 +21,10 @@ use Rattle.gtid_event_write.specs.Write.{eventBytes, eventOutput}
 use Rattle.gtid_event_write.proofs.WritableLaws.{tagged-fits, parts, as-tagged, as-untagged}
 use Rattle.gtid_event_laws.specs.Fits.{Fits}
 use Rattle.gtid_event_laws.proofs.EventBack.{event-alone}
-use Rattle.gtid_sets.specs.Interval.{Gapped}
-use Rattle.gtid_sets.specs.Set.{SetForm}
 use Rattle.gtid_sets.specs.TakeIn.{Proper, Lawful, lawful}
 use Rattle.gtid_sets.specs.Lent.{Lent, form, unfit, lentSet, SetLaid}
 use Rattle.gtid_sets.proofs.FormLaws.{lawful-holds}
+use Rattle.gtid_sets.proofs.TakeInLaws.{form-lawful}
 use Rattle.gtid_sets.proofs.LentLaws.{lent-is, is-lent, read-back}
 use Rattle.resume_set.specs.Answers.{eventOf, takeInAnswers}
 use Rattle.listing.specs.EventText.{refusedText, eventText}
@@ -40,14 +39,6 @@ use Rattle.promises.proofs.OrdersHold.{no-gno, zeros}
 -- ---- an end behind the top
 
 module _ (end : ℕ) (over : gnoTop < end) where
-  none-gapped : (low : ℕ) (is : List Interval) → Gapped low is → EndsAt end is → ⊥
-  none-gapped low (interval a b ∷ is) g (inl here) = omega arith
-  none-gapped low (interval a b ∷ is) g (inr there) = none-gapped b is (g .3) there
-
-  none-formed : (s : List Entry) → SetForm s → HasEnd end s → ⊥
-  none-formed (entry k is ∷ s) f (inl here) = none-gapped 0 is (f .1) here
-  none-formed (entry k is ∷ s) f (inr there) = none-formed s (f .3) there
-
   none-proper : (is : List Interval) → Proper is → EndsAt end is → ⊥
   none-proper (interval a b ∷ is) p (inl here) = omega arith
   none-proper (interval a b ∷ is) p (inr there) = none-proper is (p .3) there
@@ -62,7 +53,7 @@ module _ (end : ℕ) (over : gnoTop < end) where
         let (used, read) = body-read body are is in
         let back = ap previous (laid .written) ∙ read-back s (laid .formed) (laid .keyed) (laid .limited) in
         let same : es ≡ s = cc in
-        none-formed s (laid .formed) (rw same at has-end))
+        none-lawful s (form-lawful s (laid .formed)) (rw same at has-end))
 
     unlawful : lawful es ≡ false
     unlawful = split (lawful es) (λ good. absurd (none-lawful es (lawful-holds es good) has-end)) (λ bad. bad)
