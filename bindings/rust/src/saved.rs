@@ -20,6 +20,9 @@ impl ResumeSet {
     /// the oldest binlog file that the tool may not have wholly, or begin with the empty set and offer everything that is still there. Both
     /// offer transactions again that the tool has already, so it must recognise their ids.
     ///
+    /// A set from the time when the number after [`HIGHEST_GNO`](crate::HIGHEST_GNO) was let in, and that has it, is no set any more. It can
+    /// be kept without that id: README.md of the repository says how ("A saved set with the number 2^63-1").
+    ///
     /// ```
     /// use gtid_resume::{Refusal, ResumeSet};
     /// use std::error::Error;

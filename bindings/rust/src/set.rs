@@ -247,8 +247,8 @@ impl ResumeSet {
     ///
     /// # Errors
     ///
-    /// The event's own refusals, 1 to 11; [`Refusal::BadGno`] for a transaction number that is 0 or above [`HIGHEST_GNO`]; and [`Refusal::Full`]. The event
-    /// was not taken and must not be passed over.
+    /// The event's own refusals, 1 to 11; [`Refusal::BadGno`] for a transaction number that is 0 or above [`HIGHEST_GNO`]; and
+    /// [`Refusal::Full`]. The event was not taken and must not be passed over.
     ///
     /// ```
     /// use gtid_resume::{GtidEvent, Offered, Refusal, ResumeSet, GTID_EVENT};
