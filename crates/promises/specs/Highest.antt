@@ -43,7 +43,7 @@ pub record CarriedOnly (e : GtidEvent) : Type 0 where
   pub offered : (set : List ℕ) (s : List Entry) (out : List ℕ) → SetLaid set s → offerAnswers set (typeOf e) body out ≡ Refused 15 0
 
 pub record Highest : Type 0 where
-  -- an end behind the top: such a set is none, and such a body is 15, taken in or listed
+  -- an end behind the top: bytes that have one are no set, and a body that has one is 15, taken in or listed
   pub lent : (set : List ℕ) (es : List Entry) (end : ℕ) → Bytes set → BodyIs set es → HasEnd end es → gnoTop < end → SetFault set 14
   pub taken-in : (body out : List ℕ) (es : List Entry) (end : ℕ) → Bytes body → BodyIs body es → HasEnd end es → gnoTop < end
       → (takeInAnswers body out ≡ record { refusal = 15; len = 0 }) × (eventText 35 body ≡ refusedText 15)

@@ -115,7 +115,7 @@ onlyFor n other =
 abbrev pub noIdForZero : Offering
 noIdForZero = onlyFor 0 alwaysNoId
 
--- takes the first number that is no gno, of the zero uuid and into the empty set
+-- takes the first number that is no gno, at least of the zero uuid into the empty set
 abbrev pub topAlone : List ℕ
 topAlone = bodyBytes (entry (replicate 16 0) (interval gnoTop (gnoTop + 1) ∷ []) ∷ [])
 
