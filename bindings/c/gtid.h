@@ -24,8 +24,8 @@ extern "C" {
 /* The longest set, in bytes: 256 entries with tags of 32 bytes, and 2,048 intervals. */
 #define GTID_LONGEST_SET 47368
 
-/* The highest transaction number that a set can hold; the lowest is 1. An event may carry others: it is read, written and listed
- * with them, and an offer of it is refused with 15. */
+/* The highest transaction number that a set can hold; the lowest is 1. An event of type 33 or 42 may carry others: it is read,
+ * written and listed with them, and an offer of it is refused with 15. (Type 34 has no id, and its number isn't judged.) */
 #define GTID_HIGHEST_GNO ((uint64_t)INT64_MAX - 1)
 
 /* The longest text of an event, in bytes. */

@@ -10,8 +10,8 @@ use crate::{Entry, PreviousGtidsEvent, Refusal};
 /// ```
 pub const LONGEST_SET: usize = 47_368;
 
-/// The highest transaction number that a set can hold; the lowest is 1. An event may carry others, and is read, written and listed with
-/// them; offered, it is refused with [`Refusal::BadGno`].
+/// The highest transaction number that a set can hold; the lowest is 1. An event of type 33 or 42 may carry others, and is read, written
+/// and listed with them; offered, it is refused with [`Refusal::BadGno`]. (Type 34 has no id, and its number isn't judged.)
 ///
 /// ```
 /// use gtid_resume::{GtidEvent, Refusal, ResumeSet, GTID_EVENT, HIGHEST_GNO};
@@ -247,7 +247,7 @@ impl ResumeSet {
     ///
     /// # Errors
     ///
-    /// The event's own refusals, 1 to 11; [`Refusal::BadGno`] for a transaction number that is 0 or above [`HIGHEST_GNO`]; and
+    /// The event's own refusals, 1 to 11; [`Refusal::BadGno`] for an id (types 33 and 42) whose number is 0 or above [`HIGHEST_GNO`]; and
     /// [`Refusal::Full`]. The event was not taken and must not be passed over.
     ///
     /// ```

@@ -1,5 +1,5 @@
 -- The statements of `specs/Highest.antt` hold.
-use Prim.Native.Nat.{ℕ, _^_, _≤_, _<_}
+use Prim.Native.Nat.{ℕ, _≤_, _<_}
 use mathlib.Core.Path.{_≡_, refl, ap, _∙_}
 use mathlib.Core.Bool.{true, false}
 use mathlib.Core.List.{List, [], _∷_, _++_}
@@ -7,14 +7,14 @@ use mathlib.Core.Logic.{inl, inr}
 use native.Mathlib.Omega.{arith}
 use borrow.Author.Tests.{lt-ltb}
 use Rattle.misc.specs.Refusal.{badGno}
-use Rattle.misc.specs.Parse.{Bytes, parsed}
+use Rattle.misc.specs.Parse.{Bytes}
 use Rattle.packets.specs.Gno.{gnoTop, isGno, Interval, interval}
 use Rattle.packets.specs.Key.{Key}
 use Rattle.packets.proofs.GnoLaws.{gnoTop-is}
 use Rattle.packets.proofs.Tests.{split, clash}
 use Rattle.previous_gtids_event.specs.Entry.{Entry, entry}
 use Rattle.previous_gtids_event.specs.Previous.{previous}
-use Rattle.gtid_event.specs.Event.{tagged, typeOf, setNumber}
+use Rattle.gtid_event.specs.Event.{tagged, setNumber}
 use Rattle.gtid_event.specs.declared.GtidEvent.{GtidEvent}
 use Rattle.gtid_event_write.specs.Writable.{signedTop, writable}
 use Rattle.gtid_event_write.specs.Write.{eventBytes, eventOutput}
@@ -22,7 +22,7 @@ use Rattle.gtid_event_write.proofs.WritableLaws.{tagged-fits, parts, as-tagged,
 use Rattle.gtid_event_laws.specs.Fits.{Fits}
 use Rattle.gtid_event_laws.proofs.EventBack.{event-alone}
 use Rattle.gtid_sets.specs.TakeIn.{Proper, Lawful, lawful}
-use Rattle.gtid_sets.specs.Lent.{Lent, form, unfit, lentSet, SetLaid}
+use Rattle.gtid_sets.specs.Lent.{Lent, form, unfit, lentSet}
 use Rattle.gtid_sets.proofs.FormLaws.{lawful-holds}
 use Rattle.gtid_sets.proofs.TakeInLaws.{form-lawful}
 use Rattle.gtid_sets.proofs.LentLaws.{lent-is, is-lent, read-back}
@@ -72,7 +72,7 @@ with-top e can =
     split (tagged e)
     (λ is.
     let able = as-tagged e can is in
-    rw (code, behind, is) (rw (lt-ltb (e .gno) (2 ^ 63) (tagged-fits e able .gno)) at able))
+    rw (code, behind, is) (rw (lt-ltb (e .gno) signedTop (tagged-fits e able .gno)) at able))
     (λ is. rw (code, behind, is) (as-untagged e can is))
 
 fits-top : (e : GtidEvent) → Fits e → Fits (setNumber 2 gnoTop e)

@@ -289,7 +289,7 @@ adds-only-the-first-out history =
     let clash : false ≡ true = members (replicate 16 0) 3 in
     false≢true clash
 
--- one that takes the first number that is no gno: what it leaves is no set
+-- one that takes the first number too great for a gno: what it leaves is no set
 abbrev top : Turn
 top = record { type = 33; body = replicate 17 0 ++ leBytes 8 gnoTop; out = replicate 48 0 }
 

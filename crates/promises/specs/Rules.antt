@@ -15,7 +15,7 @@ pub record Rules : Type 0 where
   -- of two keys the first byte in which they differ decides, and a prefix comes first
   pub byte-first : (p s t : Key) (x y : ℕ) → x < y → p ++ (x ∷ s) ≺ p ++ (y ∷ t)
   pub prefix-first : (p s : Key) (x : ℕ) → p ≺ p ++ (x ∷ s)
-  -- a member's gno lies in 1 to 2^63-2, and an interval has 1 <= start < end <= 2^63-1 (CR 4); the first number that is no gno is 2^63-1
+  -- a member's gno lies in 1 to 2^63-2, and an interval has 1 <= start < end <= 2^63-1 (CR 4); the first number too great for a gno is 2^63-1
   pub gno : (n : ℕ) → Exactly (isGno n ≡ true) ((1 ≤ n) × (n ≤ 2 ^ 63 - 2))
   pub gnos : (start end : ℕ) → Exactly (isInterval (interval start end) ≡ true) ((1 ≤ start) × (start < end) × (end ≤ 2 ^ 63 - 1))
   pub gno-top : gnoTop ≡ 2 ^ 63 - 1

@@ -98,6 +98,7 @@ addsOnlyTheFirst =
 abbrev pub alwaysNoId : Offering
 alwaysNoId = record { answers = λ set t. NoId (length set); leaves = λ set t. outputOf (t .out) (bytes set) }
 
+-- an event with this gno
 abbrev pub namesGno : ℕ → Event → Bool
 namesGno n anonymous = false
 namesGno n (broken r) = false
@@ -115,7 +116,7 @@ onlyFor n other =
 abbrev pub noIdForZero : Offering
 noIdForZero = onlyFor 0 alwaysNoId
 
--- takes the first number that is no gno, at least of the zero uuid into the empty set
+-- takes the first number too great for a gno, at least of the zero uuid into the empty set
 abbrev pub topAlone : List ℕ
 topAlone = bodyBytes (entry (replicate 16 0) (interval gnoTop (gnoTop + 1) ∷ []) ∷ [])
 
