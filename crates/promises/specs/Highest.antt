@@ -47,8 +47,8 @@ pub record Highest : Type 0 where
   pub lent : (set : List ℕ) (es : List Entry) (end : ℕ) → Bytes set → BodyIs set es → HasEnd end es → gnoTop < end → SetFault set 14
   pub taken-in : (body out : List ℕ) (es : List Entry) (end : ℕ) → Bytes body → BodyIs body es → HasEnd end es → gnoTop < end
       → (takeInAnswers body out ≡ record { refusal = 15; len = 0 }) × (eventText 35 body ≡ refusedText 15)
-  -- whatever can be written, tagged or not, can be written with the top as its gno (and of any bytes that are laid out as an event with it the
-  -- same is said without its number: `RecordsMean`, `ListingTold`; with it: `gno-next` of `Orders`)
+  -- whatever can be written, tagged or not, can be written with the top as its gno. (What others wrote with it is read and listed as any event:
+  -- `RecordsMean`, `ListingTold`; and an offer of that is 15: `gno-next` of `Orders`)
   pub carried : (e : GtidEvent) → Fits e → writable e ≡ true → CarriedOnly (setNumber 2 gnoTop e)
   -- demand 3 by this rule: of whatever bytes, and so of a set after any offers, every member's number obeys it
   pub members : (set : List ℕ) (k : Key) (n : ℕ) → member set k n ≡ true → isGno n ≡ true
