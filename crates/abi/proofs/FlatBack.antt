@@ -11,7 +11,7 @@ use Rattle.misc.specs.Le.{leBytes, leAt}
 use Rattle.misc.proofs.LeLaws.{length-leBytes, leOf-leBytes, le-here}
 use Rattle.gtid_event.specs.declared.GtidEvent.{GtidEvent}
 use Rattle.gtid_event_write.specs.Write.{eventOutput}
-use Rattle.gtid_event_laws.specs.Fits.{Fits}
+use Rattle.gtid_event.specs.Fits.{Fits}
 use Rattle.set_check.specs.Places.{numberAt}
 use Rattle.set_check.proofs.PlaceLaws.{part-there, after-there, left-there, byte-there}
 use Rattle.abi.specs.Answers.{bit}

@@ -17,7 +17,7 @@ use Rattle.gtid_event_read.specs.Read.{gtid}
 use Rattle.gtid_event_write.specs.Writable.{writable}
 use Rattle.gtid_event_write.specs.Layout.{taggedBytes, untaggedBytes}
 use Rattle.gtid_event_write.specs.Write.{eventBytes}
-use Rattle.gtid_event_laws.specs.Fits.{Fits}
+use Rattle.gtid_event.specs.Fits.{Fits}
 use Rattle.gtid_event_laws.proofs.WritableLaws.{tagged-facts}
 use Rattle.gtid_event_laws.proofs.UntaggedBack.{untagged-most, untagged-back}
 use Rattle.gtid_event_laws.proofs.TaggedBack.{tagged-most, tagged-back}

@@ -22,7 +22,7 @@ use Rattle.gtid_event_read.specs.Read.{gtid}
 use Rattle.gtid_event_read.proofs.Ranges.{UntaggedRange, TaggedRange, gtid-range}
 use Rattle.gtid_event_write.specs.Writable.{signedTop, allZero, writable}
 use Rattle.gtid_event_write.specs.Write.{eventBytes}
-use Rattle.gtid_event_laws.specs.Fits.{Fits}
+use Rattle.gtid_event.specs.Fits.{Fits}
 use Rattle.gtid_event_laws.proofs.EventBack.{event-alone}
 
 -- ---- untagged

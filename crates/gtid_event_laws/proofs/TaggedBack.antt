@@ -22,7 +22,7 @@ use Rattle.gtid_event_read.specs.Tagged.{recordOf, tagged}
 use Rattle.gtid_event_write.specs.Writable.{tagOf, writable}
 use Rattle.gtid_event_write.specs.Size.{payloadSize}
 use Rattle.gtid_event_write.specs.Layout.{numberBytes, unlessBytes, itemsBytes, identityBytes, clockBytes, restBytes, fieldBytes, taggedBytes}
-use Rattle.gtid_event_laws.specs.Fits.{Fits}
+use Rattle.gtid_event.specs.Fits.{Fits}
 use Rattle.gtid_event_laws.proofs.Stands.{Stands, at-front, each, stands-within, part-stands, byte-stands, varlen-stands}
 use Rattle.gtid_event_laws.proofs.WritableLaws.{TaggedFacts, tagged-facts}
 use Rattle.gtid_event_laws.proofs.AtMost.{AtMost, _plus_}

@@ -24,7 +24,7 @@ use Rattle.gtid_event.proofs.BuiltLaws.{same-event}
 use Rattle.gtid_event_read.specs.Untagged.{Pair, pair, pairAt, timestampsAt, lengthAt, versionsAt, opened, openingAt, clocked, clockAt, typecodeAt, untagged, ifLeft}
 use Rattle.gtid_event_write.specs.Writable.{writable}
 use Rattle.gtid_event_write.specs.Layout.{pairBytes, openingBytes, laterBytes, untaggedBytes}
-use Rattle.gtid_event_laws.specs.Fits.{Fits}
+use Rattle.gtid_event.specs.Fits.{Fits}
 use Rattle.gtid_event_laws.proofs.Stands.{Stands, at-front, each, stands-within, bytes-stand, byte-stands, first-stands, le-stands, lenenc-stands}
 use Rattle.gtid_event_laws.proofs.AtMost.{AtMost, _plus_}
 use Rattle.gtid_event_laws.proofs.WritableLaws.{LaterAbsent, Later, UntaggedFacts, there, absent, untagged-facts}

@@ -14,7 +14,7 @@ use Rattle.gtid_event.specs.Event.{undefinedVersion, tagged}
 use Rattle.gtid_event.specs.declared.GtidEvent.{GtidEvent}
 use Rattle.gtid_event_write.specs.Writable.{allZero, tagOf, laterAbsent, writable}
 use Rattle.gtid_event_write.proofs.WritableLaws.{TaggedFits, UntaggedFits, tagged-fits, untagged-fits, parts, as-tagged, as-untagged}
-use Rattle.gtid_event_laws.specs.Fits.{Fits}
+use Rattle.gtid_event.specs.Fits.{Fits}
 
 -- ---- zeros
 

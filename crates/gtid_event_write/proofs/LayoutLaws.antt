@@ -1,9 +1,10 @@
 -- The lengths of a record's parts.
 use mathlib.Core.Path.{_≡_, _∙_}
 use mathlib.Core.List.{List, _++_, append-nil}
-use Prim.Native.Nat.{ℕ, _+_, _^_}
+use Prim.Native.Nat.{ℕ, _+_, _^_, _≤_, _<_}
 use native.Mathlib.Omega.{arith}
 use lib.ListN.{length, length-append}
+use lib.Seq.{length-take-le}
 use borrow.Author.Tests.{eq-eqb, ne-eqb}
 use Rattle.misc.specs.Lenenc.{lenencBytes}
 use Rattle.misc.specs.Varlen.{varlenBytes, varlenSize, sizeFrom}
@@ -13,20 +14,35 @@ use Rattle.gtid_event.specs.declared.GtidEvent.{GtidEvent}
 use Rattle.gtid_event_write.specs.Writable.{tagOf}
 use Rattle.gtid_event_write.specs.Size.{payloadSize}
 use Rattle.gtid_event_write.specs.Layout.{numberBytes, naturalBytes, unlessBytes, itemsBytes, identityBytes, clockBytes, restBytes, fieldBytes, taggedBytes, pairBytes, openingBytes, laterBytes, untaggedBytes}
-use Rattle.gtid_event_write.proofs.SizeLaws.{payload-agrees}
+use Rattle.gtid_event_write.proofs.SizeLaws.{size-one, payload-agrees}
 
 length-four : (a b c d : List ℕ) → length (a ++ b ++ c ++ d) ≡ length a + length b + length c + length d
 length-four a b c d = simp length-append
 
+-- an integer below 128, as an id is and the length of a tag
+length-small : (v : ℕ) → v < 128 → length (varlenBytes v) ≡ 1
+length-small v h = length-varlenBytes v ∙ size-one v h
+
+pub length-number : (id v : ℕ) → id < 128 → length (numberBytes id v) ≡ 1 + length (varlenBytes v)
+length-number id v h = rw length-append (omega (arith, length-small id h))
+
 module _ (e : GtidEvent) where
   -- ---- tagged
-  pub length-identity : length (identityBytes e)
-      ≡ length (numberBytes 0 (e .flags)) + (length (varlenBytes 1) + length (itemsBytes (e .sid))) + length (naturalBytes 2 (e .gno))
-      + length (varlenBytes 3 ++ varlenBytes (e .«tag_len») ++ tagOf e)
+  pub length-identity : length (e .tag) ≡ 32 → e .«tag_len» ≤ 32
+      → length (identityBytes e) ≡ 4 + length (varlenBytes (e .flags)) + length (itemsBytes (e .sid)) + length (naturalBytes 2 (e .gno)) + e .«tag_len»
   unfolding identityBytes
-  length-identity =
+  length-identity size most =
       length-four (numberBytes 0 (e .flags)) (varlenBytes 1 ++ itemsBytes (e .sid)) (naturalBytes 2 (e .gno)) (varlenBytes 3 ++ varlenBytes (e .«tag_len») ++ tagOf e)
-      ∙ omega (arith, length-append (varlenBytes 1) (itemsBytes (e .sid)))
+      ∙ omega (
+        arith,
+        length-number 0 (e .flags) (omega arith),
+        length-append (varlenBytes 1) (itemsBytes (e .sid)),
+        length-small 1 (omega arith),
+        length-append (varlenBytes 3 ++ varlenBytes (e .«tag_len»)) (tagOf e),
+        length-number 3 (e .«tag_len») (omega arith),
+        length-small (e .«tag_len») (omega arith),
+        length-take-le (e .«tag_len») (e .tag) (omega arith),
+      )
 
   pub length-clock : length (clockBytes e)
       ≡ length (naturalBytes 4 (e .«last_committed»)) + length (naturalBytes 5 (e .«sequence_number»))

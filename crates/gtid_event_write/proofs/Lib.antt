@@ -3,3 +3,5 @@ pub mod WritableLaws
 pub mod LayoutLaws
 pub mod PutLaws
 pub mod WriteLaws
+pub mod Within
+pub mod TotalsLaws

@@ -1,7 +1,7 @@
--- Laws of writing at a place: the bytes of a uuid as integers, and an immediate number with its original.
-use mathlib.Core.Path.{_≡_, refl, sym, ap, _∙_}
+-- Laws of writing at a place: an integer of one byte or two, the bytes of a uuid as integers, and an immediate number with its original.
+use mathlib.Core.Path.{_≡_, refl, sym, ap, ap₂, _∙_}
 use mathlib.Core.List.{List, [], _∷_, _++_, append-assoc, append-nil}
-use Prim.Native.Nat.{ℕ, _+_, _^_, _≤_, _<_}
+use Prim.Native.Nat.{ℕ, _+_, _-_, _*_, _/_, _%_, _^_, _≤_, _<_}
 use native.Mathlib.Nat.{one-mul}
 use native.Mathlib.Numerals.{add-one}
 use native.Mathlib.Omega.{arith}
@@ -12,7 +12,9 @@ use borrow.Author.Tests.{ne-eqb}
 use Rattle.misc.specs.Le.{leBytes}
 use Rattle.misc.specs.Output.{Placed, WhereFits}
 use Rattle.misc.specs.Varlen.{varlenBytes}
+use Rattle.misc.proofs.VarlenLaws.{bytes-short}
 use Rattle.misc.proofs.OutputLaws.{nothing-placed, _also_}
+use Rattle.gtid_event_write.proofs.SizeLaws.{size-one, size-two}
 use Rattle.gtid_event_write.specs.Layout.{itemsBytes, pairBytes}
 
 -- what is placed is placed where it fits
@@ -21,6 +23,22 @@ fits p = record { placed = λ room. p }
 
 pub with-bytes : {l a b l′ : List ℕ} {at next : ℕ} → a ≡ b → WhereFits l at a l′ next → WhereFits l at b l′ next
 with-bytes {l} {a} {b} {l′} {at} {next} e p = rw e at p
+
+-- ---- an integer in one byte, and in two
+
+pub one-byte : (v : ℕ) → v < 128 → v * 2 ∷ [] ≡ varlenBytes v
+unfolding leBytes
+one-byte v h =
+    let byte : (v * 2 ^ 1 + (2 ^ (1 - 1) - 1)) % 256 ≡ v * 2 = omega arith in
+    sym (bytes-short v 1 (sym (size-one v h)) (omega arith) ∙ ap (λ (b : ℕ). b ∷ []) byte)
+
+pub two-bytes : (v : ℕ) → 128 ≤ v → v < 256 → ((v % 64 * 4 + 1) ∷ []) ++ (v / 64 ∷ []) ≡ varlenBytes v
+unfolding leBytes
+two-bytes v more h =
+    let low : (v * 2 ^ 2 + (2 ^ (2 - 1) - 1)) % 256 ≡ v % 64 * 4 + 1 = omega arith in
+    let above : (v * 2 ^ 2 + (2 ^ (2 - 1) - 1)) / 256 ≡ v / 64 = omega arith in
+    let high : (v * 2 ^ 2 + (2 ^ (2 - 1) - 1)) / 256 % 256 ≡ v / 64 = ap (λ (n : ℕ). n % 256) above ∙ omega arith in
+    sym (bytes-short v 2 (sym (size-two v more (omega arith))) (omega arith) ∙ ap₂ (λ (a b : ℕ). a ∷ b ∷ []) low high)
 
 -- ---- items, one after the other
 

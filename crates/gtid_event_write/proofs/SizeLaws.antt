@@ -1,4 +1,5 @@
--- The payload size agrees with itself, and no smaller number does; and a turn of the loop that looks for it.
+-- The payload size agrees with itself, and no smaller number does; which it is where it has one byte or two; and a turn of the loop that
+-- looks for it.
 use mathlib.Core.Path.{_≡_, refl, sym, ap, _∙_}
 use mathlib.Core.Bool.{Bool, true, false}
 use Prim.Native.Nat.{ℕ, zero, suc, _+_, _-_, _*_, _^_, _≤_, _<_}
@@ -33,6 +34,25 @@ size-mono : (a b : ℕ) → a ≤ b → varlenSize a ≤ varlenSize b
 unfolding varlenSize
 size-mono a b h =
     split 9 (varlenSize b) (λ nine. omega (arith, size-range a)) (λ less. least-size 8 1 (varlenSize b) a (size-range b .0) (lt-of-le-of-lt h (size-holds b less)))
+
+-- a size that holds it is no less
+pub size-most : (m v : ℕ) → 1 ≤ m → v < 2 ^ (7 * m) → varlenSize v ≤ m
+unfolding varlenSize
+size-most m v h l = least-size 8 1 m v h l
+
+-- below 128 it is one byte, below 2 ^ 14 two
+pub size-one : (v : ℕ) → v < 128 → varlenSize v ≡ 1
+size-one v h = omega (arith, size-most 1 v (omega arith) (omega arith), size-range v)
+
+first-of-two : varlenSize 128 ≡ 2
+unfolding varlenSize sizeFrom
+first-of-two = refl
+
+size-above : (v : ℕ) → 128 ≤ v → 2 ≤ varlenSize v
+size-above v h = omega (arith, first-of-two, size-mono 128 v h)
+
+pub size-two : (v : ℕ) → 128 ≤ v → v < 2 ^ 14 → varlenSize v ≡ 2
+size-two v more h = omega (arith, size-most 2 v (omega arith) (omega arith), size-above v more)
 
 -- ---- of the sizes that agree with themselves, the search finds the least
 
@@ -75,8 +95,25 @@ pub payload-least : (fields q : ℕ) → Agrees fields q → payloadSize fields 
 unfolding payloadSize
 payload-least fields q a = omega (arith, least-from fields 8 1 (varlenSize q) (size-range q .0) (ap varlenSize (sym a)))
 
-pub payload-most : (fields : ℕ) → payloadSize fields ≤ fields + 11
-payload-most fields = omega (arith, payload-agrees fields, size-range (payloadSize fields))
+-- ---- a size of one byte or of two
+
+is-least : (fields q : ℕ) → Agrees fields q → ((p : ℕ) → Agrees fields p → q ≤ p) → q ≡ payloadSize fields
+is-least fields q a least = omega (arith, payload-least fields q a, least (payloadSize fields) (payload-agrees fields))
+
+pub payload-one : (fields : ℕ) → fields < 125 → fields + 3 ≡ payloadSize fields
+payload-one fields h = is-least fields (fields + 3) (rw (size-one (fields + 3) (omega arith)) (omega arith)) (λ p a. omega (arith, a, size-range p))
+
+pub payload-two : (fields : ℕ) → 125 ≤ fields → fields + 4 < 2 ^ 14 → fields + 4 ≡ payloadSize fields
+payload-two fields more h =
+    is-least fields (fields + 4) (rw (size-two (fields + 4) (omega arith) (omega arith)) (omega arith))
+    (λ p a. omega (arith, a, size-above p (omega (arith, a, size-range p))))
+
+-- 128 agrees with itself for 124 bytes of fields alone, and there 127 is less
+pub payload-never-128 : (fields : ℕ) → payloadSize fields ≡ 128 → ⊥
+payload-never-128 fields is =
+    let two : varlenSize (payloadSize fields) ≡ 2 = ap varlenSize is ∙ first-of-two in
+    let only : fields ≡ 124 = omega (arith, payload-agrees fields) in
+    omega (arith, payload-one fields (omega arith))
 
 -- ---- a turn of the loop
 size-step : (n fields : ℕ) → n < 9

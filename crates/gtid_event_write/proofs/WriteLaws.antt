@@ -2,7 +2,7 @@
 use mathlib.Core.Path.{_≡_}
 use mathlib.Core.Bool.{true, false}
 use mathlib.Core.List.{List}
-use Prim.Native.Nat.{ℕ, _≤_, _<_, min}
+use Prim.Native.Nat.{ℕ, _≤_, _<_}
 use lib.ListN.{length}
 use Rattle.misc.specs.Refusal.{number, notWritable, noRoom}
 use Rattle.misc.specs.Output.{Placed, outputOf, answerOf}
@@ -11,7 +11,7 @@ use Rattle.gtid_event.specs.Event.{tagged}
 use Rattle.gtid_event.specs.declared.GtidEvent.{GtidEvent}
 use Rattle.gtid_event_write.specs.Writable.{writable}
 use Rattle.gtid_event_write.specs.Layout.{taggedBytes, untaggedBytes}
-use Rattle.gtid_event_write.specs.Write.{eventBytes, eventOutput, lengthOf, lengthCap}
+use Rattle.gtid_event_write.specs.Write.{eventBytes, eventOutput, lengthOf}
 
 module _ (e : GtidEvent) where
   pub bytes-tagged : tagged e ≡ true → taggedBytes e ≡ eventBytes e
@@ -33,9 +33,9 @@ module _ (e : GtidEvent) where
     unfolding eventOutput
     write-fits room p = rw able (output-fits room p)
 
-    pub length-able : (n r : ℕ) → n ≡ length (eventBytes e) → r ≡ min n lengthCap → record { refusal = 0; len = r } ≡ lengthOf e
+    pub length-able : (n : ℕ) → n ≡ length (eventBytes e) → record { refusal = 0; len = n } ≡ lengthOf e
     unfolding lengthOf
-    length-able n r size cap = rw (able, ← size, ← cap)
+    length-able n size = rw (able, ← size)
 
   module _ (unable : writable e ≡ false) where
     pub write-refused : (l : List ℕ) → (record { refusal = number notWritable; len = 0 } ≡ answerOf l (eventOutput e)) × (l ≡ outputOf l (eventOutput e))

@@ -1,5 +1,5 @@
 -- What writing a record gives, and its length.
-use Prim.Native.Nat.{ℕ, _-_, _^_, min}
+use Prim.Native.Nat.{ℕ}
 use mathlib.Core.List.{List}
 use lib.ListN.{length}
 use Rattle.misc.specs.Pick.{pick}
@@ -17,10 +17,5 @@ eventBytes e = pick (tagged e) (taggedBytes e) (untaggedBytes e)
 unfoldable pub eventOutput : GtidEvent → Output
 eventOutput e = pick (writable e) (bytes (eventBytes e)) (refused notWritable)
 
--- an event with its header has at most 2 ^ 32 - 1 bytes, of which the header takes 19
-unfoldable pub lengthCap : ℕ
-lengthCap = 2 ^ 32 - 20
-
 unfoldable pub lengthOf : GtidEvent → EventLength
-lengthOf e =
-    pick (writable e) (record { refusal = 0; len = min (length (eventBytes e)) lengthCap }) (record { refusal = number notWritable; len = 0 })
+lengthOf e = pick (writable e) (record { refusal = 0; len = length (eventBytes e) }) (record { refusal = number notWritable; len = 0 })

@@ -1,24 +1,24 @@
 // The ids of the tagged layout's fields.
-pub const GTID_FLAGS: u64 = 0;
+pub const GTID_FLAGS: u8 = 0;
 
-pub const SID: u64 = 1;
+pub const SID: u8 = 1;
 
-pub const GNO: u64 = 2;
+pub const GNO: u8 = 2;
 
-pub const TAG: u64 = 3;
+pub const TAG: u8 = 3;
 
-pub const LAST_COMMITTED: u64 = 4;
+pub const LAST_COMMITTED: u8 = 4;
 
-pub const SEQUENCE_NUMBER: u64 = 5;
+pub const SEQUENCE_NUMBER: u8 = 5;
 
-pub const IMMEDIATE_COMMIT_TIMESTAMP: u64 = 6;
+pub const IMMEDIATE_COMMIT_TIMESTAMP: u8 = 6;
 
-pub const ORIGINAL_COMMIT_TIMESTAMP: u64 = 7;
+pub const ORIGINAL_COMMIT_TIMESTAMP: u8 = 7;
 
-pub const TRANSACTION_LENGTH: u64 = 8;
+pub const TRANSACTION_LENGTH: u8 = 8;
 
-pub const IMMEDIATE_SERVER_VERSION: u64 = 9;
+pub const IMMEDIATE_SERVER_VERSION: u8 = 9;
 
-pub const ORIGINAL_SERVER_VERSION: u64 = 10;
+pub const ORIGINAL_SERVER_VERSION: u8 = 10;
 
-pub const COMMIT_GROUP_TICKET: u64 = 11;
+pub const COMMIT_GROUP_TICKET: u8 = 11;

@@ -1,7 +1,8 @@
 // Sizes: the payload size that counts itself, and the lengths of a tagged event's fields.
 ghost use mathlib.Core.Path.{_≡_};
-ghost use Prim.Native.Nat.{_≤_};
+ghost use Prim.Native.Nat.{ℕ, _≤_, _<_};
 ghost use lib.ListN.{length};
+ghost use Rattle.misc.specs.Varlen.{varlenBytes};
 ghost use Rattle.gtid_event_write.specs.Size.{payloadSize};
 ghost use Rattle.gtid_event_write.specs.Layout.{numberBytes, unlessBytes, itemsBytes};
 use misc::varlen::varlen_uint_size;
@@ -22,28 +23,50 @@ pub fn payload_size(fields: u32) -> u64
     fixed + 9
 }
 
-pub(crate) fn number_len(id: u64, value: u64) -> usize
-    ensures { λ r. ⌜ (r ≡ length (numberBytes id value)) × (r ≤ 18) ⌝ }
+// The same of a record's fields, of which there are at most 152 bytes: the size itself has one byte or two.
+pub(crate) fn record_size(fields: usize) -> usize
+    requires { ⌜ fields ≤ 152 ⌝ }
+    ensures { λ r. ⌜ r ≡ payloadSize fields ⌝ }
 {
-    varlen_uint_size(id) + varlen_uint_size(value)
+    if fields < 125 {
+        return fields + 3;
+    }
+    fields + 4
 }
 
-pub(crate) fn unless_len(id: u64, value: u64, assumed: u64) -> usize
-    ensures { λ r. ⌜ (r ≡ length (unlessBytes id value assumed)) × (r ≤ 18) ⌝ }
+// A byte as an integer.
+pub(crate) fn item_len(b: u8) -> usize
+    ensures { λ r. ⌜ (r ≡ length (varlenBytes b)) × (r ≤ 2) ⌝ }
+{
+    if b < 128 {
+        return 1;
+    }
+    2
+}
+
+// A field: its id, whichever it is, in one byte, and its value.
+pub(crate) fn number_len(value: u64) -> usize
+    ensures { λ r. ⌜ ((id : ℕ) → id < 128 → r ≡ length (numberBytes id value)) × (r ≤ 10) ⌝ }
+{
+    1 + varlen_uint_size(value)
+}
+
+pub(crate) fn unless_len(value: u64, assumed: u64) -> usize
+    ensures { λ r. ⌜ ((id : ℕ) → id < 128 → r ≡ length (unlessBytes id value assumed)) × (r ≤ 10) ⌝ }
 {
     if value == assumed {
         return 0;
     }
-    number_len(id, value)
+    number_len(value)
 }
 
 pub(crate) fn serialized_uuid_len(sid: [u8; 16]) -> usize
-    ensures { λ r. ⌜ (r ≡ length (itemsBytes sid)) × (r ≤ 144) ⌝ }
+    ensures { λ r. ⌜ (r ≡ length (itemsBytes sid)) × (r ≤ 32) ⌝ }
 {
     let mut len: usize = 0;
     let mut i = 0;
     while i < 16 {
-        len += varlen_uint_size(sid[i] as u64);
+        len += item_len(sid[i]);
         i += 1;
     }
     len

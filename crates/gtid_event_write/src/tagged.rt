@@ -10,23 +10,24 @@ ghost use Rattle.gtid_event_write.specs.Size.{payloadSize};
 ghost use Rattle.gtid_event_write.specs.Layout.{identityBytes, clockBytes, restBytes, fieldBytes, taggedBytes};
 ghost use Rattle.gtid_event_write.specs.Writable.{writableTagged};
 use crate::field_id;
+use crate::put::put_item;
 use crate::put::put_number;
 use crate::put::put_serialized_uuid;
+use crate::put::put_small;
 use crate::put::put_unless;
+use crate::size::item_len;
 use crate::size::number_len;
-use crate::size::payload_size;
+use crate::size::record_size;
 use crate::size::serialized_uuid_len;
 use crate::size::unless_len;
 use gtid_event::GtidEvent;
 use misc::put::put_byte;
-use misc::put::put_sized;
-use misc::put::put_varlen_uint;
-use misc::varlen::varlen_uint_size;
+use misc::put::put_bytes;
 
 const TAGGED_SERIALIZATION_VERSION_V2: u8 = 2;
 
 // The server marks all fields as ignorable.
-const LAST_NON_IGNORABLE_FIELD_ID: u64 = 0;
+const LAST_NON_IGNORABLE_FIELD_ID: u8 = 0;
 
 const COMMIT_GROUP_TICKET_UNSET: u64 = 0;
 
@@ -35,15 +36,9 @@ fn put_tag(tag: [u8; 32], tag_len: u8, out: &mut [u8], at: usize) -> usize
     ensures { λ r. ⌜ WhereFits (now (out .entry)) at (varlenBytes 3 ++ varlenBytes «tag_len» ++ take «tag_len» tag) (now (out .exit)) r ⌝ }
 {
     let len = tag_len as usize;
-    let after_id = put_varlen_uint(field_id::TAG, out, at);
-    put_sized(&tag[..len], out, after_id)
-}
-
-fn tag_field_len(tag: [u8; 32], tag_len: u8) -> usize
-    requires { ⌜ «tag_len» ≤ 32 ⌝ }
-    ensures { λ r. ⌜ (r ≡ length (varlenBytes 3 ++ varlenBytes «tag_len» ++ take «tag_len» tag)) × (r ≤ 50) ⌝ }
-{
-    number_len(field_id::TAG, tag_len as u64) + tag_len as usize
+    let after_id = put_small(field_id::TAG, out, at);
+    let after_len = put_small(tag_len, out, after_id);
+    put_bytes(&tag[..len], out, after_len)
 }
 
 // Fields 0 to 3. A signed integer that isn't negative is sent as its double.
@@ -53,24 +48,26 @@ fn put_identity(event: GtidEvent, out: &mut [u8], at: usize) -> usize
 {
     let sid = event.sid;
     let tag = event.tag;
-    let after_flags = put_number(field_id::GTID_FLAGS, event.flags as u64, out, at);
-    let after_id = put_varlen_uint(field_id::SID, out, after_flags);
-    let after_sid = put_serialized_uuid(sid, out, after_id);
+    let after_flags_id = put_small(field_id::GTID_FLAGS, out, at);
+    let after_flags = put_item(event.flags, out, after_flags_id);
+    let after_sid_id = put_small(field_id::SID, out, after_flags);
+    let after_sid = put_serialized_uuid(sid, out, after_sid_id);
     let after_gno = put_number(field_id::GNO, event.gno * 2, out, after_sid);
     put_tag(tag, event.tag_len, out, after_gno)
 }
 
 fn identity_len(event: GtidEvent) -> usize
     requires { ⌜ writableTagged event ≡ true ⌝ }
-    ensures { λ r. ⌜ (r ≡ length (identityBytes event)) × (r ≤ 239) ⌝ }
+    ensures { λ r. ⌜ (r ≡ length (identityBytes event)) × (r ≤ 80) ⌝ }
 {
     let sid = event.sid;
-    let tag = event.tag;
-    number_len(field_id::GTID_FLAGS, event.flags as u64)
-        + varlen_uint_size(field_id::SID)
+    // one byte each: the ids of flags, sid and tag, and the tag's length
+    let small = 1 + 1 + 1 + 1;
+    small
+        + item_len(event.flags)
         + serialized_uuid_len(sid)
-        + number_len(field_id::GNO, event.gno * 2)
-        + tag_field_len(tag, event.tag_len)
+        + number_len(event.gno * 2)
+        + event.tag_len as usize
 }
 
 // Fields 4 to 7.
@@ -103,17 +100,13 @@ fn put_clock(event: GtidEvent, out: &mut [u8], at: usize) -> usize
 
 fn clock_len(event: GtidEvent) -> usize
     requires { ⌜ writableTagged event ≡ true ⌝ }
-    ensures { λ r. ⌜ (r ≡ length (clockBytes event)) × (r ≤ 72) ⌝ }
+    ensures { λ r. ⌜ (r ≡ length (clockBytes event)) × (r ≤ 40) ⌝ }
 {
     let immediate = event.immediate_commit_timestamp;
-    number_len(field_id::LAST_COMMITTED, event.last_committed * 2)
-        + number_len(field_id::SEQUENCE_NUMBER, event.sequence_number * 2)
-        + number_len(field_id::IMMEDIATE_COMMIT_TIMESTAMP, immediate)
-        + unless_len(
-            field_id::ORIGINAL_COMMIT_TIMESTAMP,
-            event.original_commit_timestamp,
-            immediate,
-        )
+    number_len(event.last_committed * 2)
+        + number_len(event.sequence_number * 2)
+        + number_len(immediate)
+        + unless_len(event.original_commit_timestamp, immediate)
 }
 
 // Fields 8 to 11.
@@ -146,18 +139,14 @@ fn put_rest(event: GtidEvent, out: &mut [u8], at: usize) -> usize
 }
 
 fn rest_len(event: GtidEvent) -> usize
-    ensures { λ r. ⌜ (r ≡ length (restBytes event)) × (r ≤ 72) ⌝ }
+    ensures { λ r. ⌜ (r ≡ length (restBytes event)) × (r ≤ 40) ⌝ }
 {
     let immediate = event.immediate_server_version as u64;
     let original = event.original_server_version as u64;
-    number_len(field_id::TRANSACTION_LENGTH, event.tx_length)
-        + number_len(field_id::IMMEDIATE_SERVER_VERSION, immediate)
-        + unless_len(field_id::ORIGINAL_SERVER_VERSION, original, immediate)
-        + unless_len(
-            field_id::COMMIT_GROUP_TICKET,
-            event.commit_group_ticket,
-            COMMIT_GROUP_TICKET_UNSET,
-        )
+    number_len(event.tx_length)
+        + number_len(immediate)
+        + unless_len(original, immediate)
+        + unless_len(event.commit_group_ticket, COMMIT_GROUP_TICKET_UNSET)
 }
 
 fn write_tagged_fields_v2(event: GtidEvent, out: &mut [u8], at: usize) -> usize
@@ -169,27 +158,27 @@ fn write_tagged_fields_v2(event: GtidEvent, out: &mut [u8], at: usize) -> usize
     put_rest(event, out, after_clock)
 }
 
-fn tagged_fields_len(event: GtidEvent) -> u32
+fn tagged_fields_len(event: GtidEvent) -> usize
     requires { ⌜ writableTagged event ≡ true ⌝ }
-    ensures { λ r. ⌜ (r ≡ length (fieldBytes event)) × (r ≤ 383) ⌝ }
+    ensures { λ r. ⌜ r ≡ length (fieldBytes event) ⌝ }
 {
-    (identity_len(event) + clock_len(event) + rest_len(event)) as u32
+    identity_len(event) + clock_len(event) + rest_len(event)
 }
 
 // The payload size counts the whole event, so it is also its length.
-pub(crate) fn len_tagged_v2(event: GtidEvent) -> u64
+pub(crate) fn len_tagged_v2(event: GtidEvent) -> usize
     requires { ⌜ writableTagged event ≡ true ⌝ }
-    ensures { λ r. ⌜ (r ≡ payloadSize (length (fieldBytes event))) × (r ≤ 394) ⌝ }
+    ensures { λ r. ⌜ r ≡ payloadSize (length (fieldBytes event)) ⌝ }
 {
-    payload_size(tagged_fields_len(event))
+    record_size(tagged_fields_len(event))
 }
 
-pub(crate) fn serialize_tagged_v2(event: GtidEvent, size: u64, out: &mut [u8], at: usize) -> usize
+pub(crate) fn serialize_tagged_v2(event: GtidEvent, size: usize, out: &mut [u8], at: usize) -> usize
     requires { ⌜ (writableTagged event ≡ true) × (size ≡ payloadSize (length (fieldBytes event))) ⌝ }
     ensures { λ r. ⌜ WhereFits (now (out .entry)) at (taggedBytes event) (now (out .exit)) r ⌝ }
 {
     let after_version = put_byte(TAGGED_SERIALIZATION_VERSION_V2, out, at);
-    let after_size = put_varlen_uint(size, out, after_version);
-    let after_last = put_varlen_uint(LAST_NON_IGNORABLE_FIELD_ID, out, after_size);
+    let after_size = put_item(size as u8, out, after_version);
+    let after_last = put_small(LAST_NON_IGNORABLE_FIELD_ID, out, after_size);
     write_tagged_fields_v2(event, out, after_last)
 }

@@ -1,11 +1,10 @@
 // The public calls: writing a record, and its length.
 ghost use mathlib.Core.Path.{_≡_};
 ghost use mathlib.Core.Bool.{true};
-ghost use Prim.Native.Nat.{min};
 ghost use lib.ListN.{length};
 ghost use Rattle.misc.specs.Output.{WhereFits, outputOf, answerOf};
 ghost use Rattle.gtid_event_write.specs.Writable.{writable};
-ghost use Rattle.gtid_event_write.specs.Write.{eventBytes, eventOutput, lengthOf, lengthCap};
+ghost use Rattle.gtid_event_write.specs.Write.{eventBytes, eventOutput, lengthOf};
 use crate::EventLength;
 use crate::tagged::len_tagged_v2;
 use crate::tagged::serialize_tagged_v2;
@@ -17,15 +16,12 @@ use misc::Wrote;
 use misc::refusal::NO_ROOM;
 use misc::refusal::NOT_WRITABLE;
 
-// What an event's header leaves of 2 ^ 32 - 1 bytes.
-const LENGTH_CAP: usize = 4_294_967_276;
-
 fn serialize(event: GtidEvent, len: usize, out: &mut [u8], at: usize) -> usize
     requires { ⌜ (writable event ≡ true) × (len ≡ length (eventBytes event)) ⌝ }
     ensures { λ r. ⌜ WhereFits (now (out .entry)) at (eventBytes event) (now (out .exit)) r ⌝ }
 {
     if 0 < event.tag_len {
-        return serialize_tagged_v2(event, len as u64, out, at);
+        return serialize_tagged_v2(event, len, out, at);
     }
     serialize_untagged(event, out, at)
 }
@@ -35,18 +31,9 @@ fn event_len(event: GtidEvent) -> usize
     ensures { λ r. ⌜ r ≡ length (eventBytes event) ⌝ }
 {
     if 0 < event.tag_len {
-        return len_tagged_v2(event) as usize;
+        return len_tagged_v2(event);
     }
     len_untagged(event)
-}
-
-fn capped(len: usize) -> usize
-    ensures { λ r. ⌜ r ≡ min len lengthCap ⌝ }
-{
-    if LENGTH_CAP < len {
-        return LENGTH_CAP;
-    }
-    len
 }
 
 // Writes the record, tagged if it has a tag.
@@ -79,7 +66,7 @@ pub fn length(event: GtidEvent) -> EventLength
     if is_writable(event) {
         return EventLength {
             refusal: 0,
-            len: capped(event_len(event)),
+            len: event_len(event),
         };
     }
     EventLength {

@@ -19,7 +19,7 @@ use Rattle.gtid_event_read.specs.Read.{gtid}
 use Rattle.gtid_event_write.specs.Writable.{allZero, writable}
 use Rattle.gtid_event_write.specs.Layout.{openingBytes, untaggedBytes}
 use Rattle.gtid_event_write.specs.Write.{eventBytes, eventOutput}
-use Rattle.gtid_event_laws.specs.Fits.{Fits}
+use Rattle.gtid_event.specs.Fits.{Fits}
 use Rattle.gtid_event_laws.proofs.EventBack.{event-alone}
 use Rattle.gtid_sets.proofs.Bools.{or-false-parts}
 use Rattle.promises.specs.UntaggedLayout.{PairLaid, PairIfLeft}

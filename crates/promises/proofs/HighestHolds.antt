@@ -19,7 +19,7 @@ use Rattle.gtid_event.specs.declared.GtidEvent.{GtidEvent}
 use Rattle.gtid_event_write.specs.Writable.{signedTop, writable}
 use Rattle.gtid_event_write.specs.Write.{eventBytes, eventOutput}
 use Rattle.gtid_event_write.proofs.WritableLaws.{tagged-fits, parts, as-tagged, as-untagged}
-use Rattle.gtid_event_laws.specs.Fits.{Fits}
+use Rattle.gtid_event.specs.Fits.{Fits}
 use Rattle.gtid_event_laws.proofs.EventBack.{event-alone}
 use Rattle.gtid_sets.specs.TakeIn.{Proper, Lawful, lawful}
 use Rattle.gtid_sets.specs.Lent.{Lent, form, unfit, lentSet}

@@ -34,7 +34,7 @@ use Rattle.gtid_event_read.specs.Tagged.{tagged}
 use Rattle.gtid_event_read.specs.Read.{gtid}
 use Rattle.gtid_event_write.specs.Writable.{allZero, writable}
 use Rattle.gtid_event_write.specs.Write.{eventBytes, eventOutput}
-use Rattle.gtid_event_laws.specs.Fits.{Fits}
+use Rattle.gtid_event.specs.Fits.{Fits}
 use Rattle.gtid_event_laws.proofs.EventBack.{event-alone}
 use Rattle.gtid_sets.specs.Limits.{maxEntries, maxIntervals, limits}
 use Rattle.gtid_sets.specs.Lent.{form, unfit, lentSet}

@@ -15,7 +15,7 @@ use Rattle.gtid_event.specs.declared.GtidEvent.{GtidEvent}
 use Rattle.gtid_event_read.specs.Read.{gtid}
 use Rattle.gtid_event_write.specs.Writable.{writable}
 use Rattle.gtid_event_write.specs.Write.{eventOutput}
-use Rattle.gtid_event_laws.specs.Fits.{Fits}
+use Rattle.gtid_event.specs.Fits.{Fits}
 use Rattle.gtid_sets.specs.Lent.{SetLaid}
 use Rattle.resume_set.specs.Answers.{takeInAnswers, offerAnswers}
 use Rattle.resume_set.specs.declared.Offered.the-variants.{Refused}

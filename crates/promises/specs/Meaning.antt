@@ -17,7 +17,7 @@ use Rattle.gtid_event.specs.declared.GtidEvent.{GtidEvent}
 use Rattle.previous_gtids_event.specs.Layout.{BodyLaid}
 use Rattle.gtid_event_write.specs.Writable.{writable}
 use Rattle.gtid_event_write.specs.Size.{Agrees}
-use Rattle.gtid_event_laws.specs.Fits.{Fits}
+use Rattle.gtid_event.specs.Fits.{Fits}
 use Rattle.promises.specs.UntaggedLayout.{UntaggedLaid}
 use Rattle.promises.specs.TaggedLayout.{TaggedLaid}
 

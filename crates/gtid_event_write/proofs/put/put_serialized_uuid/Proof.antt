@@ -4,7 +4,6 @@ use Prim.Native.Nat.{_-_, _≤_}
 use native.Mathlib.Omega.{arith}
 use lib.ListN.{length, take}
 use borrow.Author.Needs.{needs}
-use Rattle.misc.proofs.OutputLaws.{put-placed}
 use Rattle.misc.specs.Output.{WhereFits}
 use Rattle.gtid_event_write.specs.Layout.{itemsBytes}
 use Rattle.gtid_event_write.proofs.PutLaws.{items-start, items-turn, items-end}
@@ -20,14 +19,11 @@ abbrev μ-loop : tie.MeasureT-loop
 loop-holds : tie.Need-loop-holds Inv-loop μ-loop
 loop-holds c = (omega arith, refl, items-start (c .before .args .t1) _ _)
 
-array-read-put-varlen-uint : tie.Need-array-read-put-varlen-uint Inv-loop μ-loop
-array-read-put-varlen-uint c = search needs
+array-read-put-item : tie.Need-array-read-put-item Inv-loop μ-loop
+array-read-put-item c = search needs
 
-cast-put-varlen-uint : tie.Need-cast-put-varlen-uint Inv-loop μ-loop
-cast-put-varlen-uint c = search needs
-
-put-varlen-uint-requires : tie.Need-put-varlen-uint-requires Inv-loop μ-loop
-put-varlen-uint-requires c κs = search needs
+put-item-requires : tie.Need-put-item-requires Inv-loop μ-loop
+put-item-requires c κs = search needs
 
 add-i : tie.Need-add-i Inv-loop μ-loop
 add-i c = search needs
@@ -39,7 +35,7 @@ loop-again : tie.Need-loop-again Inv-loop μ-loop
 loop-again c =
     let w = c .before .before .before .before .before .loop in
     let s = c .before .before .before .before .before .before .before .args .t1 in
-    (omega arith, c .before .before .put-varlen-uint .kept .1 .0 ∙ w .inv .1, items-turn s (w .i) (search needs) (w .inv .2) (put-placed (c .before .before .put-varlen-uint .ensures)))
+    (omega arith, c .before .before .put-item .kept .1 .0 ∙ w .inv .1, items-turn s (w .i) (search needs) (w .inv .2) (c .before .before .put-item .ensures))
 
 same-length : tie.Need-same-length Inv-loop μ-loop
 same-length c = search needs
@@ -56,9 +52,8 @@ put-serialized-uuid-spec =
     Inv-loop
     μ-loop
     loop-holds
-    array-read-put-varlen-uint
-    cast-put-varlen-uint
-    put-varlen-uint-requires
+    array-read-put-item
+    put-item-requires
     add-i
     loop-less
     loop-again

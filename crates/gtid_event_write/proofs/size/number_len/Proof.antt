@@ -1,22 +1,19 @@
 -- `gtid_event_write::size::number_len` meets its contract.
+use mathlib.Core.Path.{sym, _∙_}
 use native.Mathlib.Omega.{arith}
-use lib.ListN.{length-append}
 use borrow.Author.Needs.{needs}
+use Rattle.gtid_event_write.proofs.LayoutLaws.{length-number}
 use Rattle.gtid_event_write.proofs.size.number_len.Statement.{statement}
 use Rattle.gtid_event_write.proofs.size.number_len.Tie as tie
 
 varlen-uint-size-requires : tie.Need-varlen-uint-size-requires
 varlen-uint-size-requires c κs = search needs
 
-varlen-uint-size-requires-2 : tie.Need-varlen-uint-size-requires-2
-varlen-uint-size-requires-2 c κs = search needs
-
 add-result : tie.Need-add-result
 add-result c = search needs
 
 returns : tie.Need-returns
-returns c = (simp length-append (omega arith), omega arith)
+returns c = (λ id small. omega (arith, length-number id (c .before .args .value) small), omega arith)
 
 pub number-len-spec : {M : Type 1} → statement M
-number-len-spec =
-    tie.close (tie.spec varlen-uint-size-requires varlen-uint-size-requires-2 add-result returns)
+number-len-spec = tie.close (tie.spec varlen-uint-size-requires add-result returns)

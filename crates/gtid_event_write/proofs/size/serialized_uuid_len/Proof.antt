@@ -1,4 +1,4 @@
--- `gtid_event_write::size::serialized_uuid_len` meets its contract. The invariant: `len` counts the bytes of the first `i` items, at most nine each.
+-- `gtid_event_write::size::serialized_uuid_len` meets its contract. The invariant: `len` counts the bytes of the first `i` items, at most two each.
 use mathlib.Core.Path.{_≡_, refl, ap, _∙_}
 use mathlib.Core.List.{List}
 use Prim.Native.Nat.{ℕ, _-_, _*_, _≤_}
@@ -12,7 +12,7 @@ use Rattle.gtid_event_write.proofs.size.serialized_uuid_len.Statement.{
 use Rattle.gtid_event_write.proofs.size.serialized_uuid_len.Tie as tie
 
 abbrev Inv-loop : tie.InvT-loop
-Inv-loop sid len₀ i₀ len i = (i ≤ 16) × (len ≡ length (itemsBytes (take i sid))) × (len ≤ 9 * i)
+Inv-loop sid len₀ i₀ len i = (i ≤ 16) × (len ≡ length (itemsBytes (take i sid))) × (len ≤ 2 * i)
 
 abbrev μ-loop : tie.MeasureT-loop
 μ-loop sid len₀ i₀ len i = 16 - i
@@ -21,14 +21,11 @@ loop-holds : tie.Need-loop-holds Inv-loop μ-loop
 unfolding itemsBytes
 loop-holds c = (omega arith, refl, omega arith)
 
-array-read-varlen-uint-size : tie.Need-array-read-varlen-uint-size Inv-loop μ-loop
-array-read-varlen-uint-size c = search needs
+array-read-item-len : tie.Need-array-read-item-len Inv-loop μ-loop
+array-read-item-len c = search needs
 
-cast-varlen-uint-size : tie.Need-cast-varlen-uint-size Inv-loop μ-loop
-cast-varlen-uint-size c = search needs
-
-varlen-uint-size-requires : tie.Need-varlen-uint-size-requires Inv-loop μ-loop
-varlen-uint-size-requires c κs = search needs
+item-len-requires : tie.Need-item-len-requires Inv-loop μ-loop
+item-len-requires c κs = search needs
 
 add-len : tie.Need-add-len Inv-loop μ-loop
 add-len c = search needs
@@ -58,9 +55,8 @@ serialized-uuid-len-spec =
     Inv-loop
     μ-loop
     loop-holds
-    array-read-varlen-uint-size
-    cast-varlen-uint-size
-    varlen-uint-size-requires
+    array-read-item-len
+    item-len-requires
     add-len
     add-i
     loop-less

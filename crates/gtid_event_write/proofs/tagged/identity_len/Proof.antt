@@ -1,19 +1,24 @@
 -- `gtid_event_write::tagged::identity_len` meets its contract.
+use mathlib.Core.Path.{_≡_}
 use native.Mathlib.Omega.{arith}
-use borrow.Author.Needs.{needs}
+use lib.ListN.{length}
 use Rattle.gtid_event_write.proofs.WritableLaws.{tagged-fits}
 use Rattle.gtid_event_write.proofs.LayoutLaws.{length-identity}
+use borrow.Author.Needs.{needs}
 use Rattle.gtid_event_write.proofs.tagged.identity_len.Statement.{statement}
 use Rattle.gtid_event_write.proofs.tagged.identity_len.Tie as tie
 
-cast-number-len : tie.Need-cast-number-len
-cast-number-len c = search needs
+add-small : tie.Need-add-small
+add-small c = search needs
 
-number-len-requires : tie.Need-number-len-requires
-number-len-requires c κs = search needs
+add-small-2 : tie.Need-add-small-2
+add-small-2 c = search needs
 
-varlen-uint-size-requires : tie.Need-varlen-uint-size-requires
-varlen-uint-size-requires c κs = search needs
+add-small-3 : tie.Need-add-small-3
+add-small-3 c = search needs
+
+item-len-requires : tie.Need-item-len-requires
+item-len-requires c κs = search needs
 
 add-result : tie.Need-add-result
 add-result c = search needs
@@ -25,36 +30,26 @@ add-result-2 : tie.Need-add-result-2
 add-result-2 c = search needs
 
 mul-number-len : tie.Need-mul-number-len
-mul-number-len c = omega (arith, tagged-fits (c .before .before .before .before .before .before .before .args .event) (c .before .before .before .before .before .before .before .pre) .gno)
+mul-number-len c = omega (arith, tagged-fits (c .before .before .before .before .args .event) (c .before .before .before .before .pre) .gno)
 
-number-len-requires-2 : tie.Need-number-len-requires-2
-number-len-requires-2 c κs = search needs
+number-len-requires : tie.Need-number-len-requires
+number-len-requires c κs = search needs
 
 add-result-3 : tie.Need-add-result-3
 add-result-3 c = search needs
 
-tag-field-len-requires : tie.Need-tag-field-len-requires
-tag-field-len-requires c κs = tagged-fits (c .before .before .before .before .before .before .before .before .args .event) (c .before .before .before .before .before .before .before .before .pre) .tag
+cast-result : tie.Need-cast-result
+cast-result c = search needs
 
 add-result-4 : tie.Need-add-result-4
 add-result-4 c = search needs
 
 returns : tie.Need-returns
-returns c = (omega (arith, length-identity (c .before .before .before .before .before .before .before .before .before .args .event)), omega arith)
+returns c =
+    let e = c .before .before .before .before .before .before .args .event in
+    let sized : length (e .tag) ≡ 32 = search needs in
+    let most = tagged-fits e (c .before .before .before .before .before .before .pre) .tag in
+    (omega (arith, length-identity e sized most, c .before .number-len .ensures .0 2 (omega arith)), omega arith)
 
 pub identity-len-spec : {M : Type 1} → statement M
-identity-len-spec =
-    tie.close
-    (tie.spec
-    cast-number-len
-    number-len-requires
-    varlen-uint-size-requires
-    add-result
-    serialized-uuid-len-requires
-    add-result-2
-    mul-number-len
-    number-len-requires-2
-    add-result-3
-    tag-field-len-requires
-    add-result-4
-    returns)
+identity-len-spec = tie.close (tie.spec add-small add-small-2 add-small-3 item-len-requires add-result serialized-uuid-len-requires add-result-2 mul-number-len number-len-requires add-result-3 cast-result add-result-4 returns)

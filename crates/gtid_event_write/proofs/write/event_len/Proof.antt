@@ -15,7 +15,7 @@ len-tagged-v2-requires c κs = as-tagged (c .before .before .args .event) (c .be
 returns : tie.Need-returns
 returns c =
     let e = c .before .before .before .args .event in
-    c .len-tagged-v2 .ensures .0 ∙ sym (length-tagged e) ∙ ap length (bytes-tagged e (lt-ltb 0 _ (c .before .if1 .taken)))
+    c .len-tagged-v2 .ensures ∙ sym (length-tagged e) ∙ ap length (bytes-tagged e (lt-ltb 0 _ (c .before .if1 .taken)))
 
 len-untagged-requires : tie.Need-len-untagged-requires
 len-untagged-requires c κs = search needs
