@@ -17,10 +17,10 @@ use Rattle.gtid_event_read.specs.Read.{gtid}
 use Rattle.gtid_event_write.specs.Writable.{writable}
 use Rattle.gtid_event_write.specs.Layout.{taggedBytes, untaggedBytes}
 use Rattle.gtid_event_write.specs.Write.{eventBytes}
+use Rattle.gtid_event_write.proofs.TotalsLaws.{most}
 use Rattle.gtid_event.specs.Fits.{Fits}
-use Rattle.gtid_event_laws.proofs.WritableLaws.{tagged-facts}
-use Rattle.gtid_event_laws.proofs.UntaggedBack.{untagged-most, untagged-back}
-use Rattle.gtid_event_laws.proofs.TaggedBack.{tagged-most, tagged-back}
+use Rattle.gtid_event_laws.proofs.UntaggedBack.{untagged-within, untagged-back}
+use Rattle.gtid_event_laws.proofs.TaggedBack.{tagged-back}
 
 -- ---- a body of each type
 module _ (s : List ℕ) (fits : length s ≤ 65536) where
@@ -69,14 +69,12 @@ module _ (e : GtidEvent) (fits : Fits e) (can : writable e ≡ true) where
       rw (gtid-anonymous (eventBytes e ++ rest) size, bytes-untagged e is) (untagged-back e fits can is rest free)
 
   -- the event has few bytes
-  pub event-most : length (eventBytes e) ≤ 394
+  pub event-most : length (eventBytes e) ≤ 156
   event-most =
-      split (event.tagged e)
-      (λ is. rw (bytes-tagged e is) (tagged-most e fits (tagged-facts e fits can is)))
-      (λ is. rw (bytes-untagged e is) (omega (arith, untagged-most e fits .most)))
+      split (event.tagged e) (λ is. most e (record { fits = fits; has-tag = is; able = can }))
+      (λ is. rw (bytes-untagged e is) (omega (arith, untagged-within e fits .most)))
 
   -- so it reads back from a body that is just its bytes
   pub event-alone : gtid (typeOf e) (eventBytes e) ≡ parsed e (length (eventBytes e))
   event-alone =
-      let most = event-most in
-      rw append-nil at (event-back [] (λ _ _. refl) (rw append-nil (omega arith)))
+      rw append-nil at (event-back [] (λ _ _. refl) (rw append-nil (omega (arith, event-most))))

@@ -1,6 +1,5 @@
 -- Laws that read and written GTID records obey, in the order in which they build on each other.
 pub mod Stands
-pub mod AtMost
 pub mod WritableLaws
 pub mod UntaggedBack
 pub mod FieldsBack

@@ -2,16 +2,16 @@
 use mathlib.Core.Path.{_≡_, refl, sym}
 use mathlib.Core.Bool.{true, not}
 use mathlib.Core.List.{List, [], _∷_, _++_, append-assoc, append-nil}
-use Prim.Native.Nat.{ℕ, _+_, _-_, _*_, _≤_}
+use Prim.Native.Nat.{ℕ, _+_, _-_, _≤_}
 use native.Mathlib.Omega.{arith}
 use lib.Dec.{eqb}
-use lib.ListN.{length, length-append}
+use lib.ListN.{length}
 use lib.Seq.{length-take-le}
 use borrow.Author.Tests.{eqb-true, le-leb}
 use Rattle.misc.specs.Pick.{pick}
 use Rattle.misc.specs.Parse.{parsed}
-use Rattle.misc.specs.Varlen.{sizeFrom, varlenSize, varlenBytes}
-use Rattle.misc.proofs.VarlenLaws.{length-varlenBytes, size-range}
+use Rattle.misc.specs.Varlen.{varlenBytes}
+use Rattle.misc.proofs.VarlenLaws.{length-varlenBytes}
 use Rattle.packets.proofs.Tests.{split}
 use Rattle.gtid_event.specs.Event as event
 use Rattle.gtid_event.specs.declared.GtidEvent.{GtidEvent}
@@ -21,13 +21,14 @@ use Rattle.gtid_event_read.specs.Fields.{noFields, withNumber, withUuid, withTa
 use Rattle.gtid_event_read.specs.Tagged.{recordOf, tagged}
 use Rattle.gtid_event_write.specs.Writable.{tagOf, writable}
 use Rattle.gtid_event_write.specs.Size.{payloadSize}
-use Rattle.gtid_event_write.specs.Layout.{numberBytes, unlessBytes, itemsBytes, identityBytes, clockBytes, restBytes, fieldBytes, taggedBytes}
+use Rattle.gtid_event_write.specs.Layout.{identityBytes, clockBytes, restBytes, fieldBytes, taggedBytes}
 use Rattle.gtid_event.specs.Fits.{Fits}
 use Rattle.gtid_event_laws.proofs.Stands.{Stands, at-front, each, stands-within, part-stands, byte-stands, varlen-stands}
 use Rattle.gtid_event_laws.proofs.WritableLaws.{TaggedFacts, tagged-facts}
-use Rattle.gtid_event_laws.proofs.AtMost.{AtMost, _plus_}
 use Rattle.gtid_event_write.proofs.SizeLaws.{payload-agrees}
-use Rattle.gtid_event_laws.proofs.FieldsBack.{Run, plain, limited, doubled, one, _then_, perhaps, varlen-length, number-field, uuid-field, tag-field, optional, run-read}
+use Rattle.gtid_event_write.proofs.LayoutLaws.{length-small, length-tagged}
+use Rattle.gtid_event_write.proofs.TotalsLaws.{total-most}
+use Rattle.gtid_event_laws.proofs.FieldsBack.{Run, plain, limited, doubled, one, _then_, perhaps, number-field, uuid-field, tag-field, optional, run-read}
 
 -- ---- the fields, and what is there once they are read
 
@@ -104,76 +105,20 @@ module _ (e : GtidEvent) (fits : Fits e) (facts : TaggedFacts e) where
       (original-back (e .«original_commit_timestamp») (e .«immediate_commit_timestamp»)) refl refl
       (original-back (e .«original_server_version») (e .«immediate_server_version»)) (zero-back (e .«commit_group_ticket»))
 
--- ---- how many bytes they are at most
-
-item-most : (v : ℕ) → AtMost (varlenBytes v) 9
-item-most v = record { most = varlen-length v .1 }
-
-number-most : (id v : ℕ) → AtMost (numberBytes id v) 18
-number-most id v = item-most id plus item-most v
-
-unless-most : (id v assumed : ℕ) → AtMost (unlessBytes id v assumed) 18
-unless-most id v assumed = split (eqb v assumed) (λ out. rw out (record { most = omega arith })) (λ sent. rw sent (number-most id v))
-
-items-length : (bs : List ℕ) → length (itemsBytes bs) ≤ 9 * length bs
-unfolding itemsBytes
-items-length [] = omega arith
-items-length (b ∷ bs) =
-    let more = items-length bs in
-    rw length-append (omega (arith, varlen-length b .1))
-
-module _ (e : GtidEvent) (fits : Fits e) (facts : TaggedFacts e) where
-  identity-most : AtMost (identityBytes e) 239
-  unfolding identityBytes
-  identity-most =
-      number-most 0 (e .flags) plus (item-most 1 plus items) plus number-most 2 (e .gno * 2) plus (item-most 3 plus item-most (e .«tag_len») plus tag)
-    where
-      items : AtMost (itemsBytes (e .sid)) 144
-      items = let size = fits .sid-size in record { most = omega (arith, items-length (e .sid)) }
-
-      tag : AtMost (tagOf e) 32
-      tag = let size = facts .tests .tag in record { most = omega (arith, tag-length e fits facts) }
-
-  fields-most : AtMost (fieldBytes e) 383
-  unfolding fieldBytes clockBytes restBytes
-  fields-most =
-      identity-most
-      plus (number-most 4 _ plus number-most 5 _ plus number-most 6 _
-      plus unless-most 7 (e .«original_commit_timestamp») (e .«immediate_commit_timestamp»))
-      plus (number-most 8 _ plus number-most 9 _
-      plus unless-most 10 (e .«original_server_version») (e .«immediate_server_version»)
-      plus unless-most 11 (e .«commit_group_ticket») 0)
-
 -- ---- the whole
 
-zero-size : length (varlenBytes 0) ≡ 1
-unfolding varlenSize sizeFrom
-zero-size = length-varlenBytes 0
-
--- the size that is sent is the size of all bytes
-size-is : (e : GtidEvent) → payloadSize (length (fieldBytes e)) ≡ length (taggedBytes e)
-unfolding taggedBytes
-size-is e =
-    let size = payloadSize (length (fieldBytes e)) in
-    simp length-append (omega (arith, payload-agrees (length (fieldBytes e)), length-varlenBytes size, zero-size))
-
 module _ (e : GtidEvent) (fits : Fits e) (facts : TaggedFacts e) where
-  pub tagged-most : length (taggedBytes e) ≤ 394
-  tagged-most =
-      let n = length (fieldBytes e) in
-      omega (arith, size-is e, payload-agrees n, size-range (payloadSize n) .1, fields-most e fits facts .most)
-
   tagged-stands : {s : List ℕ} → Stands (taggedBytes e) s 0 → tagged s ≡ parsed e (length (taggedBytes e))
   unfolding tagged
   tagged-stands {s} st =
       let size = payloadSize (length (fieldBytes e)) in
-      let whole : size ≡ length (taggedBytes e) = size-is e in
-      let most = tagged-most in
+      let whole : size ≡ length (taggedBytes e) = sym (length-tagged e) in
+      let most : size ≤ 156 = total-most e fits (facts .tests) in
       let within = stands-within st in
       let (version, (count, (last, (fields, _)))) =
       each ((2 ∷ []) ∷ varlenBytes size ∷ varlenBytes 0 ∷ fieldBytes e ∷ []) st (unfold taggedBytes in simp (append-assoc, append-nil)) in
       let start = 0 + 1 + length (varlenBytes size) + length (varlenBytes 0) in
-      let sum : size ≡ start + length (fieldBytes e) = omega (arith, payload-agrees (length (fieldBytes e)), length-varlenBytes size, zero-size) in
+      let sum : size ≡ start + length (fieldBytes e) = omega (arith, payload-agrees (length (fieldBytes e)), length-varlenBytes size, length-small 0 (omega arith)) in
       rw (
         byte-stands 2 version,
         varlen-stands size (omega arith) count,

@@ -26,7 +26,7 @@ use Rattle.gtid_event_write.specs.Writable.{writable}
 use Rattle.gtid_event_write.specs.Layout.{pairBytes, openingBytes, laterBytes, untaggedBytes}
 use Rattle.gtid_event.specs.Fits.{Fits}
 use Rattle.gtid_event_laws.proofs.Stands.{Stands, at-front, each, stands-within, bytes-stand, byte-stands, first-stands, le-stands, lenenc-stands}
-use Rattle.gtid_event_laws.proofs.AtMost.{AtMost, _plus_}
+use Rattle.gtid_event_write.proofs.Within.{Within, _plus_}
 use Rattle.gtid_event_laws.proofs.WritableLaws.{LaterAbsent, Later, UntaggedFacts, there, absent, untagged-facts}
 
 -- a part that may be absent is read where its bytes stand
@@ -36,13 +36,16 @@ if-left n none item {bs} {s} {at} some st =
     rw (le-leb n (length s - at) (omega arith))
 
 -- a length-encoded integer has a byte at least, and nine at most
-lenenc-length : (v : ℕ) → (1 ≤ length (lenencBytes v)) × (length (lenencBytes v) ≤ 9)
-lenenc-length v =
+lenenc-within : (v : ℕ) → Within (lenencBytes v) 1 9
+lenenc-within v =
     order 251 v
     (λ h₁. order (2 ^ 16) v
-    (λ h₂. order (2 ^ 24) v (λ h₃. rw (size-9 v h₃) (omega arith, omega arith)) (λ h₃. rw (size-4 v h₂ h₃) (omega arith, omega arith)))
-    (λ h₂. rw (size-3 v h₁ h₂) (omega arith, omega arith)))
-    (λ h₁. rw (size-1 v h₁) (omega arith, omega arith))
+    (λ h₂. order (2 ^ 24) v (λ h₃. few 9 (size-9 v h₃) (omega arith) (omega arith)) (λ h₃. few 4 (size-4 v h₂ h₃) (omega arith) (omega arith)))
+    (λ h₂. few 3 (size-3 v h₁ h₂) (omega arith) (omega arith)))
+    (λ h₁. few 1 (size-1 v h₁) (omega arith) (omega arith))
+  where
+    few : (n : ℕ) → length (lenencBytes v) ≡ n → 1 ≤ n → n ≤ 9 → Within (lenencBytes v) 1 9
+    few n is some most = record { least = omega arith; most = omega arith }
 
 -- ---- an immediate number and its original
 module _ (w k immediate original : ℕ) (bits : 8 * w ≡ k + 1) (below : immediate < 2 ^ k) (fits : original < 256 ^ w) where
@@ -94,7 +97,7 @@ module _ (w k immediate original : ℕ) (bits : 8 * w ≡ k + 1) (below : immedi
 
 lenenc-there : (v : ℕ) → v < 2 ^ 64 → {s : List ℕ} {at : ℕ} → Stands (lenencBytes v) s at → lengthAt s at ≡ parsed v (at + length (lenencBytes v))
 unfolding lengthAt
-lenenc-there v fits {s} {at} st = if-left 1 0 (lenencAt s at) (lenenc-length v .0) st ∙ lenenc-stands v fits st
+lenenc-there v fits {s} {at} st = if-left 1 0 (lenencAt s at) (lenenc-within v .least) st ∙ lenenc-stands v fits st
 
 typecode-stands : {s : List ℕ} {at : ℕ} → Stands (2 ∷ []) s at → typecodeAt s at ≡ true
 typecode-stands {s} {at} st =
@@ -153,44 +156,46 @@ module _ (e : GtidEvent) (fits : Fits e) where
               (ap (parsed (within opening)) (simp length-append (omega arith))),
         )
 
--- ---- how many bytes they are at most
+-- ---- how many bytes they are
 
-byte-most : (b : ℕ) → AtMost (b ∷ []) 1
-byte-most b = record { most = omega arith }
+byte-within : (b : ℕ) → Within (b ∷ []) 1 1
+byte-within b = record { least = omega arith; most = omega arith }
 
-le-most : (n v : ℕ) → AtMost (leBytes n v) n
-le-most n v = record { most = rw length-leBytes (omega arith) }
+le-within : (n v : ℕ) → Within (leBytes n v) n n
+le-within n v = record { least = rw length-leBytes (omega arith); most = rw length-leBytes (omega arith) }
 
-pair-most : (w mark immediate original : ℕ) → AtMost (pairBytes w mark immediate original) (w + w)
-pair-most w mark immediate original =
+pair-within : (w mark immediate original : ℕ) → Within (pairBytes w mark immediate original) w (w + w)
+pair-within w mark immediate original =
     split (eqb immediate original)
-    (λ same. rw same (record { most = rw length-leBytes (omega arith) }))
-    (λ other. rw other (le-most w (immediate + mark) plus le-most w original))
-
-lenenc-most : (v : ℕ) → AtMost (lenencBytes v) 9
-lenenc-most v = record { most = lenenc-length v .1 }
+    (λ same. rw same (record { least = le-within w immediate .least; most = rw length-leBytes (omega arith) }))
+    (λ other.
+    let both = le-within w (immediate + mark) plus le-within w original in
+    rw other (record { least = omega (arith, both .least); most = both .most }))
 
 module _ (e : GtidEvent) (fits : Fits e) where
-  opening-most : AtMost (openingBytes e) 25
+  opening-within : Within (openingBytes e) 25 25
   unfolding openingBytes
-  opening-most =
+  opening-within =
       let size = fits .sid-size in
-      record { most = simp (length-append, length-leBytes) (omega arith) }
+      let uuid : Within (e .sid) 16 16 = record { least = omega arith; most = omega arith } in
+      byte-within (e .flags) plus uuid plus le-within 8 _
 
-  later-most : AtMost (laterBytes e) 48
+  later-within : Within (laterBytes e) 29 48
   unfolding laterBytes
-  later-most =
-      byte-most 2 plus le-most 8 _ plus le-most 8 _
-      plus pair-most 7 (2 ^ 55) (e .«immediate_commit_timestamp») (e .«original_commit_timestamp»)
-      plus lenenc-most (e .«tx_length»)
-      plus pair-most 4 (2 ^ 31) (e .«immediate_server_version») (e .«original_server_version»)
+  later-within =
+      byte-within 2 plus le-within 8 _ plus le-within 8 _
+      plus pair-within 7 (2 ^ 55) (e .«immediate_commit_timestamp») (e .«original_commit_timestamp»)
+      plus lenenc-within (e .«tx_length»)
+      plus pair-within 4 (2 ^ 31) (e .«immediate_server_version») (e .«original_server_version»)
 
-  pub untagged-most : AtMost (untaggedBytes e) 73
+  pub untagged-within : Within (untaggedBytes e) 25 73
   unfolding untaggedBytes
-  untagged-most = opening-most plus later
+  untagged-within = opening-within plus later
     where
-      later : AtMost (pick (eqb (e .«lc_typecode») 0) [] (laterBytes e)) 48
-      later = split (eqb (e .«lc_typecode») 0) (λ none. rw none (record { most = omega arith })) (λ code. rw code later-most)
+      later : Within (pick (eqb (e .«lc_typecode») 0) [] (laterBytes e)) 0 48
+      later =
+          split (eqb (e .«lc_typecode») 0) (λ none. rw none (record { least = omega arith; most = omega arith }))
+          (λ code. rw code (record { least = omega arith; most = later-within .most }))
 
 -- ---- the whole
 

@@ -20,7 +20,7 @@ length-four : (a b c d : List ℕ) → length (a ++ b ++ c ++ d) ≡ length a + 
 length-four a b c d = simp length-append
 
 -- an integer below 128, as an id is and the length of a tag
-length-small : (v : ℕ) → v < 128 → length (varlenBytes v) ≡ 1
+pub length-small : (v : ℕ) → v < 128 → length (varlenBytes v) ≡ 1
 length-small v h = length-varlenBytes v ∙ size-one v h
 
 pub length-number : (id v : ℕ) → id < 128 → length (numberBytes id v) ≡ 1 + length (varlenBytes v)

@@ -5,3 +5,4 @@ pub mod PutLaws
 pub mod WriteLaws
 pub mod Within
 pub mod TotalsLaws
+pub mod TotalsReached

@@ -1,6 +1,5 @@
 -- How many bytes a tagged record has that can be written, from the limits of its fields.
 use mathlib.Core.Path.{_≡_, sym, ap, _∙_}
-use mathlib.Core.Bool.{true}
 use mathlib.Core.List.{List, [], _∷_}
 use Prim.Native.Nat.{ℕ, suc, _+_, _*_, _^_, _≤_, _<_}
 use native.Mathlib.Omega.{arith}
@@ -14,13 +13,13 @@ use Rattle.packets.proofs.Tests.{split}
 use Rattle.packets.proofs.TagLaws.{tag-not-empty, tag-at-most-32}
 use Rattle.gtid_event.specs.Fits.{Fits}
 use Rattle.gtid_event.specs.declared.GtidEvent.{GtidEvent}
-use Rattle.gtid_event_write.specs.Writable.{tagOf, writableTagged}
+use Rattle.gtid_event_write.specs.Writable.{tagOf}
 use Rattle.gtid_event_write.specs.Size.{payloadSize}
 use Rattle.gtid_event_write.specs.Layout.{numberBytes, unlessBytes, itemsBytes, identityBytes, clockBytes, restBytes, fieldBytes}
 use Rattle.gtid_event_write.specs.Write.{eventBytes}
 use Rattle.gtid_event_write.specs.Totals.{TaggedOne}
 use Rattle.gtid_event_write.proofs.SizeLaws.{size-most, payload-agrees, payload-one, payload-two, payload-never-128}
-use Rattle.gtid_event_write.proofs.WritableLaws.{tagged-fits, as-tagged}
+use Rattle.gtid_event_write.proofs.WritableLaws.{TaggedFits, tagged-fits, as-tagged}
 use Rattle.gtid_event_write.proofs.LayoutLaws.{length-tagged}
 use Rattle.gtid_event_write.proofs.WriteLaws.{bytes-tagged}
 use Rattle.gtid_event_write.proofs.Within.{Within, _plus_}
@@ -51,11 +50,10 @@ items (b ∷ bs) small =
     let all = item 2 b (omega arith) (omega arith) plus items bs (λ i. small (suc i)) in
     record { least = omega (arith, all .least); most = omega (arith, all .most) }
 
-module _ (e : GtidEvent) (fits : Fits e) (able : writableTagged e ≡ true) where
+module _ (e : GtidEvent) (fits : Fits e) (tests : TaggedFits e) where
   identity : Within (identityBytes e) 24 80
   unfolding identityBytes
   identity =
-      let tests = tagged-fits e able in
       let flags = fits .flags-fit in
       let most = tests .tag in
       let size = fits .sid-size in
@@ -98,19 +96,19 @@ module _ (e : GtidEvent) (fits : Fits e) (able : writableTagged e ≡ true) wher
 -- ---- the whole
 
 module _ (e : GtidEvent) (one : TaggedOne e) where
-  has : writableTagged e ≡ true
-  has = as-tagged e (one .able) (one .has-tag)
+  tests : TaggedFits e
+  tests = tagged-fits e (as-tagged e (one .able) (one .has-tag))
 
-  is-total : length (eventBytes e) ≡ payloadSize (length (fieldBytes e))
-  is-total = sym (ap length (bytes-tagged e (one .has-tag))) ∙ length-tagged e
+  pub total-is : length (eventBytes e) ≡ payloadSize (length (fieldBytes e))
+  total-is = sym (ap length (bytes-tagged e (one .has-tag))) ∙ length-tagged e
 
   pub least : 37 ≤ length (eventBytes e)
   least =
       let n = length (fieldBytes e) in
-      omega (arith, is-total, payload-agrees n, size-range (payloadSize n), fields-within e (one .fits) has .least)
+      omega (arith, total-is, payload-agrees n, size-range (payloadSize n), fields-within e (one .fits) tests .least)
 
   pub most : length (eventBytes e) ≤ 156
-  most = omega (arith, is-total, total-most e (one .fits) has)
+  most = omega (arith, total-is, total-most e (one .fits) tests)
 
   pub never-128 : length (eventBytes e) ≡ 128 → ⊥
-  never-128 is = payload-never-128 (length (fieldBytes e)) (sym is-total ∙ is)
+  never-128 is = payload-never-128 (length (fieldBytes e)) (sym total-is ∙ is)

@@ -48,8 +48,13 @@ zero-at zero i = refl
 zero-at (suc n) zero = refl
 zero-at (suc n) (suc i) = zero-at n i
 
+pub same-bytes : (n b : ℕ) → b < 256 → Bytes (replicate n b)
+same-bytes zero b h i = omega arith
+same-bytes (suc n) b h zero = h
+same-bytes (suc n) b h (suc i) = same-bytes n b h i
+
 pub zeros-bytes : (n : ℕ) → Bytes (replicate n 0)
-zeros-bytes n i = rw (zero-at n i) (omega arith)
+zeros-bytes n = same-bytes n 0 (omega arith)
 
 drop-bytes : (n : ℕ) (s : List ℕ) → Bytes s → Bytes (drop n s)
 drop-bytes n s h i = rw (getD-drop n s i 0) (h (n + i))

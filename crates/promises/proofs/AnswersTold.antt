@@ -17,7 +17,7 @@ use Rattle.previous_gtids_event.proofs.Reading.{uuid-of, tag-of}
 use Rattle.previous_gtids_event.proofs.Laying.{entry-reads, interval-reads}
 use Rattle.previous_gtids_event.proofs.RoundTrip.{header-told}
 use Rattle.gtid_event.specs.declared.GtidEvent.{GtidEvent}
-use Rattle.gtid_event_write.specs.Write.{lengthCap, lengthOf}
+use Rattle.gtid_event_write.specs.Write.{lengthOf}
 use Rattle.resume_set.specs.Answers.{eventOf}
 use Rattle.listing.specs.EventText.{eventText}
 use Rattle.promises.specs.Meaning.{RecordLaid}
@@ -56,7 +56,7 @@ integers-told = record {
 }
 
 pub events-told : EventsTold
-unfolding lengthOf lengthCap eventOf
+unfolding lengthOf eventOf
 events-told = record {
   read = λ type body e used laid. rw (laid-record-read type body e used laid);
   unread = λ type body e used laid. rw (laid-record-read type body e used laid);

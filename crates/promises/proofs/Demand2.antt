@@ -1,19 +1,17 @@
 -- Demand 2 holds of the reader and the writers that our functions promise.
 use Prim.Native.Nat.{ℕ, _≤_}
-use mathlib.Core.Path.{_≡_}
+use mathlib.Core.Path.{_≡_, sym}
 use mathlib.Core.Bool.{true, _||_}
 use mathlib.Core.List.{List, [], _∷_, _++_, append-assoc}
-use native.Mathlib.Omega.{arith}
 use mathlib.Core.Logic.{_⊎_, inl, inr}
 use lib.Dec.{eqb, leb}
-use lib.ListN.{length, length-append}
+use lib.ListN.{length}
 use borrow.Author.Tests.{leb-true, le-leb, eqb-true}
 use Rattle.misc.specs.Refusal.{tooLong}
 use Rattle.misc.specs.Parse.{Bytes, parsed}
 use Rattle.misc.specs.Body.{bodyLimit}
-use Rattle.misc.specs.Varlen.{sizeFrom, varlenSize, varlenBytes}
+use Rattle.misc.specs.Varlen.{varlenBytes}
 use Rattle.misc.proofs.ParseLaws.{never, pick-either, pick-parsed}
-use Rattle.misc.proofs.VarlenLaws.{length-varlenBytes}
 use Rattle.packets.proofs.Tests.{split}
 use Rattle.previous_gtids_event.specs.Previous.{previous}
 use Rattle.previous_gtids_event.specs.Rewrite.{bodyBytes}
@@ -25,6 +23,7 @@ use Rattle.gtid_event_write.specs.Size.{payloadSize}
 use Rattle.gtid_event_write.specs.Layout.{fieldBytes, taggedBytes}
 use Rattle.gtid_event_write.specs.Write.{eventBytes, eventOutput}
 use Rattle.gtid_event_write.proofs.SizeLaws.{payload-agrees, payload-least}
+use Rattle.gtid_event_write.proofs.LayoutLaws.{length-tagged}
 use Rattle.gtid_event_laws.proofs.EventBack.{event-alone}
 use Rattle.gtid_event_laws.proofs.ReadWritable.{read-fits, read-writable}
 use Rattle.promises.proofs.IntegersExact.{write-writes}
@@ -73,22 +72,16 @@ pub records-again : RecordsAgain gtid eventOutput
 unfolding eventOutput
 records-again type body e used are read = (read-fits body are type e used read, (eventBytes e, rw (read-writable body are type e used read)))
 
--- the last non-ignorable id, 0, takes a byte
-zero-size : length (varlenBytes 0) ≡ 1
-unfolding varlenSize sizeFrom
-zero-size = length-varlenBytes 0
-
 declares : (e : GtidEvent) → tagged e ≡ true → Declares (eventBytes e)
 unfolding eventBytes taggedBytes
 declares e is =
     let fields = length (fieldBytes e) in
     let size = payloadSize fields in
-    let bs : List ℕ = (2 ∷ []) ++ varlenBytes size ++ varlenBytes 0 ++ fieldBytes e in
     rw is (record {
       size = size;
       rest = varlenBytes 0 ++ fieldBytes e;
       laid = append-assoc ((2 ∷ []) ++ varlenBytes size) (varlenBytes 0) (fieldBytes e);
-      counts = simp (length-append) (omega (arith, payload-agrees fields, zero-size, length-varlenBytes size));
+      counts = sym (length-tagged e);
       fields = fields;
       agrees = payload-agrees fields;
       least = payload-least fields;

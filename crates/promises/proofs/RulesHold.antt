@@ -9,6 +9,7 @@ use Rattle.packets.specs.Gno.{gnoTop}
 use Rattle.packets.specs.Key.{Key, _≺_}
 use Rattle.packets.proofs.Keys.{compare-lt, compare-eq, prefix-first}
 use Rattle.packets.proofs.GnoLaws.{gnoTop-is, gno-says, interval-says, interval-from}
+use Rattle.gtid_event_write.proofs.TotalsReached.{totals}
 use Rattle.gtid_sets.proofs.LimitLaws.{maxEntries-is, maxIntervals-is, longestSet-is, limits-says, limits-from}
 use Rattle.promises.specs.Rules.{Rules}
 
@@ -35,4 +36,5 @@ rules = record {
   );
   longest-set = longestSet-is;
   longest-body = bodyLimit-is;
+  tagged-totals = totals;
 }

@@ -6,17 +6,18 @@ use lib.Dec.{ltb}
 use borrow.Author.Tests.{ltb-true}
 use mathlib.Core.List.{List, [], _∷_, _++_}
 use native.Mathlib.Omega.{arith}
-use lib.ListN.{length, replicate}
+use lib.ListN.{length, replicate, length-append}
 use Rattle.misc.specs.Parse.{Bytes, refuse, parsed, many, bytesAt, byteAt}
 use Rattle.misc.specs.Output.{bytes, outputOf, answerOf}
 use Rattle.misc.specs.Body.{bodyLimit}
 use Rattle.misc.specs.Le.{leOf, leBytes, leAt}
 use Rattle.misc.specs.Refusal.{unknownField}
-use Rattle.misc.specs.Varlen.{trailingOnes, itemValue, varlenAt}
+use Rattle.misc.specs.Varlen.{trailingOnes, itemValue, varlenAt, varlenSize, itemOf, varlenBytes}
 use Rattle.misc.specs.Signed.{meantBy, signedAt, naturalAt}
 use Rattle.misc.proofs.ParseLaws.{never}
 use Rattle.misc.proofs.BodyLaws.{bodyLimit-is}
 use Rattle.misc.proofs.Bounds.{append-bytes, zeros-bytes}
+use Rattle.misc.proofs.LeLaws.{length-leBytes}
 use Rattle.previous_gtids_event.specs.Entry.{entry, uuidOf, tagOf}
 use Rattle.packets.specs.Kept.{padded}
 use Rattle.packets.specs.Tag.{isTag, allTagBytes}
@@ -33,7 +34,14 @@ use Rattle.gtid_event_read.specs.Fields.{tagAt, fieldAt, fieldsFrom}
 use Rattle.gtid_event_read.specs.Tagged.{tagged}
 use Rattle.gtid_event_read.specs.Read.{gtid}
 use Rattle.gtid_event_write.specs.Writable.{allZero, writable}
+use Rattle.gtid_event_write.specs.Size.{payloadSize}
+use Rattle.gtid_event_write.specs.Layout.{fieldBytes}
 use Rattle.gtid_event_write.specs.Write.{eventBytes, eventOutput}
+use Rattle.gtid_event_write.specs.Totals.{TaggedOne}
+use Rattle.gtid_event_write.proofs.SizeLaws.{size-one, size-two, payload-agrees}
+use Rattle.gtid_event_write.proofs.LayoutLaws.{length-small}
+use Rattle.gtid_event_write.proofs.TotalsLaws.{total-is}
+use Rattle.gtid_event_write.proofs.TotalsReached.{totals}
 use Rattle.gtid_event.specs.Fits.{Fits}
 use Rattle.gtid_event_laws.proofs.EventBack.{event-alone}
 use Rattle.gtid_sets.specs.Limits.{maxEntries, maxIntervals, limits}
@@ -42,12 +50,12 @@ use Rattle.resume_set.specs.Answers.{eventOf}
 use Rattle.resume_set.specs.declared.Offered.the-variants.{NoId, Taken, Refused}
 use Rattle.resume_set_laws.specs.History.{Turn, Offering, member, TakesIn, TellsHistory}
 use Rattle.resume_set_laws.specs.Ours.{ours}
-use Rattle.promises.specs.Meaning.{EventReader, EventWriter, RecordLaid, RecordsMean, RecordsBack, EntriesMean}
+use Rattle.promises.specs.Meaning.{EventReader, EventWriter, RecordLaid, RecordsMean, RecordsBack, LeastSize, EntriesMean}
 use Rattle.promises.specs.UntaggedLayout.{NoTypecode, untaggedRecord, ShortLaid}
 use Rattle.promises.specs.TaggedLayout.{number, the-tag, said}
 use Rattle.promises.proofs.Demand2.{records-mean, one-record, entries-mean}
 use Rattle.promises.specs.Building.{Unversioned, NewVersions, KeepsVersions}
-use Rattle.promises.specs.WrongOnes.{claimsZero, forgetsVersions, refusesBodies, topByteTwo, tagsByOne, refusesAll, constantRecord, madeUpCount, swapsClock, equalId, ignoresEqual, writesNothing, copiesItsSet, addsOnlyTheFirst, alwaysNoId, noIdForZero, takesTop, asksTaggedOnly}
+use Rattle.promises.specs.WrongOnes.{claimsZero, forgetsVersions, refusesBodies, topByteTwo, tagsByOne, refusesAll, constantRecord, madeUpCount, swapsClock, equalId, ignoresEqual, writesNothing, sizesByTwo, copiesItsSet, addsOnlyTheFirst, alwaysNoId, noIdForZero, takesTop, asksTaggedOnly}
 use Rattle.promises.specs.Exact.{OffersExactly, AsksExactly}
 use Rattle.promises.proofs.SetsExact.{offers-exactly}
 use Rattle.promises.proofs.BuildingHolds.{fresh-fits}
@@ -85,6 +93,26 @@ writes-nothing-out read back =
     let (bs, wrote, _) = back some some-fits some-can in
     let clash : _≡_ {A = ℕ} 0 1 = cc in
     omega arith
+
+-- a writer that gives the size two bytes: for 124 bytes of fields it declares 128, which agrees with itself, but 127 does too
+sizes-by-two : (e : GtidEvent) → TaggedOne e → length (eventBytes e) ≡ 127 → LeastSize sizesByTwo → ⊥
+unfolding itemOf
+sizes-by-two e one total least =
+    let n = length (fieldBytes e) in
+    let small = size-one 127 (omega arith) in
+    let is : payloadSize n ≡ 127 = sym (total-is e one) ∙ total in
+    let some : n ≡ 124 = omega (arith, payload-agrees n, ap varlenSize is) in
+    let bs : List ℕ = (2 ∷ []) ++ itemOf 2 (4 + n) ++ varlenBytes 0 ++ fieldBytes e in
+    let size : length bs ≡ 128 = simp (length-append, length-leBytes) (omega (arith, length-small 0 (omega arith))) in
+    let declared = least e bs (one .has-tag) (rw (one .has-tag, one .able)) in
+    let wide : declared .size ≡ 128 = declared .counts ∙ size in
+    let fields : declared .fields ≡ 124 = omega (arith, declared .agrees, ap varlenSize wide, size-two 128 (omega arith) (omega arith)) in
+    omega (arith, declared .least 127 (omega arith))
+
+pub sizes-by-two-out : LeastSize sizesByTwo → ⊥
+sizes-by-two-out least =
+    let (e, one, total) = totals .reaches-127 in
+    sizes-by-two e one total least
 
 -- a reader that tells another count, with the writer that is ours. (Some writers would agree with it: those that write a byte more)
 pub made-up-count-out : RecordsBack madeUpCount eventOutput → ⊥

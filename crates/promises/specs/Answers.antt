@@ -1,5 +1,5 @@
 -- What a call answers that doesn't refuse, by the layouts: every part of the answer.
-use Prim.Native.Nat.{ℕ, _+_, _-_, _*_, _^_, _≤_, min}
+use Prim.Native.Nat.{ℕ, _+_, _-_, _*_, _≤_}
 use mathlib.Core.Path.{_≡_}
 use mathlib.Core.Bool.{Bool}
 use mathlib.Core.List.{List, [], _∷_, _++_}
@@ -54,9 +54,8 @@ pub record EventsTold : Type 0 where
       → gtidRead (gtid type body) ≡ record { refusal = 0; used = used; event = e }
   pub unread : (type : ℕ) (body : List ℕ) (e : GtidEvent) (used : ℕ) → RecordLaid type body e used
       → unreadOf body (gtid type body) ≡ drop used body
-  -- the length is that of the bytes written, capped at 2^32-1-19
-  pub length-of : (e : GtidEvent) (bs : List ℕ) → eventOutput e ≡ bytes bs
-      → lengthOf e ≡ record { refusal = 0; len = min (length bs) (2 ^ 32 - 1 - 19) }
+  -- the length is that of the bytes written
+  pub length-of : (e : GtidEvent) (bs : List ℕ) → eventOutput e ≡ bytes bs → lengthOf e ≡ record { refusal = 0; len = length bs }
   -- the id that an offer sees
   pub named : (type : ℕ) (body : List ℕ) (e : GtidEvent) → Names type body e → eventOf type body ≡ names (keyOf e) (e .gno)
   pub unnamed : (body : List ℕ) (e : GtidEvent) (used : ℕ) → RecordLaid 34 body e used → eventOf 34 body ≡ anonymous

@@ -8,6 +8,7 @@ use Rattle.misc.specs.Body.{bodyLimit}
 use Rattle.packets.specs.Gno.{gnoTop, interval, isGno, isInterval}
 use Rattle.packets.specs.Key.{Key, _≺_}
 use Rattle.previous_gtids_event.specs.Entry.{Entry}
+use Rattle.gtid_event_write.specs.Totals.{Totals}
 use Rattle.gtid_sets.specs.Limits.{fine, intervals, limits, longestSet}
 use Rattle.promises.specs.Exact.{Exactly}
 
@@ -23,3 +24,5 @@ pub record Rules : Type 0 where
   pub set-limits : (s : List Entry) → Exactly (limits s ≡ fine) ((length s ≤ 256) × (intervals s ≤ 2048))
   pub longest-set : longestSet ≡ 47368
   pub longest-body : bodyLimit ≡ 65536
+  -- a tagged record that can be written has 37 to 156 bytes, and never 128 (CR 8)
+  pub tagged-totals : Totals

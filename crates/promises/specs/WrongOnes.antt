@@ -8,14 +8,18 @@ use Rattle.misc.specs.Pick.{pick}
 use Rattle.misc.specs.Refusal.{ended, notWritable}
 use Rattle.misc.specs.Parse.{Parse, refuse, parsed}
 use Rattle.misc.specs.Output.{refused, bytes, outputOf}
+use Rattle.misc.specs.Varlen.{itemOf, varlenBytes}
 use Rattle.packets.specs.Gno.{gnoTop, interval}
 use Rattle.previous_gtids_event.specs.Entry.{entry}
 use Rattle.previous_gtids_event.specs.Previous.{previous}
 use Rattle.previous_gtids_event.specs.Rewrite.{bodyBytes}
 use Rattle.gtid_event.specs.declared.EventStep.{EventStep}
 use Rattle.gtid_event.specs.declared.GtidEvent.{GtidEvent}
-use Rattle.gtid_event.specs.Event.{undefinedVersion, fresh, newUntagged, setNumber, withTag}
+use Rattle.gtid_event.specs.Event.{undefinedVersion, fresh, newUntagged, tagged, setNumber, withTag}
 use Rattle.gtid_event_read.specs.Read.{gtid}
+use Rattle.gtid_event_write.specs.Writable.{writable}
+use Rattle.gtid_event_write.specs.Layout.{fieldBytes}
+use Rattle.gtid_event_write.specs.Write.{eventOutput}
 use Rattle.gtid_sets.specs.Run.{Event, anonymous, broken, names}
 use Rattle.resume_set.specs.Answers.{eventOf}
 use Rattle.resume_set.specs.declared.Offered.the-variants.{NoId, Taken}
@@ -73,6 +77,11 @@ tagsByOne body = pick (same body topByteTwo) (refuse ended) (previous body)
 -- writes no record
 abbrev pub writesNothing : EventWriter
 writesNothing e = refused notWritable
+
+-- gives the size of a tagged record two bytes, also where one is enough
+abbrev pub sizesByTwo : EventWriter
+sizesByTwo e =
+    pick (tagged e && writable e) (bytes ((2 ∷ []) ++ itemOf 2 (4 + length (fieldBytes e)) ++ varlenBytes 0 ++ fieldBytes e)) (eventOutput e)
 
 -- makes a record that claims server version 0
 abbrev pub claimsZero : List ℕ → ℕ → GtidEvent

@@ -3,6 +3,7 @@ use mathlib.Core.Path.{ap, _∙_}
 use native.Mathlib.Omega.{arith}
 use Rattle.gtid_event.proofs.FitsLaws.{fits}
 use Rattle.gtid_event_write.specs.Size.{payloadSize}
+use Rattle.gtid_event_write.proofs.WritableLaws.{tagged-fits}
 use Rattle.gtid_event_write.proofs.TotalsLaws.{fields-within}
 use borrow.Author.Needs.{needs}
 use Rattle.gtid_event_write.proofs.tagged.len_tagged_v2.Statement.{statement}
@@ -14,7 +15,7 @@ tagged-fields-len-requires c κs = search needs
 record-size-requires : tie.Need-record-size-requires
 record-size-requires c κs =
     let s = c .before in
-    omega (arith, c .tagged-fields-len .ensures, fields-within (s .args .event) (fits (s .args .event) _ (s .good .0)) (s .pre) .most)
+    omega (arith, c .tagged-fields-len .ensures, fields-within (s .args .event) (fits (s .args .event) _ (s .good .0)) (tagged-fits _ (s .pre)) .most)
 
 returns : tie.Need-returns
 returns c = c .record-size .ensures ∙ ap payloadSize (c .before .tagged-fields-len .ensures)

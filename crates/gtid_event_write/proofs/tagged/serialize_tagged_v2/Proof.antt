@@ -6,6 +6,7 @@ use Rattle.misc.proofs.OutputLaws.{_also_, put-placed}
 use Rattle.gtid_event.proofs.FitsLaws.{fits}
 use Rattle.gtid_event_write.specs.Layout.{taggedBytes}
 use Rattle.gtid_event_write.proofs.PutLaws.{with-bytes}
+use Rattle.gtid_event_write.proofs.WritableLaws.{tagged-fits}
 use Rattle.gtid_event_write.proofs.TotalsLaws.{total-most}
 use borrow.Author.Needs.{needs}
 use Rattle.gtid_event_write.proofs.tagged.serialize_tagged_v2.Statement.{statement}
@@ -17,7 +18,7 @@ put-byte-requires c κs = search needs
 cast-put-item : tie.Need-cast-put-item
 cast-put-item c =
     let s = c .before .before .before .before .before in
-    omega (arith, s .pre .1, total-most (s .args .event) (fits (s .args .event) _ (s .good .0)) (s .pre .0))
+    omega (arith, s .pre .1, total-most (s .args .event) (fits (s .args .event) _ (s .good .0)) (tagged-fits _ (s .pre .0)))
 
 put-item-requires : tie.Need-put-item-requires
 put-item-requires c κs = search needs
