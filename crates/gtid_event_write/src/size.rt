@@ -1,10 +1,12 @@
 // Sizes: the payload size that counts itself, and the lengths of a tagged event's fields.
 ghost use mathlib.Core.Path.{_≡_};
-ghost use Prim.Native.Nat.{ℕ, _≤_, _<_};
+ghost use Prim.Native.Nat.{_+_, _≤_};
 ghost use lib.ListN.{length};
+ghost use lib.Dec.{eqb};
+ghost use Rattle.misc.specs.Pick.{pick};
 ghost use Rattle.misc.specs.Varlen.{varlenBytes};
 ghost use Rattle.gtid_event_write.specs.Size.{payloadSize};
-ghost use Rattle.gtid_event_write.specs.Layout.{numberBytes, unlessBytes, itemsBytes};
+ghost use Rattle.gtid_event_write.specs.Layout.{itemsBytes};
 use misc::varlen::varlen_uint_size;
 
 // The least size that counts the version byte, the last non-ignorable id, the fields and itself: the sizes with 1, 2, .. bytes for
@@ -38,21 +40,22 @@ pub(crate) fn record_size(fields: usize) -> usize
 pub(crate) fn item_len(b: u8) -> usize
     ensures { λ r. ⌜ (r ≡ length (varlenBytes b)) × (r ≤ 2) ⌝ }
 {
-    if b < 128 {
-        return 1;
+    if 128 <= b {
+        return 2;
     }
-    2
+    1
 }
 
-// A field: its id, whichever it is, in one byte, and its value.
+// A field: its id, in one byte, and its value.
 pub(crate) fn number_len(value: u64) -> usize
-    ensures { λ r. ⌜ ((id : ℕ) → id < 128 → r ≡ length (numberBytes id value)) × (r ≤ 10) ⌝ }
+    ensures { λ r. ⌜ (r ≡ 1 + length (varlenBytes value)) × (r ≤ 10) ⌝ }
 {
     1 + varlen_uint_size(value)
 }
 
+// The same, left out where its value is the one that the reader assumes.
 pub(crate) fn unless_len(value: u64, assumed: u64) -> usize
-    ensures { λ r. ⌜ ((id : ℕ) → id < 128 → r ≡ length (unlessBytes id value assumed)) × (r ≤ 10) ⌝ }
+    ensures { λ r. ⌜ (r ≡ pick (eqb value assumed) 0 (1 + length (varlenBytes value))) × (r ≤ 10) ⌝ }
 {
     if value == assumed {
         return 0;

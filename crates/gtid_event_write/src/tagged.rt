@@ -158,19 +158,12 @@ fn write_tagged_fields_v2(event: GtidEvent, out: &mut [u8], at: usize) -> usize
     put_rest(event, out, after_clock)
 }
 
-fn tagged_fields_len(event: GtidEvent) -> usize
-    requires { ⌜ writableTagged event ≡ true ⌝ }
-    ensures { λ r. ⌜ r ≡ length (fieldBytes event) ⌝ }
-{
-    identity_len(event) + clock_len(event) + rest_len(event)
-}
-
 // The payload size counts the whole event, so it is also its length.
 pub(crate) fn len_tagged_v2(event: GtidEvent) -> usize
     requires { ⌜ writableTagged event ≡ true ⌝ }
     ensures { λ r. ⌜ r ≡ payloadSize (length (fieldBytes event)) ⌝ }
 {
-    record_size(tagged_fields_len(event))
+    record_size(identity_len(event) + clock_len(event) + rest_len(event))
 }
 
 pub(crate) fn serialize_tagged_v2(event: GtidEvent, size: usize, out: &mut [u8], at: usize) -> usize

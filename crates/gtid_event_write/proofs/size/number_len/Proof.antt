@@ -1,8 +1,6 @@
 -- `gtid_event_write::size::number_len` meets its contract.
-use mathlib.Core.Path.{sym, _∙_}
 use native.Mathlib.Omega.{arith}
 use borrow.Author.Needs.{needs}
-use Rattle.gtid_event_write.proofs.LayoutLaws.{length-number}
 use Rattle.gtid_event_write.proofs.size.number_len.Statement.{statement}
 use Rattle.gtid_event_write.proofs.size.number_len.Tie as tie
 
@@ -13,7 +11,7 @@ add-result : tie.Need-add-result
 add-result c = search needs
 
 returns : tie.Need-returns
-returns c = (λ id small. omega (arith, length-number id (c .before .args .value) small), omega arith)
+returns c = (omega arith, omega arith)
 
 pub number-len-spec : {M : Type 1} → statement M
 number-len-spec = tie.close (tie.spec varlen-uint-size-requires add-result returns)

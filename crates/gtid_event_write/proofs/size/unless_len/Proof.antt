@@ -6,13 +6,13 @@ use Rattle.gtid_event_write.proofs.size.unless_len.Statement.{statement
 use Rattle.gtid_event_write.proofs.size.unless_len.Tie as tie
 
 returns : tie.Need-returns
-returns c = (λ id small. simp (eq-eqb _ _ (c .if1 .taken)), omega arith)
+returns c = (simp (eq-eqb _ _ (c .if1 .taken)), omega arith)
 
 number-len-requires : tie.Need-number-len-requires
 number-len-requires c κs = search needs
 
 returns-2 : tie.Need-returns-2
-returns-2 c = (λ id small. simp (ne-eqb _ _ (c .before .if1 .left)) (c .number-len .ensures .0 id small), c .number-len .ensures .1)
+returns-2 c = (simp (ne-eqb _ _ (c .before .if1 .left)) (c .number-len .ensures .0), c .number-len .ensures .1)
 
 pub unless-len-spec : {M : Type 1} → statement M
 unless-len-spec = tie.close (tie.spec returns number-len-requires returns-2)

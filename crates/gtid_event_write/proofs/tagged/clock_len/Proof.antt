@@ -34,17 +34,7 @@ add-result-3 : tie.Need-add-result-3
 add-result-3 c = search needs
 
 returns : tie.Need-returns
-returns c = (
-  omega (
-    arith,
-    length-clock (c .before .before .before .before .before .before .args .event),
-    c .before .before .before .before .number-len .ensures .0 4 (omega arith),
-    c .before .before .number-len2 .ensures .0 5 (omega arith),
-    c .before .number-len3 .ensures .0 6 (omega arith),
-    c .unless-len .ensures .0 7 (omega arith),
-  ),
-  omega arith,
-)
+returns c = (omega (arith, length-clock (c .before .before .before .before .before .before .args .event)), omega arith)
 
 pub clock-len-spec : {M : Type 1} → statement M
 clock-len-spec =

@@ -49,7 +49,7 @@ returns c =
     let e = c .before .before .before .before .before .before .args .event in
     let sized : length (e .tag) ≡ 32 = search needs in
     let most = tagged-fits e (c .before .before .before .before .before .before .pre) .tag in
-    (omega (arith, length-identity e sized most, c .before .number-len .ensures .0 2 (omega arith)), omega arith)
+    (omega (arith, length-identity e sized most), omega arith)
 
 pub identity-len-spec : {M : Type 1} → statement M
 identity-len-spec = tie.close (tie.spec add-small add-small-2 add-small-3 item-len-requires add-result serialized-uuid-len-requires add-result-2 mul-number-len number-len-requires add-result-3 cast-result add-result-4 returns)

@@ -33,17 +33,7 @@ add-result-3 : tie.Need-add-result-3
 add-result-3 c = search needs
 
 returns : tie.Need-returns
-returns c = (
-  omega (
-    arith,
-    length-rest (c .before .before .before .before .before .before .args .event),
-    c .before .before .before .number-len .ensures .0 8 (omega arith),
-    c .before .before .number-len2 .ensures .0 9 (omega arith),
-    c .before .unless-len .ensures .0 10 (omega arith),
-    c .unless-len2 .ensures .0 11 (omega arith),
-  ),
-  omega arith,
-)
+returns c = (omega (arith, length-rest (c .before .before .before .before .before .before .args .event)), omega arith)
 
 pub rest-len-spec : {M : Type 1} → statement M
 rest-len-spec =
