@@ -2,6 +2,7 @@ pub mod SizeLaws
 pub mod WritableLaws
 pub mod LayoutLaws
 pub mod PutLaws
+pub mod TaggedLaws
 pub mod WriteLaws
 pub mod Within
 pub mod TotalsLaws

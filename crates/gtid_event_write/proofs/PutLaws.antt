@@ -10,10 +10,10 @@ use lib.Seq.{take-suc, take-all}
 use lib.Bits.{bitOr, or-shifted-r}
 use borrow.Author.Tests.{ne-eqb}
 use Rattle.misc.specs.Le.{leBytes}
-use Rattle.misc.specs.Output.{Placed, WhereFits}
+use Rattle.misc.specs.Output.{bytes, answerOf, outputOf, Placed, WhereFits}
 use Rattle.misc.specs.Varlen.{varlenBytes}
 use Rattle.misc.proofs.VarlenLaws.{bytes-short}
-use Rattle.misc.proofs.OutputLaws.{nothing-placed, _also_}
+use Rattle.misc.proofs.OutputLaws.{nothing-placed, output-fits, _also_}
 use Rattle.gtid_event_write.proofs.SizeLaws.{size-one, size-two}
 use Rattle.gtid_event_write.specs.Layout.{itemsBytes, pairBytes}
 
@@ -23,6 +23,11 @@ fits p = record { placed = λ room. p }
 
 pub with-bytes : {l a b l′ : List ℕ} {at next : ℕ} → a ≡ b → WhereFits l at a l′ next → WhereFits l at b l′ next
 with-bytes {l} {a} {b} {l′} {at} {next} e p = rw e at p
+
+-- what is placed at the front of an output, where it fits, is the answer
+pub wrote : {l bs l′ : List ℕ} {n : ℕ} → length bs ≤ length l → WhereFits l 0 bs l′ n
+    → (record { refusal = 0; len = n } ≡ answerOf l (bytes bs)) × (l′ ≡ outputOf l (bytes bs))
+wrote room p = output-fits room (p .placed (omega arith))
 
 -- ---- an integer in one byte, and in two
 

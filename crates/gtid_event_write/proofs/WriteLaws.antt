@@ -2,11 +2,12 @@
 use mathlib.Core.Path.{_≡_}
 use mathlib.Core.Bool.{true, false}
 use mathlib.Core.List.{List}
-use Prim.Native.Nat.{ℕ, _≤_, _<_}
+use Prim.Native.Nat.{ℕ}
 use lib.ListN.{length}
-use Rattle.misc.specs.Refusal.{number, notWritable, noRoom}
-use Rattle.misc.specs.Output.{Placed, outputOf, answerOf}
-use Rattle.misc.proofs.OutputLaws.{output-fits, output-short, output-refused}
+use Rattle.misc.specs.Refusal.{number, notWritable}
+use Rattle.misc.specs.Output.{bytes, outputOf, answerOf}
+use Rattle.misc.specs.declared.Wrote.{Wrote}
+use Rattle.misc.proofs.OutputLaws.{output-refused}
 use Rattle.gtid_event.specs.Event.{tagged}
 use Rattle.gtid_event.specs.declared.GtidEvent.{GtidEvent}
 use Rattle.gtid_event_write.specs.Writable.{writable}
@@ -23,15 +24,11 @@ module _ (e : GtidEvent) where
   bytes-untagged h = rw h
 
   module _ (able : writable e ≡ true) where
-    pub write-short : (l : List ℕ) (n : ℕ) → n ≡ length (eventBytes e) → length l < n
-        → (record { refusal = number noRoom; len = n } ≡ answerOf l (eventOutput e)) × (l ≡ outputOf l (eventOutput e))
+    -- what the layout's own writer gives
+    pub write-able : (l : List ℕ) {l′ bs : List ℕ} {r : Wrote} → bs ≡ eventBytes e → (r ≡ answerOf l (bytes bs)) × (l′ ≡ outputOf l (bytes bs))
+        → (r ≡ answerOf l (eventOutput e)) × (l′ ≡ outputOf l (eventOutput e))
     unfolding eventOutput
-    write-short l n size less = rw able (output-short l (eventBytes e) n size less)
-
-    pub write-fits : {l l′ : List ℕ} {n : ℕ} → length (eventBytes e) ≤ length l → Placed l 0 (eventBytes e) l′ n
-        → (record { refusal = 0; len = n } ≡ answerOf l (eventOutput e)) × (l′ ≡ outputOf l (eventOutput e))
-    unfolding eventOutput
-    write-fits room p = rw able (output-fits room p)
+    write-able l is wrote = rw (able, ← is) wrote
 
     pub length-able : (n : ℕ) → n ≡ length (eventBytes e) → record { refusal = 0; len = n } ≡ lengthOf e
     unfolding lengthOf

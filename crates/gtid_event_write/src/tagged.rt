@@ -1,12 +1,11 @@
 // The tagged layout: a version byte, the payload size, the last non-ignorable id, and fields that begin with their id.
 ghost use mathlib.Core.Path.{_≡_};
-ghost use mathlib.Core.List.{_++_};
+ghost use mathlib.Core.List.{[], _∷_, _++_};
 ghost use mathlib.Core.Bool.{true};
 ghost use Prim.Native.Nat.{_≤_};
 ghost use lib.ListN.{length, take};
-ghost use Rattle.misc.specs.Output.{WhereFits};
+ghost use Rattle.misc.specs.Output.{bytes, outputOf, answerOf, Placed, WhereFits};
 ghost use Rattle.misc.specs.Varlen.{varlenBytes};
-ghost use Rattle.gtid_event_write.specs.Size.{payloadSize};
 ghost use Rattle.gtid_event_write.specs.Layout.{identityBytes, clockBytes, restBytes, fieldBytes, taggedBytes};
 ghost use Rattle.gtid_event_write.specs.Writable.{writableTagged};
 use crate::field_id;
@@ -15,14 +14,12 @@ use crate::put::put_number;
 use crate::put::put_serialized_uuid;
 use crate::put::put_small;
 use crate::put::put_unless;
-use crate::size::item_len;
-use crate::size::number_len;
 use crate::size::record_size;
-use crate::size::serialized_uuid_len;
-use crate::size::unless_len;
 use gtid_event::GtidEvent;
+use misc::Wrote;
 use misc::put::put_byte;
 use misc::put::put_bytes;
+use misc::refusal::NO_ROOM;
 
 const TAGGED_SERIALIZATION_VERSION_V2: u8 = 2;
 
@@ -30,6 +27,9 @@ const TAGGED_SERIALIZATION_VERSION_V2: u8 = 2;
 const LAST_NON_IGNORABLE_FIELD_ID: u8 = 0;
 
 const COMMIT_GROUP_TICKET_UNSET: u64 = 0;
+
+// A record that can be written has no more.
+const MOST_FIELD_BYTES: usize = 152;
 
 fn put_tag(tag: [u8; 32], tag_len: u8, out: &mut [u8], at: usize) -> usize
     requires { ⌜ «tag_len» ≤ 32 ⌝ }
@@ -54,20 +54,6 @@ fn put_identity(event: GtidEvent, out: &mut [u8], at: usize) -> usize
     let after_sid = put_serialized_uuid(sid, out, after_sid_id);
     let after_gno = put_number(field_id::GNO, event.gno * 2, out, after_sid);
     put_tag(tag, event.tag_len, out, after_gno)
-}
-
-fn identity_len(event: GtidEvent) -> usize
-    requires { ⌜ writableTagged event ≡ true ⌝ }
-    ensures { λ r. ⌜ (r ≡ length (identityBytes event)) × (r ≤ 80) ⌝ }
-{
-    let sid = event.sid;
-    // one byte each: the ids of flags, sid and tag, and the tag's length
-    let small = 1 + 1 + 1 + 1;
-    small
-        + item_len(event.flags)
-        + serialized_uuid_len(sid)
-        + number_len(event.gno * 2)
-        + event.tag_len as usize
 }
 
 // Fields 4 to 7.
@@ -96,17 +82,6 @@ fn put_clock(event: GtidEvent, out: &mut [u8], at: usize) -> usize
         out,
         after_immediate,
     )
-}
-
-fn clock_len(event: GtidEvent) -> usize
-    requires { ⌜ writableTagged event ≡ true ⌝ }
-    ensures { λ r. ⌜ (r ≡ length (clockBytes event)) × (r ≤ 40) ⌝ }
-{
-    let immediate = event.immediate_commit_timestamp;
-    number_len(event.last_committed * 2)
-        + number_len(event.sequence_number * 2)
-        + number_len(immediate)
-        + unless_len(event.original_commit_timestamp, immediate)
 }
 
 // Fields 8 to 11.
@@ -138,40 +113,51 @@ fn put_rest(event: GtidEvent, out: &mut [u8], at: usize) -> usize
     )
 }
 
-fn rest_len(event: GtidEvent) -> usize
-    ensures { λ r. ⌜ (r ≡ length (restBytes event)) × (r ≤ 40) ⌝ }
+// All fields, into room for as many bytes as they can have.
+fn write_tagged_fields_v2(event: GtidEvent, fields: &mut [u8]) -> usize
+    requires { ⌜ (writableTagged event ≡ true) × (152 ≤ length (now fields)) ⌝ }
+    ensures { λ r. ⌜ Placed (now (fields .entry)) 0 (fieldBytes event) (now (fields .exit)) r × (r ≤ 152) ⌝ }
 {
-    let immediate = event.immediate_server_version as u64;
-    let original = event.original_server_version as u64;
-    number_len(event.tx_length)
-        + number_len(immediate)
-        + unless_len(original, immediate)
-        + unless_len(event.commit_group_ticket, COMMIT_GROUP_TICKET_UNSET)
-}
-
-fn write_tagged_fields_v2(event: GtidEvent, out: &mut [u8], at: usize) -> usize
-    requires { ⌜ writableTagged event ≡ true ⌝ }
-    ensures { λ r. ⌜ WhereFits (now (out .entry)) at (fieldBytes event) (now (out .exit)) r ⌝ }
-{
-    let after_identity = put_identity(event, out, at);
-    let after_clock = put_clock(event, out, after_identity);
-    put_rest(event, out, after_clock)
+    let after_identity = put_identity(event, fields, 0);
+    let after_clock = put_clock(event, fields, after_identity);
+    put_rest(event, fields, after_clock)
 }
 
 // The payload size counts the whole event, so it is also its length.
 pub(crate) fn len_tagged_v2(event: GtidEvent) -> usize
     requires { ⌜ writableTagged event ≡ true ⌝ }
-    ensures { λ r. ⌜ r ≡ payloadSize (length (fieldBytes event)) ⌝ }
+    ensures { λ r. ⌜ r ≡ length (taggedBytes event) ⌝ }
 {
-    record_size(identity_len(event) + clock_len(event) + rest_len(event))
+    let mut fields = [0u8; MOST_FIELD_BYTES];
+    let len = write_tagged_fields_v2(event, &mut fields);
+    record_size(len)
 }
 
-pub(crate) fn serialize_tagged_v2(event: GtidEvent, size: usize, out: &mut [u8], at: usize) -> usize
-    requires { ⌜ (writableTagged event ≡ true) × (size ≡ payloadSize (length (fieldBytes event))) ⌝ }
-    ensures { λ r. ⌜ WhereFits (now (out .entry)) at (taggedBytes event) (now (out .exit)) r ⌝ }
+fn put_envelope(payload_size: u8, out: &mut [u8]) -> usize
+    ensures { λ r. ⌜ WhereFits (now (out .entry)) 0 ((2 ∷ []) ++ varlenBytes «payload_size» ++ varlenBytes 0) (now (out .exit)) r ⌝ }
 {
-    let after_version = put_byte(TAGGED_SERIALIZATION_VERSION_V2, out, at);
-    let after_size = put_item(size as u8, out, after_version);
-    let after_last = put_small(LAST_NON_IGNORABLE_FIELD_ID, out, after_size);
-    write_tagged_fields_v2(event, out, after_last)
+    let after_version = put_byte(TAGGED_SERIALIZATION_VERSION_V2, out, 0);
+    let after_size = put_item(payload_size, out, after_version);
+    put_small(LAST_NON_IGNORABLE_FIELD_ID, out, after_size)
+}
+
+pub(crate) fn serialize_tagged_v2(event: GtidEvent, out: &mut [u8]) -> Wrote
+    requires { ⌜ writableTagged event ≡ true ⌝ }
+    ensures { λ r. ⌜ r ≡ answerOf (now (out .entry)) (bytes (taggedBytes event)) ⌝ }
+    ensures { λ _. ⌜ now (out .exit) ≡ outputOf (now (out .entry)) (bytes (taggedBytes event)) ⌝ }
+{
+    let mut fields = [0u8; MOST_FIELD_BYTES];
+    let len = write_tagged_fields_v2(event, &mut fields);
+    let payload_size = record_size(len);
+    if out.len() < payload_size {
+        return Wrote {
+            refusal: NO_ROOM,
+            len: payload_size,
+        };
+    }
+    let after_envelope = put_envelope(payload_size as u8, out);
+    Wrote {
+        refusal: 0,
+        len: put_bytes(&fields[..len], out, after_envelope),
+    }
 }

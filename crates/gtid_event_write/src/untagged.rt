@@ -3,11 +3,12 @@ ghost use mathlib.Core.Path.{_≡_};
 ghost use mathlib.Core.Bool.{true};
 ghost use Prim.Native.Nat.{ℕ, _^_, _≤_, _<_};
 ghost use lib.ListN.{length};
-ghost use Rattle.misc.specs.Output.{WhereFits};
+ghost use Rattle.misc.specs.Output.{bytes, outputOf, answerOf, WhereFits};
 ghost use Rattle.gtid_event_write.specs.Writable.{writableUntagged};
 ghost use Rattle.gtid_event_write.specs.Layout.{pairBytes, openingBytes, laterBytes, untaggedBytes};
 use gtid_event::GtidEvent;
 use gtid_event::LOGICAL_TIMESTAMP_TYPECODE;
+use misc::Wrote;
 use misc::lenenc::lenenc_int_len;
 use misc::put::put_byte;
 use misc::put::put_bytes;
@@ -15,6 +16,7 @@ use misc::put::put_lenenc_int;
 use misc::put::put_u32_le;
 use misc::put::put_u56_le;
 use misc::put::put_u64_le;
+use misc::refusal::NO_ROOM;
 
 const ENCODED_SID_LENGTH: usize = 16;
 
@@ -88,19 +90,8 @@ fn put_later(event: GtidEvent, out: &mut [u8], at: usize) -> usize
     )
 }
 
-pub(crate) fn serialize_untagged(event: GtidEvent, out: &mut [u8], at: usize) -> usize
-    requires { ⌜ writableUntagged event ≡ true ⌝ }
-    ensures { λ r. ⌜ WhereFits (now (out .entry)) at (untaggedBytes event) (now (out .exit)) r ⌝ }
-{
-    let after_gno = put_opening(event, out, at);
-    if event.lc_typecode == 0 {
-        return after_gno;
-    }
-    put_later(event, out, after_gno)
-}
-
 pub(crate) fn len_untagged(event: GtidEvent) -> usize
-    ensures { λ r. ⌜ (r ≡ length (untaggedBytes event)) × (r ≤ 79) ⌝ }
+    ensures { λ r. ⌜ r ≡ length (untaggedBytes event) ⌝ }
 {
     // flags, sid, gno
     let opening = 1 + ENCODED_SID_LENGTH + 8;
@@ -120,4 +111,29 @@ pub(crate) fn len_untagged(event: GtidEvent) -> usize
         )
         + lenenc_int_len(event.tx_length)
         + pair_len(IMMEDIATE_SERVER_VERSION_LENGTH, immediate, original)
+}
+
+pub(crate) fn serialize_untagged(event: GtidEvent, out: &mut [u8]) -> Wrote
+    requires { ⌜ writableUntagged event ≡ true ⌝ }
+    ensures { λ r. ⌜ r ≡ answerOf (now (out .entry)) (bytes (untaggedBytes event)) ⌝ }
+    ensures { λ _. ⌜ now (out .exit) ≡ outputOf (now (out .entry)) (bytes (untaggedBytes event)) ⌝ }
+{
+    let needed = len_untagged(event);
+    if out.len() < needed {
+        return Wrote {
+            refusal: NO_ROOM,
+            len: needed,
+        };
+    }
+    let after_gno = put_opening(event, out, 0);
+    if event.lc_typecode == 0 {
+        return Wrote {
+            refusal: 0,
+            len: after_gno,
+        };
+    }
+    Wrote {
+        refusal: 0,
+        len: put_later(event, out, after_gno),
+    }
 }

@@ -1,10 +1,7 @@
 // The public calls: writing a record, and its length.
 ghost use mathlib.Core.Path.{_≡_};
-ghost use mathlib.Core.Bool.{true};
-ghost use lib.ListN.{length};
-ghost use Rattle.misc.specs.Output.{WhereFits, outputOf, answerOf};
-ghost use Rattle.gtid_event_write.specs.Writable.{writable};
-ghost use Rattle.gtid_event_write.specs.Write.{eventBytes, eventOutput, lengthOf};
+ghost use Rattle.misc.specs.Output.{outputOf, answerOf};
+ghost use Rattle.gtid_event_write.specs.Write.{eventOutput, lengthOf};
 use crate::EventLength;
 use crate::tagged::len_tagged_v2;
 use crate::tagged::serialize_tagged_v2;
@@ -13,28 +10,7 @@ use crate::untagged::serialize_untagged;
 use crate::writable::is_writable;
 use gtid_event::GtidEvent;
 use misc::Wrote;
-use misc::refusal::NO_ROOM;
 use misc::refusal::NOT_WRITABLE;
-
-fn serialize(event: GtidEvent, len: usize, out: &mut [u8], at: usize) -> usize
-    requires { ⌜ (writable event ≡ true) × (len ≡ length (eventBytes event)) ⌝ }
-    ensures { λ r. ⌜ WhereFits (now (out .entry)) at (eventBytes event) (now (out .exit)) r ⌝ }
-{
-    if 0 < event.tag_len {
-        return serialize_tagged_v2(event, len, out, at);
-    }
-    serialize_untagged(event, out, at)
-}
-
-fn event_len(event: GtidEvent) -> usize
-    requires { ⌜ writable event ≡ true ⌝ }
-    ensures { λ r. ⌜ r ≡ length (eventBytes event) ⌝ }
-{
-    if 0 < event.tag_len {
-        return len_tagged_v2(event);
-    }
-    len_untagged(event)
-}
 
 // Writes the record, tagged if it has a tag.
 pub fn write(event: GtidEvent, out: &mut [u8]) -> Wrote
@@ -42,17 +18,10 @@ pub fn write(event: GtidEvent, out: &mut [u8]) -> Wrote
     ensures { λ _. ⌜ now (out .exit) ≡ outputOf (now (out .entry)) (eventOutput event) ⌝ }
 {
     if is_writable(event) {
-        let needed = event_len(event);
-        if out.len() < needed {
-            return Wrote {
-                refusal: NO_ROOM,
-                len: needed,
-            };
+        if 0 < event.tag_len {
+            return serialize_tagged_v2(event, out);
         }
-        return Wrote {
-            refusal: 0,
-            len: serialize(event, needed, out, 0),
-        };
+        return serialize_untagged(event, out);
     }
     Wrote {
         refusal: NOT_WRITABLE,
@@ -64,9 +33,15 @@ pub fn length(event: GtidEvent) -> EventLength
     ensures { λ r. ⌜ r ≡ lengthOf event ⌝ }
 {
     if is_writable(event) {
+        if 0 < event.tag_len {
+            return EventLength {
+                refusal: 0,
+                len: len_tagged_v2(event),
+            };
+        }
         return EventLength {
             refusal: 0,
-            len: event_len(event),
+            len: len_untagged(event),
         };
     }
     EventLength {

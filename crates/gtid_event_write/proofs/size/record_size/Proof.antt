@@ -9,13 +9,13 @@ add-result : tie.Need-add-result
 add-result c = search needs
 
 returns : tie.Need-returns
-returns c = payload-one _ (c .if1 .taken)
+returns c = (payload-one _ (c .if1 .taken), omega arith)
 
 add-result-2 : tie.Need-add-result-2
 add-result-2 c = search needs
 
 returns-2 : tie.Need-returns-2
-returns-2 c = payload-two _ (omega arith) (omega arith)
+returns-2 c = (payload-two _ (omega arith) (omega arith), omega arith)
 
 pub record-size-spec : {M : Type 1} → statement M
 record-size-spec = tie.close (tie.spec add-result returns add-result-2 returns-2)

@@ -1,42 +1,51 @@
 -- `gtid_event_write::tagged::serialize_tagged_v2` meets its contract.
-use mathlib.Core.Path.{ap}
+use mathlib.Core.Path.{sym}
 use native.Mathlib.Omega.{arith}
-use Rattle.misc.specs.Varlen.{varlenBytes}
-use Rattle.misc.proofs.OutputLaws.{_also_, put-placed}
-use Rattle.gtid_event.proofs.FitsLaws.{fits}
-use Rattle.gtid_event_write.specs.Layout.{taggedBytes}
-use Rattle.gtid_event_write.proofs.PutLaws.{with-bytes}
-use Rattle.gtid_event_write.proofs.WritableLaws.{tagged-fits}
-use Rattle.gtid_event_write.proofs.TotalsLaws.{total-most}
+use lib.Seq.{length-take-le}
+use Rattle.misc.proofs.OutputLaws.{output-short, put-placed}
+use Rattle.gtid_event_write.proofs.PutLaws.{wrote}
+use Rattle.gtid_event_write.proofs.TaggedLaws.{size-is, whole-placed}
 use borrow.Author.Needs.{needs}
 use Rattle.gtid_event_write.proofs.tagged.serialize_tagged_v2.Statement.{statement}
 use Rattle.gtid_event_write.proofs.tagged.serialize_tagged_v2.Tie as tie
 
-put-byte-requires : tie.Need-put-byte-requires
-put-byte-requires c κs = search needs
-
-cast-put-item : tie.Need-cast-put-item
-cast-put-item c =
-    let s = c .before .before .before .before .before in
-    omega (arith, s .pre .1, total-most (s .args .event) (fits (s .args .event) _ (s .good .0)) (tagged-fits _ (s .pre .0)))
-
-put-item-requires : tie.Need-put-item-requires
-put-item-requires c κs = search needs
-
-put-small-requires : tie.Need-put-small-requires
-put-small-requires c κs = search needs
+slice-aggregate-write-tagged-fields-v2 : tie.Need-slice-aggregate-write-tagged-fields-v2
+slice-aggregate-write-tagged-fields-v2 c = search needs
 
 write-tagged-fields-v2-requires : tie.Need-write-tagged-fields-v2-requires
 write-tagged-fields-v2-requires c κs = search needs
 
+record-size-requires : tie.Need-record-size-requires
+record-size-requires c κs = search needs
+
+returns : tie.Need-returns
+returns c = output-short _ _ _ (size-is (c .before .before .before .before .before .before .args .event) (c .before .before .before .write-tagged-fields-v2 .ensures .0) _ (c .before .record-size .ensures .0)) (c .if1 .taken)
+
+cast-put-envelope : tie.Need-cast-put-envelope
+cast-put-envelope c = search needs
+
+put-envelope-requires : tie.Need-put-envelope-requires
+put-envelope-requires c κs = search needs
+
+array-share-prefix-fields : tie.Need-array-share-prefix-fields
+array-share-prefix-fields c = search needs
+
+slice-aggregate-put-bytes : tie.Need-slice-aggregate-put-bytes
+slice-aggregate-put-bytes c = sym (length-take-le _ _ (search needs))
+
+put-bytes-requires : tie.Need-put-bytes-requires
+put-bytes-requires c κs = search needs
+
 same-length : tie.Need-same-length
 same-length c = search needs
 
-returns : tie.Need-returns
-unfolding taggedBytes
-returns c =
-    let size = with-bytes (ap varlenBytes (c .before .before .before .before .before .before .before .before .before .before .before .before .before .before .before .before .before .pre .1)) (c .before .before .before .before .before .before .before .before .before .before .put-item .ensures) in
-    put-placed (c .before .before .before .before .before .before .before .before .before .before .before .before .before .before .put-byte .ensures) also size also c .before .before .before .before .before .before .put-small .ensures also c .before .before .write-tagged-fields-v2 .ensures
+returns-2 : tie.Need-returns-2
+returns-2 c =
+    let e = c .before .before .before .before .before .before .before .before .before .before .before .before .before .before .before .args .event in
+    let fields = c .before .before .before .before .before .before .before .before .before .before .before .before .write-tagged-fields-v2 .ensures in
+    let size = c .before .before .before .before .before .before .before .before .before .before .record-size .ensures .0 in
+    wrote (omega (arith, size-is e (fields .0) _ size))
+    (whole-placed e (fields .0) (omega (arith, fields .1)) size (c .before .before .before .before .before .before .before .put-envelope .ensures) (put-placed (c .before .before .put-bytes .ensures)))
 
 pub serialize-tagged-v2-spec : {M : Type 1} → statement M
-serialize-tagged-v2-spec = tie.close (tie.spec put-byte-requires cast-put-item put-item-requires put-small-requires write-tagged-fields-v2-requires same-length returns)
+serialize-tagged-v2-spec = tie.close (tie.spec slice-aggregate-write-tagged-fields-v2 write-tagged-fields-v2-requires record-size-requires returns cast-put-envelope put-envelope-requires array-share-prefix-fields slice-aggregate-put-bytes put-bytes-requires same-length returns-2)

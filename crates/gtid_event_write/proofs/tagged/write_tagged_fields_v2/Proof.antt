@@ -1,7 +1,10 @@
 -- `gtid_event_write::tagged::write_tagged_fields_v2` meets its contract.
+use native.Mathlib.Omega.{arith}
+use Rattle.gtid_event.proofs.FitsLaws.{fits}
+use Rattle.gtid_event_write.proofs.WritableLaws.{tagged-fits}
+use Rattle.gtid_event_write.proofs.TaggedLaws.{fields-placed, count-is}
+use Rattle.gtid_event_write.proofs.TotalsLaws.{fields-within}
 use borrow.Author.Needs.{needs}
-use Rattle.misc.proofs.OutputLaws.{_also_}
-use Rattle.gtid_event_write.specs.Layout.{fieldBytes}
 use Rattle.gtid_event_write.proofs.tagged.write_tagged_fields_v2.Statement.{statement}
 use Rattle.gtid_event_write.proofs.tagged.write_tagged_fields_v2.Tie as tie
 
@@ -18,10 +21,11 @@ same-length : tie.Need-same-length
 same-length c = search needs
 
 returns : tie.Need-returns
-unfolding fieldBytes
-returns c = c .before .before .before .before .before .before .before .before .before .before .put-identity .ensures also c .before .before .before .before .before .before .put-clock .ensures also c .before .before .put-rest .ensures
+returns c =
+    let s = c .before .before .before .before .before .before .before .before .before .before .before .before .before in
+    let few = fields-within (s .args .event) (fits (s .args .event) _ (s .good .0)) (tagged-fits _ (s .pre .0)) .most in
+    let placed = fields-placed (s .args .event) (omega (arith, few, s .pre .1)) (c .before .before .before .before .before .before .before .before .before .before .put-identity .ensures) (c .before .before .before .before .before .before .put-clock .ensures) (c .before .before .put-rest .ensures) in
+    (placed, omega (arith, few, count-is (s .args .event) placed))
 
 pub write-tagged-fields-v2-spec : {M : Type 1} → statement M
-write-tagged-fields-v2-spec =
-    tie.close
-    (tie.spec put-identity-requires put-clock-requires put-rest-requires same-length returns)
+write-tagged-fields-v2-spec = tie.close (tie.spec put-identity-requires put-clock-requires put-rest-requires same-length returns)

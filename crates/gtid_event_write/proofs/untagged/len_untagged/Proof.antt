@@ -18,7 +18,7 @@ returns : tie.Need-returns
 returns c =
     let e = c .before .before .args .event in
     let sized : length (e .sid) ≡ 16 = search needs in
-    (omega (arith, length-short e sized (c .if1 .taken)), omega arith)
+    omega (arith, length-short e sized (c .if1 .taken))
 
 cast-immediate : tie.Need-cast-immediate
 cast-immediate c = search needs
@@ -57,7 +57,7 @@ returns-2 : tie.Need-returns-2
 returns-2 c =
     let e = c .before .before .before .before .before .before .before .args .event in
     let sized : length (e .sid) ≡ 16 = search needs in
-    (omega (arith, length-long e sized (c .before .before .before .before .before .if1 .left), c .before .before .pair-len .ensures .0 (2 ^ 55), c .pair-len2 .ensures .0 (2 ^ 31)), omega arith)
+    omega (arith, length-long e sized (c .before .before .before .before .before .if1 .left), c .before .before .pair-len .ensures .0 (2 ^ 55), c .pair-len2 .ensures .0 (2 ^ 31))
 
 pub len-untagged-spec : {M : Type 1} → statement M
 len-untagged-spec =

@@ -1,6 +1,9 @@
 -- `gtid_event_write::write::length` meets its contract.
-use mathlib.Core.Path.{sym, _∙_}
-use Rattle.gtid_event_write.proofs.WriteLaws.{length-able, length-refused}
+use mathlib.Core.Path.{sym, ap, _∙_}
+use lib.ListN.{length}
+use borrow.Author.Tests.{lt-ltb, le-ltb}
+use Rattle.gtid_event_write.proofs.WritableLaws.{as-tagged}
+use Rattle.gtid_event_write.proofs.WriteLaws.{bytes-tagged, bytes-untagged, length-able, length-refused}
 use borrow.Author.Needs.{needs}
 use Rattle.gtid_event_write.proofs.write.length.Statement.{statement}
 use Rattle.gtid_event_write.proofs.write.length.Tie as tie
@@ -8,14 +11,24 @@ use Rattle.gtid_event_write.proofs.write.length.Tie as tie
 is-writable-requires : tie.Need-is-writable-requires
 is-writable-requires c κs = search needs
 
-event-len-requires : tie.Need-event-len-requires
-event-len-requires c κs = sym (c .before .is-writable .ensures) ∙ c .if1 .taken
+len-tagged-v2-requires : tie.Need-len-tagged-v2-requires
+len-tagged-v2-requires c κs = as-tagged (c .before .before .before .before .args .event) (sym (c .before .before .before .is-writable .ensures) ∙ c .before .before .if1 .taken) (lt-ltb 0 _ (c .if2 .taken))
 
 returns : tie.Need-returns
-returns c = length-able _ (sym (c .before .before .is-writable .ensures) ∙ c .before .if1 .taken) _ (c .event-len .ensures)
+returns c =
+    let e = c .before .before .before .before .before .args .event in
+    length-able e (sym (c .before .before .before .before .is-writable .ensures) ∙ c .before .before .before .if1 .taken) _ (c .len-tagged-v2 .ensures ∙ ap length (bytes-tagged e (lt-ltb 0 _ (c .before .if2 .taken))))
+
+len-untagged-requires : tie.Need-len-untagged-requires
+len-untagged-requires c κs = search needs
 
 returns-2 : tie.Need-returns-2
-returns-2 c = length-refused _ (sym (c .before .is-writable .ensures) ∙ c .if1 .left)
+returns-2 c =
+    let e = c .before .before .before .before .before .args .event in
+    length-able e (sym (c .before .before .before .before .is-writable .ensures) ∙ c .before .before .before .if1 .taken) _ (c .len-untagged .ensures ∙ ap length (bytes-untagged e (le-ltb 0 _ (c .before .if2 .left))))
+
+returns-3 : tie.Need-returns-3
+returns-3 c = length-refused _ (sym (c .before .is-writable .ensures) ∙ c .if1 .left)
 
 pub length-spec : {M : Type 1} → statement M
-length-spec = tie.close (tie.spec is-writable-requires event-len-requires returns returns-2)
+length-spec = tie.close (tie.spec is-writable-requires len-tagged-v2-requires returns len-untagged-requires returns-2 returns-3)
