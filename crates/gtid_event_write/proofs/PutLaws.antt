@@ -29,6 +29,13 @@ pub wrote : {l bs l′ : List ℕ} {n : ℕ} → length bs ≤ length l → Wher
     → (record { refusal = 0; len = n } ≡ answerOf l (bytes bs)) × (l′ ≡ outputOf l (bytes bs))
 wrote room p = output-fits room (p .placed (omega arith))
 
+-- and so many bytes are written as there are
+pub wrote-all : {l bs l′ : List ℕ} {n : ℕ} (size : ℕ) → size ≡ length bs → size ≤ length l → WhereFits l 0 bs l′ n
+    → (record { refusal = 0; len = size } ≡ answerOf l (bytes bs)) × (l′ ≡ outputOf l (bytes bs))
+wrote-all {l} {bs} {l′} {n} size is room p =
+    let ends : n ≡ size = p .placed (omega arith) .ends ∙ omega arith in
+    rw ends at (wrote (omega arith) p)
+
 -- ---- an integer in one byte, and in two
 
 pub one-byte : (v : ℕ) → v < 128 → v * 2 ∷ [] ≡ varlenBytes v

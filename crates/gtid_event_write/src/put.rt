@@ -7,7 +7,7 @@ ghost use Rattle.gtid_event_write.specs.Layout.{numberBytes, unlessBytes
 use misc::put::put_byte;
 use misc::put::put_varlen_uint;
 
-// An integer below 128, as ids are and the length of a tag: one byte.
+// An integer below 128, as ids are: one byte.
 pub(crate) fn put_small(value: u8, out: &mut [u8], at: usize) -> usize
     requires { ⌜ value < 128 ⌝ }
     ensures { λ r. ⌜ WhereFits (now (out .entry)) at (varlenBytes value) (now (out .exit)) r ⌝ }

@@ -19,6 +19,7 @@ use gtid_event::GtidEvent;
 use misc::Wrote;
 use misc::put::put_byte;
 use misc::put::put_bytes;
+use misc::put::put_sized;
 use misc::refusal::NO_ROOM;
 
 const TAGGED_SERIALIZATION_VERSION_V2: u8 = 2;
@@ -37,8 +38,7 @@ fn put_tag(tag: [u8; 32], tag_len: u8, out: &mut [u8], at: usize) -> usize
 {
     let len = tag_len as usize;
     let after_id = put_small(field_id::TAG, out, at);
-    let after_len = put_small(tag_len, out, after_id);
-    put_bytes(&tag[..len], out, after_len)
+    put_sized(&tag[..len], out, after_id)
 }
 
 // Fields 0 to 3. A signed integer that isn't negative is sent as its double.
@@ -156,8 +156,9 @@ pub(crate) fn serialize_tagged_v2(event: GtidEvent, out: &mut [u8]) -> Wrote
         };
     }
     let after_envelope = put_envelope(payload_size as u8, out);
+    put_bytes(&fields[..len], out, after_envelope);
     Wrote {
         refusal: 0,
-        len: put_bytes(&fields[..len], out, after_envelope),
+        len: payload_size,
     }
 }

@@ -9,7 +9,7 @@ add-result : tie.Need-add-result
 add-result c = search needs
 
 returns : tie.Need-returns
-returns c = (payload-one _ (c .if1 .taken), omega arith)
+returns c = (payload-one _ (omega arith), omega arith)
 
 add-result-2 : tie.Need-add-result-2
 add-result-2 c = search needs

@@ -1,31 +1,48 @@
 -- `gtid_event_write::tagged::put_tag` meets its contract.
-use mathlib.Core.Path.{sym}
+use mathlib.Core.Path.{_≡_, sym}
+use mathlib.Core.List.{List, _++_, append-assoc}
+use Prim.Native.Nat.{ℕ}
+use lib.ListN.{length, take}
 use lib.Seq.{length-take-le}
-use Rattle.misc.proofs.OutputLaws.{_also_, put-placed}
 use borrow.Author.Needs.{needs}
+use Rattle.misc.specs.Varlen.{varlenBytes}
+use Rattle.misc.proofs.OutputLaws.{_also_, put-placed}
+use Rattle.gtid_event_write.proofs.PutLaws.{with-bytes}
 use Rattle.gtid_event_write.proofs.tagged.put_tag.Statement.{statement}
 use Rattle.gtid_event_write.proofs.tagged.put_tag.Tie as tie
+
+-- an id, and bytes behind their number
+sized : (n : ℕ) (t : List ℕ) → length t ≡ n → varlenBytes 3 ++ (varlenBytes (length t) ++ t) ≡ varlenBytes 3 ++ varlenBytes n ++ t
+sized n t e = rw (e, append-assoc (varlenBytes 3) (varlenBytes n) t)
 
 put-small-requires : tie.Need-put-small-requires
 put-small-requires c κs = search needs
 
-put-small-requires-2 : tie.Need-put-small-requires-2
-put-small-requires-2 c κs = search needs
-
 array-share-prefix-tag : tie.Need-array-share-prefix-tag
 array-share-prefix-tag c = search needs
 
-slice-aggregate-put-bytes : tie.Need-slice-aggregate-put-bytes
-slice-aggregate-put-bytes c = sym (length-take-le _ _ (search needs))
+slice-aggregate-put-sized : tie.Need-slice-aggregate-put-sized
+slice-aggregate-put-sized c = sym (length-take-le _ _ (search needs))
 
-put-bytes-requires : tie.Need-put-bytes-requires
-put-bytes-requires c κs = search needs
+put-sized-requires : tie.Need-put-sized-requires
+put-sized-requires c κs = search needs
 
 same-length : tie.Need-same-length
 same-length c = search needs
 
 returns : tie.Need-returns
-returns c = c .before .before .before .before .before .before .before .before .before .before .before .put-small .ensures also c .before .before .before .before .before .before .before .put-small2 .ensures also put-placed (c .before .before .put-bytes .ensures)
+returns c =
+    let a = c .before .before .before .before .before .before .before .before .before .before .args in
+    with-bytes (sized (a .tag-len) (take (a .tag-len) (a .t1)) (length-take-le _ _ (search needs)))
+    (c .before .before .before .before .before .before .before .put-small .ensures also put-placed (c .before .before .put-sized .ensures))
 
 pub put-tag-spec : {M : Type 1} → statement M
-put-tag-spec = tie.close (tie.spec put-small-requires put-small-requires-2 array-share-prefix-tag slice-aggregate-put-bytes put-bytes-requires same-length returns)
+put-tag-spec =
+    tie.close
+    (tie.spec
+    put-small-requires
+    array-share-prefix-tag
+    slice-aggregate-put-sized
+    put-sized-requires
+    same-length
+    returns)

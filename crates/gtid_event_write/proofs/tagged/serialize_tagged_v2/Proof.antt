@@ -3,7 +3,7 @@ use mathlib.Core.Path.{sym}
 use native.Mathlib.Omega.{arith}
 use lib.Seq.{length-take-le}
 use Rattle.misc.proofs.OutputLaws.{output-short, put-placed}
-use Rattle.gtid_event_write.proofs.PutLaws.{wrote}
+use Rattle.gtid_event_write.proofs.PutLaws.{wrote-all}
 use Rattle.gtid_event_write.proofs.TaggedLaws.{size-is, whole-placed}
 use borrow.Author.Needs.{needs}
 use Rattle.gtid_event_write.proofs.tagged.serialize_tagged_v2.Statement.{statement}
@@ -44,7 +44,7 @@ returns-2 c =
     let e = c .before .before .before .before .before .before .before .before .before .before .before .before .before .before .before .args .event in
     let fields = c .before .before .before .before .before .before .before .before .before .before .before .before .write-tagged-fields-v2 .ensures in
     let size = c .before .before .before .before .before .before .before .before .before .before .record-size .ensures .0 in
-    wrote (omega (arith, size-is e (fields .0) _ size))
+    wrote-all _ (size-is e (fields .0) _ size) (omega arith)
     (whole-placed e (fields .0) (omega (arith, fields .1)) size (c .before .before .before .before .before .before .before .put-envelope .ensures) (put-placed (c .before .before .put-bytes .ensures)))
 
 pub serialize-tagged-v2-spec : {M : Type 1} → statement M
