@@ -7,12 +7,12 @@ use native.Mathlib.Nat.{lt-of-le-of-lt}
 use native.Mathlib.Omega.{arith}
 use lib.Dec.{eqb, ltb}
 use lib.ListN.{length}
-use borrow.Author.Tests.{eq-eqb, ne-eqb, eqb-true, eqb-false, ltb-false}
+use borrow.Author.Tests.{eq-eqb, ne-eqb, eqb-true, eqb-false, ltb-false, lt-ltb, le-ltb}
 use Rattle.misc.specs.Pick.{pick}
 use Rattle.misc.specs.Varlen.{sizeFrom, varlenSize, varlenBytes}
 use Rattle.misc.proofs.ParseLaws.{split}
 use Rattle.misc.proofs.VarlenLaws.{size-range, size-holds, length-varlenBytes}
-use Rattle.gtid_event_write.specs.Size.{Agrees, sizeWith, payloadSize}
+use Rattle.gtid_event_write.specs.Size.{Agrees, sizeWith, payloadSize, sizeIn64}
 
 -- ---- the size of an integer grows with the integer
 
@@ -94,6 +94,26 @@ payload-agrees fields = agrees-from fields 8 1 refl (size-range (2 + fields + 1)
 pub payload-least : (fields q : ℕ) → Agrees fields q → payloadSize fields ≤ q
 unfolding payloadSize
 payload-least fields q a = omega (arith, least-from fields 8 1 (varlenSize q) (size-range q .0) (ap varlenSize (sym a)))
+
+-- ---- which sizes 64 bits hold
+
+pub size-held : (fields : ℕ) → fields < 2 ^ 64 - 11 → payloadSize fields ≡ sizeIn64 fields
+unfolding sizeIn64
+size-held fields h =
+    let few : payloadSize fields < 2 ^ 64 = omega (arith, payload-agrees fields, size-range (payloadSize fields)) in
+    rw (lt-ltb (payloadSize fields) (2 ^ 64) few)
+
+last-of-nine : varlenSize (2 ^ 56) ≡ 9
+unfolding varlenSize sizeFrom
+last-of-nine = refl
+
+pub size-too-great : (fields : ℕ) → 2 ^ 64 - 11 ≤ fields → 0 ≡ sizeIn64 fields
+unfolding sizeIn64
+size-too-great fields h =
+    let agrees = payload-agrees fields in
+    let nine = size-mono (2 ^ 56) (payloadSize fields) (omega arith) in
+    let many : 2 ^ 64 ≤ payloadSize fields = omega (arith, last-of-nine) in
+    rw (le-ltb (payloadSize fields) (2 ^ 64) many)
 
 -- ---- a size of one byte or of two
 

@@ -1,8 +1,8 @@
 -- The payload size of a tagged event: it counts the version byte, the byte of the last non-ignorable id, the bytes of the fields, and
 -- itself; the least number that does.
-use Prim.Native.Nat.{ℕ, zero, suc, _+_}
+use Prim.Native.Nat.{ℕ, zero, suc, _+_, _^_}
 use mathlib.Core.Path.{_≡_}
-use lib.Dec.{eqb}
+use lib.Dec.{eqb, ltb}
 use Rattle.misc.specs.Pick.{pick}
 use Rattle.misc.specs.Varlen.{varlenSize}
 
@@ -17,3 +17,7 @@ sizeWith (suc k) n fields = pick (eqb (varlenSize (2 + fields + n)) n) (2 + fiel
 -- the size takes 1 to 9 bytes
 unfoldable pub payloadSize : ℕ → ℕ
 payloadSize fields = sizeWith 8 1 fields
+
+-- the same where 64 bits hold it, else 0, which is no size
+unfoldable pub sizeIn64 : ℕ → ℕ
+sizeIn64 fields = pick (ltb (payloadSize fields) (2 ^ 64)) (payloadSize fields) 0

@@ -10,17 +10,13 @@ use probe_lines::line::push_byte;
 use probe_lines::line::push_decimal;
 use probe_lines::line::push_text_if;
 
-// `number` is below 2^32.
 fn paysize(number: u64, line: &mut [u8]) -> usize {
-    if 0xffff_ffff < number {
+    let size = gtid_event_write::size::payload_size(number);
+    if size == 0 {
         return answers::none(line);
     }
     let size_at = answers::ok(line);
-    push_decimal(
-        line,
-        size_at,
-        gtid_event_write::size::payload_size(number as u32),
-    )
+    push_decimal(line, size_at, size)
 }
 
 fn refused_read(line: &mut [u8], read: GtidRead, rest: usize) -> usize {

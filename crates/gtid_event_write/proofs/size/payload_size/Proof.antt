@@ -4,7 +4,7 @@ use Prim.Native.Nat.{_-_, _≤_}
 use native.Mathlib.Omega.{arith}
 use borrow.Author.Needs.{needs}
 use Rattle.gtid_event_write.specs.Size.{sizeWith, payloadSize}
-use Rattle.gtid_event_write.proofs.SizeLaws.{size-found, size-passed, size-last}
+use Rattle.gtid_event_write.proofs.SizeLaws.{size-found, size-passed, size-last, size-held, size-too-great}
 use Rattle.gtid_event_write.proofs.size.payload_size.Statement.{statement}
 use Rattle.gtid_event_write.proofs.size.payload_size.Tie as tie
 
@@ -13,6 +13,9 @@ Inv-loop fields fixed n₀ n = (1 ≤ n) × (n ≤ 9) × (sizeWith (9 - n) n fie
 
 abbrev μ-loop : tie.MeasureT-loop
 μ-loop fields fixed n₀ n = 9 - n
+
+returns : tie.Need-returns Inv-loop μ-loop
+returns c = size-too-great _ (c .if1 .taken)
 
 add-fixed : tie.Need-add-fixed Inv-loop μ-loop
 add-fixed c = search needs
@@ -30,10 +33,10 @@ varlen-uint-size-requires c κs = search needs
 add-result : tie.Need-add-result Inv-loop μ-loop
 add-result c = search needs
 
-returns : tie.Need-returns Inv-loop μ-loop
-returns c =
+returns-2 : tie.Need-returns-2 Inv-loop μ-loop
+returns-2 c =
     let w = c .before .before .before .loop in
-    size-found (w .n) _ _ (omega arith) (c .before .before .loop-test .taken) (sym (c .before .varlen-uint-size .ensures .0) ∙ c .if1 .taken) ∙ w .inv .2
+    size-found (w .n) _ _ (omega arith) (c .before .before .loop-test .taken) (sym (c .before .varlen-uint-size .ensures .0) ∙ c .if2 .taken) ∙ w .inv .2 ∙ size-held _ (c .before .before .before .before .if1 .left)
 
 add-n : tie.Need-add-n Inv-loop μ-loop
 add-n c = search needs
@@ -44,15 +47,15 @@ loop-less c = search needs
 loop-again : tie.Need-loop-again Inv-loop μ-loop
 loop-again c =
     let w = c .before .before .before .loop in
-    (omega arith, omega arith, size-passed (w .n) _ _ (omega arith) (c .before .before .loop-test .taken) (λ e. c .if1 .left (c .before .varlen-uint-size .ensures .0 ∙ e)) ∙ w .inv .2)
+    (omega arith, omega arith, size-passed (w .n) _ _ (omega arith) (c .before .before .loop-test .taken) (λ e. c .if2 .left (c .before .varlen-uint-size .ensures .0 ∙ e)) ∙ w .inv .2)
 
 add-result-2 : tie.Need-add-result-2 Inv-loop μ-loop
 add-result-2 c = search needs
 
-returns-2 : tie.Need-returns-2 Inv-loop μ-loop
-returns-2 c =
+returns-3 : tie.Need-returns-3 Inv-loop μ-loop
+returns-3 c =
     let w = c .before .loop in
-    size-last (w .n) _ _ (omega arith) (omega arith) ∙ w .inv .2
+    size-last (w .n) _ _ (omega arith) (omega arith) ∙ w .inv .2 ∙ size-held _ (c .before .before .if1 .left)
 
 pub payload-size-spec : {M : Type 1} → statement M
 payload-size-spec =
@@ -60,14 +63,15 @@ payload-size-spec =
     (tie.spec
     Inv-loop
     μ-loop
+    returns
     add-fixed
     loop-holds
     add-varlen-uint-size
     varlen-uint-size-requires
     add-result
-    returns
+    returns-2
     add-n
     loop-less
     loop-again
     add-result-2
-    returns-2)
+    returns-3)
