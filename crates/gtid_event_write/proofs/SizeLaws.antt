@@ -97,11 +97,15 @@ payload-least fields q a = omega (arith, least-from fields 8 1 (varlenSize q) (s
 
 -- ---- which sizes 64 bits hold
 
-pub size-held : (fields : ℕ) → fields < 2 ^ 64 - 11 → payloadSize fields ≡ sizeIn64 fields
+size-held : (fields : ℕ) → fields < 2 ^ 64 - 11 → payloadSize fields ≡ sizeIn64 fields
 unfolding sizeIn64
 size-held fields h =
     let few : payloadSize fields < 2 ^ 64 = omega (arith, payload-agrees fields, size-range (payloadSize fields)) in
     rw (lt-ltb (payloadSize fields) (2 ^ 64) few)
+
+pub size-told : (fields r : ℕ) → fields < 2 ^ 64 - 11 → r ≡ payloadSize fields
+    → (r ≡ sizeIn64 fields) × (fields < 2 ^ 32 → r ≡ payloadSize fields)
+size-told fields r h is = (is ∙ size-held fields h, λ few. is)
 
 last-of-nine : varlenSize (2 ^ 56) ≡ 9
 unfolding varlenSize sizeFrom

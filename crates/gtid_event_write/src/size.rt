@@ -1,6 +1,6 @@
 // The payload size, which counts itself.
 ghost use mathlib.Core.Path.{_≡_};
-ghost use Prim.Native.Nat.{_≤_};
+ghost use Prim.Native.Nat.{_^_, _≤_, _<_};
 ghost use Rattle.gtid_event_write.specs.Size.{payloadSize, sizeIn64};
 use misc::varlen::varlen_uint_size;
 
@@ -11,6 +11,7 @@ const FIELDS_TOP: u64 = 0xffff_ffff_ffff_fff5;
 // the size itself are tried one after the other, so that the search ends. 0 where 64 bits don't hold it.
 pub fn payload_size(fields: u64) -> u64
     ensures { λ r. ⌜ r ≡ sizeIn64 fields ⌝ }
+    ensures { λ r. ⌜ (fields < 2 ^ 32 → r ≡ payloadSize fields) ⌝ }
 {
     if FIELDS_TOP <= fields {
         return 0;

@@ -4,7 +4,7 @@ use Prim.Native.Nat.{_-_, _≤_}
 use native.Mathlib.Omega.{arith}
 use borrow.Author.Needs.{needs}
 use Rattle.gtid_event_write.specs.Size.{sizeWith, payloadSize}
-use Rattle.gtid_event_write.proofs.SizeLaws.{size-found, size-passed, size-last, size-held, size-too-great}
+use Rattle.gtid_event_write.proofs.SizeLaws.{size-found, size-passed, size-last, size-told, size-too-great}
 use Rattle.gtid_event_write.proofs.size.payload_size.Statement.{statement}
 use Rattle.gtid_event_write.proofs.size.payload_size.Tie as tie
 
@@ -15,7 +15,7 @@ abbrev μ-loop : tie.MeasureT-loop
 μ-loop fields fixed n₀ n = 9 - n
 
 returns : tie.Need-returns Inv-loop μ-loop
-returns c = size-too-great _ (c .if1 .taken)
+returns c = (size-too-great _ (c .if1 .taken), λ few. absurd (omega arith))
 
 add-fixed : tie.Need-add-fixed Inv-loop μ-loop
 add-fixed c = search needs
@@ -36,7 +36,8 @@ add-result c = search needs
 returns-2 : tie.Need-returns-2 Inv-loop μ-loop
 returns-2 c =
     let w = c .before .before .before .loop in
-    size-found (w .n) _ _ (omega arith) (c .before .before .loop-test .taken) (sym (c .before .varlen-uint-size .ensures .0) ∙ c .if2 .taken) ∙ w .inv .2 ∙ size-held _ (c .before .before .before .before .if1 .left)
+    size-told _ _ (c .before .before .before .before .if1 .left)
+    (size-found (w .n) _ _ (omega arith) (c .before .before .loop-test .taken) (sym (c .before .varlen-uint-size .ensures .0) ∙ c .if2 .taken) ∙ w .inv .2)
 
 add-n : tie.Need-add-n Inv-loop μ-loop
 add-n c = search needs
@@ -55,7 +56,7 @@ add-result-2 c = search needs
 returns-3 : tie.Need-returns-3 Inv-loop μ-loop
 returns-3 c =
     let w = c .before .loop in
-    size-last (w .n) _ _ (omega arith) (omega arith) ∙ w .inv .2 ∙ size-held _ (c .before .before .if1 .left)
+    size-told _ _ (c .before .before .if1 .left) (size-last (w .n) _ _ (omega arith) (omega arith) ∙ w .inv .2)
 
 pub payload-size-spec : {M : Type 1} → statement M
 payload-size-spec =
