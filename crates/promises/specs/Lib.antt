@@ -6,7 +6,7 @@
 -- (`PlainFaults`), sets and what else an offer answers (`SetFaults`); that every public function gives a number exactly where the table has its
 -- case, an offer each of its answers, and that `contains` tells the members (`Exact`); what the other calls say of them (`Told`); which of several
 -- faults counts, and what else is answered and written (`Orders`); what a call answers that doesn't refuse (`Answers`); what the order, the limits
--- and the ranges come to (`Rules`); and the gno rule at its top (`Highest`).
+-- and the ranges come to, and how many bytes a tagged record has (`Rules`); and the gno rule at its top (`Highest`).
 -- Demand 3, of any offer, is `History` of resume_set_laws. Last, wrong programs that all this shuts out (`WrongOnes`).
 pub mod Edges
 pub mod UntaggedLayout
