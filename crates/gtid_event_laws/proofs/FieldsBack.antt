@@ -22,10 +22,6 @@ use Rattle.gtid_event_read.specs.Fields.{Kind, anyNumber, upTo, natural, tag, k
 use Rattle.gtid_event_write.specs.Layout.{numberBytes, unlessBytes, itemsBytes}
 use Rattle.gtid_event_laws.proofs.Stands.{Stands, each, bytes-stand, varlen-stands}
 
--- an item has a byte at least, and nine at most
-pub varlen-length : (v : ℕ) → (1 ≤ length (varlenBytes v)) × (length (varlenBytes v) ≤ 9)
-varlen-length v = rw length-varlenBytes (size-range v)
-
 -- ---- one field
 
 -- read where f is kept so far, these bytes are a field that makes it g
@@ -40,7 +36,7 @@ field : (id : ℕ) (value : List ℕ) {f g : Fields} → id < 2 ^ 64
 unfolding fieldAt
 field id value {f} {g} small reads =
     record {
-      some = rw length-append (omega (arith, varlen-length id .0));
+      some = rw length-append (omega (arith, length-varlenBytes id, size-range id));
       reads = λ last {s} {at} st.
           let (first, (second, _)) = each (varlenBytes id ∷ value ∷ []) st (simp append-nil) in
           rw (varlen-stands id small first, reads last s _ second) (ap (parsed g) (simp length-append (omega arith)));
