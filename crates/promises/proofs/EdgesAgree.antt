@@ -8,7 +8,7 @@ use Rattle.misc.specs.Signed.{sentAs}
 use Rattle.packets.specs.Kept.{padded}
 use Rattle.packets.specs.Tag.{allTagBytes, isTag}
 use Rattle.previous_gtids_event.specs.Rewrite.{headerBytes}
-use Rattle.gtid_event_write.specs.Size.{sizeWith, payloadSize}
+use Rattle.gtid_event_write.specs.Size.{sizeWith, payloadSize, sizeIn64}
 use Rattle.gtid_event_write.specs.Layout.{itemsBytes, identityBytes, clockBytes, restBytes, fieldBytes, taggedBytes, openingBytes, laterBytes, untaggedBytes}
 use Rattle.gtid_event_write.specs.Write.{eventBytes}
 use Rattle.set_check.specs.Places.{numberAt}
@@ -16,5 +16,5 @@ use Rattle.abi.specs.Flat.{flatIdentity, flatClock, flatRest, flat, versionAt, 
 use Rattle.promises.specs.Edges.{edges, Agree}
 
 pub edges-agree : Agree edges
-unfolding bytesAt byteAt leOf leBytes leAt lenencBytes trailingOnes itemValue varlenAt sizeFrom varlenSize itemOf varlenBytes sentAs padded allTagBytes isTag headerBytes sizeWith payloadSize itemsBytes identityBytes clockBytes restBytes fieldBytes taggedBytes openingBytes laterBytes untaggedBytes eventBytes numberAt flatIdentity flatClock flatRest flat versionAt flatRead
+unfolding bytesAt byteAt leOf leBytes leAt lenencBytes trailingOnes itemValue varlenAt sizeFrom varlenSize itemOf varlenBytes sentAs padded allTagBytes isTag headerBytes sizeWith payloadSize sizeIn64 itemsBytes identityBytes clockBytes restBytes fieldBytes taggedBytes openingBytes laterBytes untaggedBytes eventBytes numberAt flatIdentity flatClock flatRest flat versionAt flatRead
 edges-agree = refl

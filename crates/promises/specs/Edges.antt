@@ -17,7 +17,7 @@ use Rattle.previous_gtids_event.specs.Rewrite.{headerBytes}
 use Rattle.gtid_event.specs.Event.{fresh, setNumber, setTag}
 use Rattle.gtid_event.specs.Parts.{only}
 use Rattle.gtid_event.specs.declared.GtidEvent.{GtidEvent}
-use Rattle.gtid_event_write.specs.Size.{payloadSize}
+use Rattle.gtid_event_write.specs.Size.{payloadSize, sizeIn64}
 use Rattle.gtid_event_write.specs.Write.{eventBytes}
 use Rattle.gtid_sets.specs.Set.{add}
 use Rattle.abi.specs.Answers.{bit}
@@ -153,6 +153,9 @@ edges =
     ∷ edge (only (payloadSize 124)) (only 127)
     ∷ edge (only (2 + 124 + varlenSize 128)) (only 128)
     ∷ edge (only (payloadSize 125)) (only 129)
+    -- 2^64-12 field bytes: size 2^64-1; one more: no size that 64 bits hold
+    ∷ edge (only (sizeIn64 (2 ^ 64 - 12))) (only (2 ^ 64 - 1))
+    ∷ edge (only (sizeIn64 (2 ^ 64 - 11))) (only 0)
     -- zero uuid, gno 1, tag "a", sequence 1, all else 0: 37 bytes, beginning 02 4A 00.
     ∷ edge (eventBytes small) smallBytes
     ∷ edge (only (length smallBytes)) (only 37)
