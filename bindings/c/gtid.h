@@ -21,22 +21,23 @@
 extern "C" {
 #endif
 
-/* The longest set, in bytes: 256 entries with tags of 32 bytes, and 2,048 intervals. */
-#define GTID_LONGEST_SET 47368
+/* The longest set, in bytes: 384 entries with tags of 32 bytes, and 2,560 intervals. No set has more, nor an entry (a uuid with a
+ * tag or without) more than 1,024 intervals. */
+#define GTID_LONGEST_SET 62856
 
 /* The highest transaction number that a set can hold; the lowest is 1. An event of type 33 or 42 may carry others: it is read,
  * written and listed with them, and an offer of it is refused with 15. (Type 34 has no id, and its number isn't judged.) */
 #define GTID_HIGHEST_GNO ((uint64_t)INT64_MAX - 1)
 
-/* The longest text of an event, in bytes. */
-#define GTID_LONGEST_TEXT 99882
+/* The longest text of an event, in bytes: that of such a set, with numbers of 19 digits. */
+#define GTID_LONGEST_TEXT 129322
 
 /* The longest body that gtid_write writes, in bytes. It is a tagged one: version, size and last non-ignorable id (4), flags (3),
  * uuid (33), tag (34), seven numbers of 64 bits (10 each) and two of 32 bits (6 each). */
 #define GTID_LONGEST_EVENT 156
 
 /* Whether bytes are a set of transaction ids as this library saves it, and how many entries and intervals it has.
- * Refuses with 14; then both numbers are 0. */
+ * Refuses with 14, also what would be a set but for a limit; then both numbers are 0. */
 uint8_t gtid_check_set(const uint8_t *set, size_t set_len, uint64_t *entries, uint64_t *intervals);
 
 /* Whether a set has an id: `*present` is 1 or 0. No tag is a tag of no bytes. What can be no id (a uuid that hasn't 16
@@ -45,7 +46,8 @@ uint8_t gtid_contains(const uint8_t *set, size_t set_len, const uint8_t *uuid, s
                       const uint8_t *tag, size_t tag_len, uint64_t gno, uint8_t *present);
 
 /* Takes in the body of a Previous-GTIDs event (type 35): writes the set of all its ids, at most GTID_LONGEST_SET bytes.
- * Refuses with 11, 1, 6, 15, 16 and 13. */
+ * Refuses with 11, 1, 6, 15, 17 (an entry of that set would have more than 1,024 intervals), 16 (it would have more than 384
+ * entries or 2,560 intervals in all) and 13. */
 uint8_t gtid_take_in(const uint8_t *body, size_t body_len, uint8_t *out, size_t out_len, size_t *len);
 
 /* Writes the entries that the body of a Previous-GTIDs event holds anew, as they stand: with tags only if one of them has
@@ -76,7 +78,7 @@ uint8_t gtid_read_varlen_uint(const uint8_t *s, size_t s_len, uint64_t *value, s
 
 /* Offers a GTID event (type 33, 34 or 42) to a set, and writes the set after it, at most GTID_LONGEST_SET bytes, also where
  * it is the same: the id is taken, or it is already there, or the event has none (type 34). Refuses with 14, with what the
- * event's body is refused for (1 to 11), and with 15, 16 and 13.
+ * event's body is refused for (1 to 11), and with 15, 17, 16 and 13.
  * The set after it is the one to save, but only when the tool has committed the transaction: after a crash in between the
  * transaction is offered again, and the tool must know its id, or set and transaction go into one commit. Whoever saves
  * first loses the transaction. */

@@ -17,6 +17,9 @@ static void put(uint8_t *at, uint64_t number)
 
 static uint8_t set[GTID_LONGEST_SET], next[GTID_LONGEST_SET], text[GTID_LONGEST_TEXT];
 
+/* An event's type and its body, which is never longer. */
+static uint8_t input[1 + 65536];
+
 /* A record whose numbers are the greatest and whose tag is the longest: it is written in GTID_LONGEST_EVENT bytes. */
 static void write_longest_event(void)
 {
@@ -65,6 +68,116 @@ static void offer_highest(void)
     EXPECT(gtid_read(33, event, sizeof event, record, sizeof record, &used) == 0);
     EXPECT(gtid_write(record, sizeof record, written, sizeof written, &len) == 0);
     EXPECT(len == sizeof event && memcmp(written, event, len) == 0);
+}
+
+/* So many intervals of two numbers each, ten apart, from a first number on. Returns the place behind them. */
+static uint8_t *put_intervals(uint8_t *at, uint64_t count, uint64_t first)
+{
+    put(at, count);
+    for (uint64_t i = 0; i < count; i++) {
+        put(at + 8 + 16 * i, first + 10 * i);
+        put(at + 16 + 16 * i, first + 10 * i + 2);
+    }
+    return at + 8 + 16 * count;
+}
+
+/* A tag of 32 bytes that ends with a number of three digits. */
+static void put_tag(uint8_t *at, int number)
+{
+    memset(at, 'a', 29);
+    at[29] = (uint8_t)('0' + number / 100);
+    at[30] = (uint8_t)('0' + number / 10 % 10);
+    at[31] = (uint8_t)('0' + number % 10);
+}
+
+/* The least number of 19 digits; no number of a set has more digits. */
+#define LONG_NUMBER UINT64_C(1000000000000000000)
+
+/* The longest set, as the body of the input: 384 tags of the uuid 07 07 .., and 2,560 intervals, 7 for each of the first 256 and 6 for each
+ * other one. Returns how many bytes it has. */
+static size_t put_longest_set(void)
+{
+    uint8_t *at = input + 1 + 8;
+
+    put(input + 1, (UINT64_C(1) << 56) + (384 << 8) + 1); /* with tags */
+    for (int number = 0; number < 384; number++) {
+        memset(at, 7, 16);
+        at[16] = 2 * 32; /* the tag's length in its one-byte form */
+        put_tag(at + 17, number);
+        at = put_intervals(at + 49, number < 256 ? 7 : 6, LONG_NUMBER);
+    }
+    return (size_t)(at - (input + 1));
+}
+
+/* The event of type 42 with an id of that set's last entry. Returns how many bytes it has. */
+static size_t put_last_event(uint8_t *event, uint64_t gno)
+{
+    uint8_t record[GTID_RECORD_LEN] = {0};
+    size_t len = 0;
+
+    memset(record + 1, 7, 16);
+    put(record + 17, gno);
+    record[25] = 32;
+    put_tag(record + 26, 383);
+    put(record + 100, ((uint64_t)GTID_UNDEFINED_SERVER_VERSION << 32) + GTID_UNDEFINED_SERVER_VERSION);
+    EXPECT(gtid_write(record, sizeof record, event, GTID_LONGEST_EVENT, &len) == 0);
+    return len;
+}
+
+/* The longest set has GTID_LONGEST_SET bytes, and its text, in which every number has 19 digits, GTID_LONGEST_TEXT. */
+static void take_in_and_list_longest_set(void)
+{
+    size_t body_len = put_longest_set(), len = 9;
+    uint64_t entries = 9, intervals = 9;
+
+    EXPECT(body_len == GTID_LONGEST_SET);
+    EXPECT(gtid_check_set(input + 1, body_len, &entries, &intervals) == 0 && entries == 384 && intervals == 2560);
+    EXPECT(gtid_take_in(input + 1, body_len, set, sizeof set - 1, &len) == 13 && len == GTID_LONGEST_SET);
+    EXPECT(gtid_take_in(input + 1, body_len, set, sizeof set, &len) == 0 && len == GTID_LONGEST_SET);
+    input[0] = 35;
+    EXPECT(gtid_list(input, 1 + body_len, text, sizeof text - 1, &len) == 13 && len == GTID_LONGEST_TEXT);
+    EXPECT(gtid_list(input, 1 + body_len, text, sizeof text, &len) == 0 && len == GTID_LONGEST_TEXT);
+}
+
+/* The longest set takes an id that lengthens its last interval, but none that stands apart. */
+static void offer_to_longest_set(void)
+{
+    size_t body_len = put_longest_set(), event_len, len = 9;
+    uint8_t event[GTID_LONGEST_EVENT], kind = 9;
+
+    event_len = put_last_event(event, LONG_NUMBER + 52);
+    EXPECT(gtid_offer(input + 1, body_len, 42, event, event_len, next, sizeof next, &kind, &len) == 0);
+    EXPECT(kind == GTID_TAKEN && len == GTID_LONGEST_SET);
+    event_len = put_last_event(event, LONG_NUMBER + 54);
+    EXPECT(gtid_offer(input + 1, body_len, 42, event, event_len, next, sizeof next, &kind, &len) == 16);
+    EXPECT(kind == GTID_REFUSED && len == 0);
+}
+
+/* One entry, the uuid 00 00 .., with so many intervals, as the body of the input. Returns how many bytes it has. */
+static size_t put_one_entry(uint64_t intervals)
+{
+    memset(input + 1, 0, 24);
+    put(input + 1, 1);
+    return (size_t)(put_intervals(input + 25, intervals, 1) - (input + 1));
+}
+
+/* An entry with 1,024 intervals takes an id that lengthens the last one, but none that stands apart. With one more it is in no set. */
+static void offer_to_full_entry(void)
+{
+    size_t body_len = put_one_entry(1024), len = 9;
+    uint64_t entries = 9, intervals = 9;
+    uint8_t event[25] = {0}, kind = 9;
+
+    put(event + 17, 1 + 10 * 1023 + 2);
+    EXPECT(gtid_offer(input + 1, body_len, 33, event, sizeof event, next, sizeof next, &kind, &len) == 0);
+    EXPECT(kind == GTID_TAKEN && len == body_len);
+    put(event + 17, 1 + 10 * 1023 + 4);
+    EXPECT(gtid_offer(input + 1, body_len, 33, event, sizeof event, next, sizeof next, &kind, &len) == 17);
+    EXPECT(kind == GTID_REFUSED && len == 0);
+    body_len = put_one_entry(1025);
+    EXPECT(gtid_take_in(input + 1, body_len, next, sizeof next, &len) == 17 && len == 0);
+    EXPECT(gtid_check_set(input + 1, body_len, &entries, &intervals) == 14 && entries == 0 && intervals == 0);
+    EXPECT(gtid_offer(input + 1, body_len, 33, event, sizeof event, next, sizeof next, &kind, &len) == 14);
 }
 
 int main(void)
@@ -116,13 +229,16 @@ int main(void)
     EXPECT(gtid_write(record, sizeof record, written, sizeof written, &len) == 0 && len == 25);
     EXPECT(memcmp(written, event, 25) == 0);
 
-    const uint8_t input[] = {7}, item[] = {5, 0};
-    EXPECT(gtid_list(input, sizeof input, text, sizeof text, &len) == 0);
+    const uint8_t unknown[] = {7}, item[] = {5, 0};
+    EXPECT(gtid_list(unknown, sizeof unknown, text, sizeof text, &len) == 0);
     EXPECT(len == 10 && memcmp(text, "refused 8\n", len) == 0);
     EXPECT(gtid_read_varlen_uint(item, sizeof item, &value, &used) == 0 && value == 1 && used == 2);
 
     write_longest_event();
     write_new_event();
     offer_highest();
+    take_in_and_list_longest_set();
+    offer_to_longest_set();
+    offer_to_full_entry();
     return faults != 0;
 }

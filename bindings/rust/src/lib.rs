@@ -98,8 +98,8 @@ pub const PREVIOUS_GTIDS_EVENT: u8 = 35;
 /// ```
 pub const GTID_TAGGED_LOG_EVENT: u8 = 42;
 
-/// The bytes of the longest listing.
-const LONGEST_TEXT: usize = 99_882;
+/// The bytes of the longest listing: that of the longest set, with numbers of 19 digits.
+const LONGEST_TEXT: usize = 129_322;
 
 /// The body of a Previous-GTIDs event (type 35) written anew, as the server writes it: with tags only if some entry has one, and every length
 /// in its shortest form.

@@ -74,7 +74,8 @@ refusals! {
     NoRoom = 13: "the output is too short",
     NotASet = 14: "the bytes are no set",
     BadGno = 15: "a transaction number or an interval outside its rule",
-    Full = 16: "full: the set would pass 256 entries or 2,048 intervals",
+    Full = 16: "full: the set would pass 384 entries or 2,560 intervals",
+    Crowded = 17: "crowded: an entry of the set would pass 1,024 intervals",
 }
 
 impl Refusal {
@@ -94,7 +95,7 @@ impl Refusal {
                 io::ErrorKind::InvalidInput
             }
             // nothing is wrong with the event
-            Refusal::Full | Refusal::Unknown(_) => io::ErrorKind::Other,
+            Refusal::Full | Refusal::Crowded | Refusal::Unknown(_) => io::ErrorKind::Other,
             _ => io::ErrorKind::InvalidData,
         }
     }

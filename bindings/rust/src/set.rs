@@ -1,14 +1,14 @@
 use crate::sys;
 use crate::{Entry, PreviousGtidsEvent, Refusal};
 
-/// The bytes of the longest set.
+/// The bytes of the longest set: 384 entries with tags of 32 bytes, and 2,560 intervals.
 ///
 /// ```
 /// use gtid_resume::{ResumeSet, LONGEST_SET};
 ///
 /// assert!(ResumeSet::empty().as_bytes().len() <= LONGEST_SET);
 /// ```
-pub const LONGEST_SET: usize = 47_368;
+pub const LONGEST_SET: usize = 62_856;
 
 /// The highest transaction number that a set can hold; the lowest is 1. An event of type 33 or 42 may carry others, and is read, written
 /// and listed with them; offered, it is refused with [`Refusal::BadGno`]. (Type 34 has no id, and its number isn't judged.)
@@ -170,6 +170,8 @@ impl Offer<'_> {
 /// Its members are exactly the ids that were taken in and those of the committed offers that were answered [`Offered::Taken`] or
 /// [`Offered::AlreadyThere`]; that is proved of the bytes. Two sets with the same members have the same bytes.
 ///
+/// A set has at most 384 entries (a uuid with a tag or without), 2,560 intervals of transaction numbers in all, and 1,024 in any one entry.
+///
 /// ```
 /// use gtid_resume::{GtidEvent, ResumeSet, GTID_EVENT};
 ///
@@ -203,7 +205,8 @@ impl ResumeSet {
     ///
     /// # Errors
     ///
-    /// [`Refusal::TooLong`], [`Refusal::Ended`], [`Refusal::BadTag`], [`Refusal::BadGno`] or [`Refusal::Full`].
+    /// [`Refusal::TooLong`], [`Refusal::Ended`], [`Refusal::BadTag`], [`Refusal::BadGno`], [`Refusal::Crowded`] or [`Refusal::Full`]. The last
+    /// two are judged in this order, and of the set, not of the body: intervals that touch or overlap are joined before they are counted.
     ///
     /// ```
     /// use gtid_resume::{Refusal, ResumeSet};
@@ -223,7 +226,7 @@ impl ResumeSet {
     ///
     /// # Errors
     ///
-    /// [`Refusal::NotASet`] if the bytes are none.
+    /// [`Refusal::NotASet`] if the bytes are none, also if they would be one but for a limit.
     ///
     /// ```
     /// use gtid_resume::{Refusal, ResumeSet};
@@ -248,7 +251,8 @@ impl ResumeSet {
     /// # Errors
     ///
     /// The event's own refusals, 1 to 11; [`Refusal::BadGno`] for an id (types 33 and 42) whose number is 0 or above [`HIGHEST_GNO`]; and
-    /// [`Refusal::Full`]. The event was not taken and must not be passed over.
+    /// [`Refusal::Crowded`] or [`Refusal::Full`], in this order, for an id that stands apart where there is no room for one more interval, or
+    /// one more entry. (An id that lengthens an interval, or joins two, is taken.) The event was not taken and must not be passed over.
     ///
     /// ```
     /// use gtid_resume::{GtidEvent, Offered, Refusal, ResumeSet, GTID_EVENT};

@@ -1,14 +1,13 @@
-//! The examples of the repository, and the edges of a set, through the archive.
+//! The examples of the repository, and what the calls answer, through the archive. (How much a set may hold is in `limits.rs`.)
 use gtid_resume::{
     list, read_varlen_uint, rewrite, Entry, GtidEvent, Offered, PreviousGtidsEvent, Refusal,
-    ResumeSet, ANONYMOUS_GTID_EVENT, GTID_EVENT, GTID_TAGGED_LOG_EVENT, HIGHEST_GNO, LONGEST_SET,
-    PREVIOUS_GTIDS_EVENT,
+    ResumeSet, ANONYMOUS_GTID_EVENT, GTID_EVENT, HIGHEST_GNO, PREVIOUS_GTIDS_EVENT,
 };
 use std::fs;
 use std::path::Path;
 
 mod common;
-use common::Folder;
+use common::take;
 
 fn gtid(uuid: u8, gno: u64) -> Vec<u8> {
     let mut body = vec![0];
@@ -28,14 +27,6 @@ fn previous(entries: &[(u8, &[(u64, u64)])]) -> Vec<u8> {
         }
     }
     body
-}
-
-/// Offers an event and commits the offer.
-fn take(set: &mut ResumeSet, event_type: u8, body: &[u8]) -> Result<Offered, Refusal> {
-    let offer = set.offer(event_type, body)?;
-    let answer = offer.answer();
-    offer.commit();
-    Ok(answer)
 }
 
 type Tagged<'a> = (u8, &'a [u8], &'a [(u64, u64)]);
@@ -159,39 +150,6 @@ fn only_a_new_id_changes_the_set() {
     }
 }
 
-#[test]
-fn a_full_set_still_joins() {
-    let gaps: Vec<_> = (0..2048).map(|i| (2 * i + 1, 2 * i + 2)).collect();
-    let mut set = ResumeSet::take_in(&previous(&[(1, &gaps)])).unwrap();
-    let saved = set.clone();
-    assert_eq!(
-        take(&mut set, GTID_EVENT, &gtid(1, 10_000)),
-        Err(Refusal::Full)
-    );
-    assert_eq!(set, saved);
-    assert_eq!(take(&mut set, GTID_EVENT, &gtid(1, 2)), Ok(Offered::Taken));
-    assert_eq!(set.counts(), (1, 2047));
-    assert!(set.contains(&[1; 16], b"", 2) && !set.contains(&[1; 16], b"", 4));
-}
-
-#[test]
-fn the_longest_set_is_saved_and_listed() {
-    let gaps: Vec<_> = (0..8).map(|i| (2 * i + 1, 2 * i + 2)).collect();
-    let entries: Vec<Tagged> = (0..=255)
-        .map(|sid| (sid, &[b'a'; 32][..], &gaps[..]))
-        .collect();
-    let set = ResumeSet::take_in(&tagged_previous(&entries)).unwrap();
-    assert_eq!(set.counts(), (256, 2048));
-    assert_eq!(set.as_bytes().len(), LONGEST_SET);
-    let folder = Folder::new("longest");
-    set.save(folder.file("set")).unwrap();
-    assert_eq!(ResumeSet::load(folder.file("set")).unwrap(), set);
-    assert_eq!(
-        list(PREVIOUS_GTIDS_EVENT, set.as_bytes()).lines().count(),
-        257
-    );
-}
-
 /// The number after the highest ends an interval, and events carry it.
 #[test]
 fn no_set_goes_past_the_highest_number() {
@@ -217,20 +175,6 @@ fn no_set_goes_past_the_highest_number() {
             Err(Refusal::BadGno)
         );
     }
-}
-
-#[test]
-fn the_first_tag_widens_every_entry() {
-    let entries: Vec<(u8, &[(u64, u64)])> = (0..=254).map(|uuid| (uuid, &[(1, 2)][..])).collect();
-    let mut set = ResumeSet::take_in(&previous(&entries)).unwrap();
-    let event = GtidEvent::new_tagged([255; 16], b"a", 1).unwrap();
-    let body = event.write().unwrap();
-    assert_eq!(
-        take(&mut set, GTID_TAGGED_LOG_EVENT, &body),
-        Ok(Offered::Taken)
-    );
-    assert_eq!(set.counts(), (256, 256));
-    assert!(set.as_bytes().len() <= LONGEST_SET && set.contains(&[255; 16], b"a", 1));
 }
 
 const PLAIN: [Tagged; 3] = [

@@ -199,6 +199,7 @@ fn refusals_tell_name_number_and_words() {
         (Refusal::TooLong, 11),
         (Refusal::NotASet, 14),
         (Refusal::Full, 16),
+        (Refusal::Crowded, 17),
         (Refusal::Unknown(200), 200),
     ] {
         assert_eq!(refusal.number(), number);
@@ -230,6 +231,7 @@ fn refusals_have_the_names_and_numbers_of_the_source() {
         Refusal::NotASet,
         Refusal::BadGno,
         Refusal::Full,
+        Refusal::Crowded,
     ];
     for refusal in all {
         let shown = format!("{refusal:?}");
@@ -254,6 +256,7 @@ fn refusals_become_errors_of_io() {
         (Refusal::NotWritable, io::ErrorKind::InvalidInput),
         (Refusal::NotASet, io::ErrorKind::InvalidData),
         (Refusal::Full, io::ErrorKind::Other),
+        (Refusal::Crowded, io::ErrorKind::Other),
     ] {
         let error = io::Error::from(refusal);
         assert_eq!(error.kind(), kind);

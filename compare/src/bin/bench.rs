@@ -272,7 +272,7 @@ mod ours {
 
 /// A word for it, what it is, and the smaller number of turns; the other is twice that.
 #[rustfmt::skip]
-const TABLE: [(&str, &str, u64); 50] = [
+const TABLE: [(&str, &str, u64); 58] = [
     ("varint-1", "read 64 variable-length integers of 1 byte", 1000),
     ("varint-2", "read 64 variable-length integers of 2 bytes", 1000),
     ("varint-3", "read 64 variable-length integers of 3 bytes", 1000),
@@ -306,23 +306,31 @@ const TABLE: [(&str, &str, u64); 50] = [
     ("offer-1", "offer, 1 interval", 1000),
     ("offer-64", "offer, 64 intervals of one uuid", 100),
     ("offer-512", "offer, 512 intervals of one uuid", 10),
-    ("offer-2047", "offer, 2,047 intervals of one uuid", 10),
+    ("offer-1023", "offer, 1,023 intervals of one uuid", 10),
     ("offer-first", "the same, the id before all others", 10),
     ("offer-there", "the same, the last id, already there", 10),
+    ("offer-2559", "offer, 2,559 intervals of three uuids, 853 each", 10),
     ("offer-64-uuids", "offer, 64 uuids, 1 interval each", 10),
     ("offer-255-uuids", "offer, 255 uuids, 1 interval each", 10),
     ("offer-255-tagged", "offer, 255 uuids with 32-byte tags, 1 interval each", 10),
+    ("offer-383-tagged", "offer, 383 uuids with 32-byte tags, 1 interval each", 10),
     ("offer-tags", "offer, 256 tags of one uuid that differ in their last bytes only, 1 interval each", 10),
-    ("offer-longest", "the same with 8 intervals each: the longest set", 10),
-    ("take-in-set", "take in, a set of 2,048 intervals", 10),
-    ("take-in-worst", "take in, one uuid, 4,094 intervals, the highest first and then rising (refused with 16)", 1),
-    ("take-in-merged", "the same, every second one touching the one before it: 2,048 remain", 1),
-    ("take-in-falling", "take in, one uuid, 4,094 intervals, falling (refused with 16)", 1),
+    ("offer-tags-8", "the same, 8 intervals each, the id lengthens the last one", 10),
+    ("offer-384-tags", "offer, 384 such tags, 1 interval each", 10),
+    ("offer-longest", "the same, 2,560 intervals, 6 or 7 each: the longest set; the id lengthens the last one", 10),
+    ("take-in-set", "take in, a set of 2,048 intervals of two uuids, 1,024 each", 10),
+    ("take-in-longest", "take in, the longest set", 10),
+    ("take-in-worst", "take in, one uuid, 4,094 intervals, the highest first and then rising (refused with 17)", 1),
+    ("take-in-covered", "the same, the last one covering them all: 1 remains", 1),
+    ("take-in-merged", "take in, two uuids, 2,046 intervals each, the highest first and then rising, every second one touching the one before it: 1,024 of each remain", 1),
+    ("take-in-falling", "take in, one uuid, 4,094 intervals, falling (refused with 17)", 1),
     ("take-in-uuids", "take in, 1,638 uuids with an interval each, falling (refused with 16)", 1),
     ("take-in-tags", "take in, 897 tags of one uuid with an interval each, falling (refused with 16)", 1),
-    ("check-set", "check_set, 2,047 intervals", 10),
-    ("contains", "contains, 2,047 intervals, the last id", 10),
-    ("list-35", "list, type 35, a set of 2,048 intervals", 10),
+    ("check-set", "check_set, 2,048 intervals of two uuids, 1,024 each", 10),
+    ("check-set-2560", "check_set, 2,560 intervals of three uuids, 1,024 of the first two", 10),
+    ("check-set-longest", "check_set, the longest set", 10),
+    ("contains", "contains, 2,048 intervals of two uuids, 1,024 each, the last id", 10),
+    ("list-35", "list, type 35, a set of 2,048 intervals of two uuids, 1,024 each", 10),
 ];
 
 type Turns = Box<dyn FnMut(u64)>;
@@ -383,25 +391,32 @@ fn made(what: &str) -> Option<Made> {
         "offer-1" => offering(one_uuid(1), 0, apart(1)),
         "offer-64" => offering(one_uuid(64), 0, apart(64)),
         "offer-512" => offering(one_uuid(512), 0, apart(512)),
-        "offer-2047" => offering(one_uuid(2047), 0, apart(2047)),
-        "offer-first" => offering(one_uuid(2047), 0, 1),
-        "offer-there" => offering(one_uuid(2047), 0, interval(2046).0),
+        "offer-1023" => offering(one_uuid(1023), 0, apart(1023)),
+        "offer-first" => offering(one_uuid(1023), 0, 1),
+        "offer-there" => offering(one_uuid(1023), 0, interval(1022).0),
+        "offer-2559" => offering(several(&[853, 853, 853].map(intervals)), 2, apart(853)),
         "offer-64-uuids" => offering(uuids(64, false), 63, apart(1)),
         "offer-255-uuids" => offering(uuids(255, false), 254, apart(1)),
         "offer-255-tagged" => offering(uuids(255, true), 254, apart(1)),
+        "offer-383-tagged" => offering(uuids(383, true), 382, apart(1)),
         "offer-tags" => offering(tags(256, 1), 255, apart(1)),
-        // 2,048 intervals are there: the id lengthens the last one.
-        "offer-longest" => offering(tags(256, 8), 255, interval(7).1),
-        "take-in-set" => taking_in(&one_uuid(2048), Ok(body(&one_uuid(2048)))),
-        "take-in-worst" => taking_in(&highest_first(false), Err(16)),
-        "take-in-merged" => taking_in(&highest_first(true), Ok(body(&merged()))),
-        "take-in-falling" => taking_in(&falling(), Err(16)),
+        "offer-tags-8" => offering(tags(256, 8), 255, interval(7).1),
+        "offer-384-tags" => offering(tags(384, 1), 383, apart(1)),
+        "offer-longest" => offering(longest(), 383, interval(5).1),
+        "take-in-set" => taking_in(&two_uuids(), Ok(body(&two_uuids()))),
+        "take-in-longest" => taking_in(&longest(), Ok(body(&longest()))),
+        "take-in-worst" => taking_in(&worst(), Err(17)),
+        "take-in-covered" => taking_in(&covered(), Ok(body(&all_of_covered()))),
+        "take-in-merged" => taking_in(&touching(), Ok(body(&merged()))),
+        "take-in-falling" => taking_in(&falling(), Err(17)),
         "take-in-uuids" => taking_in(&reversed(uuids(1638, false)), Err(16)),
         "take-in-tags" => taking_in(&reversed(tags(897, 1)), Err(16)),
-        "check-set" => checking(&one_uuid(2047)),
-        "contains" => containing(&one_uuid(2047)),
-        "list-35" => listing(35, &body(&one_uuid(2048)), &text(&one_uuid(2048))),
-        "list-35-merged" => listing(35, &body(&highest_first(true)), &text(&merged())),
+        "check-set" => checking(&two_uuids()),
+        "check-set-2560" => checking(&several(&[1024, 1024, 512].map(intervals))),
+        "check-set-longest" => checking(&longest()),
+        "contains" => containing(&two_uuids()),
+        "list-35" => listing(35, &body(&two_uuids()), &text(&two_uuids())),
+        "list-35-merged" => listing(35, &body(&touching()), &text(&merged())),
         "list-35-tags" => listing(35, &body(&reversed(tags(256, 2))), &text(&tags(256, 2))),
         "list-33" => listing(
             33,
@@ -677,7 +692,7 @@ fn rewriting(entries: Vec<Entry>) -> Made {
 }
 
 /// The greatest length of a set.
-const LONGEST: usize = 47_368;
+const LONGEST: usize = 62_856;
 
 /// Offers an id of an entry that is there: it stands apart from all intervals, or lengthens one, or is there already.
 fn offering(entries: Vec<Entry>, place: usize, gno: u64) -> Made {
@@ -880,17 +895,31 @@ fn one_uuid(count: u64) -> Vec<Entry> {
     vec![entry(b"", intervals(count))]
 }
 
-/// Uuids that differ in two bytes in the middle, with a tag of 32 bytes or none, an interval each.
+/// An entry whose uuid differs from the others in two bytes in the middle.
+fn numbered(number: u16, tag: &[u8], intervals: Vec<(u64, u64)>) -> Entry {
+    let mut entry = entry(tag, intervals);
+    entry.uuid[6..8].copy_from_slice(&number.to_be_bytes());
+    entry
+}
+
+/// Uuids with a tag of 32 bytes or none, an interval each.
 fn uuids(count: u16, with_tag: bool) -> Vec<Entry> {
-    let one = |number: u16| {
-        let mut entry = entry(b"", intervals(1));
-        entry.uuid[6..8].copy_from_slice(&number.to_be_bytes());
-        if with_tag {
-            entry.tag = long_tag(number);
-        }
-        entry
+    let one = |number| match with_tag {
+        true => numbered(number, &long_tag(number), intervals(1)),
+        false => numbered(number, b"", intervals(1)),
     };
     (0..count).map(one).collect()
+}
+
+/// A uuid for each of these lists of intervals.
+fn several(lists: &[Vec<(u64, u64)>]) -> Vec<Entry> {
+    let one = |(number, list): (u16, &Vec<_>)| numbered(number, b"", list.clone());
+    (0..).zip(lists).map(one).collect()
+}
+
+/// Two uuids with as many intervals as one may have.
+fn two_uuids() -> Vec<Entry> {
+    several(&[1024, 1024].map(intervals))
 }
 
 /// 32 bytes; only the last three tell the numbers apart.
@@ -905,36 +934,67 @@ fn tags(tags: u16, count: u64) -> Vec<Entry> {
         .collect()
 }
 
+/// As many entries and intervals as a set may have, and the longest tags.
+fn longest() -> Vec<Entry> {
+    let mut entries = tags(384, 6);
+    for entry in &mut entries[..256] {
+        entry.intervals.push(interval(6));
+    }
+    entries
+}
+
 fn reversed(mut entries: Vec<Entry>) -> Vec<Entry> {
     entries.reverse();
     entries
 }
 
-/// As many intervals as 65,536 bytes hold.
+/// As many intervals of one uuid as 65,536 bytes hold, and of each of two uuids.
 const MOST: u64 = 4094;
+const MOST_OF_TWO: u64 = 2046;
 
-/// The highest interval, and then the others, rising. If they touch, the 4,093 others are 2,047 pairs, of which the
-/// last is a single one.
-fn highest_first(touching: bool) -> Vec<Entry> {
-    let one = |place: u64| {
-        let (start, end) = interval(place);
-        match touching && place % 2 == 1 {
-            true => (start - 5, end),
-            false => (start, end),
-        }
-    };
-    let mut all = vec![one(MOST)];
-    all.extend((0..MOST - 1).map(one));
+/// An interval of the highest place, and then those of the others, rising.
+fn highest_first(count: u64, one: fn(u64) -> (u64, u64)) -> Vec<(u64, u64)> {
+    let mut all = vec![one(count)];
+    all.extend((0..count - 1).map(one));
+    all
+}
+
+fn worst() -> Vec<Entry> {
+    vec![entry(b"", highest_first(MOST, interval))]
+}
+
+/// The worst one, but the last interval covers all the others.
+fn covered() -> Vec<Entry> {
+    let mut all = highest_first(MOST, interval);
+    all[MOST as usize - 1] = over_all();
     vec![entry(b"", all)]
+}
+
+fn all_of_covered() -> Vec<Entry> {
+    vec![entry(b"", vec![over_all()])]
+}
+
+fn over_all() -> (u64, u64) {
+    (interval(0).0, interval(MOST).1)
+}
+
+/// Those with an odd place touch the one before: but for the highest, 2,045 intervals are 1,023 pairs, of which the last is a single one.
+fn touching() -> Vec<Entry> {
+    let one = |place: u64| match (place % 2, interval(place)) {
+        (1, (start, end)) => (start - 5, end),
+        (_, apart) => apart,
+    };
+    let all = highest_first(MOST_OF_TWO, one);
+    several(&[all.clone(), all])
 }
 
 /// What is left of the touching ones.
 fn merged() -> Vec<Entry> {
     let pair = |number: u64| (interval(2 * number).0, interval(2 * number + 1).1);
-    let mut all: Vec<_> = (0..MOST / 2 - 1).map(pair).collect();
-    all.push(interval(MOST - 2));
-    all.push(interval(MOST));
-    vec![entry(b"", all)]
+    let mut all: Vec<_> = (0..MOST_OF_TWO / 2 - 1).map(pair).collect();
+    all.push(interval(MOST_OF_TWO - 2));
+    all.push(interval(MOST_OF_TWO));
+    several(&[all.clone(), all])
 }
 
 fn falling() -> Vec<Entry> {
@@ -1134,10 +1194,10 @@ fn stack() {
         ("gtid_read_previous", &["body-2048", "body-uuids", "body-tags"]),
         ("gtid_read_entry", &["entry-2048", "entry-tags"]),
         ("gtid_rewrite", &["rewrite-1", "rewrite-2048", "rewrite-uuids", "rewrite-tags"]),
-        ("gtid_check_set", &["check-set"]),
+        ("gtid_check_set", &["check-set", "check-set-2560", "check-set-longest"]),
         ("gtid_contains", &["contains"]),
-        ("gtid_offer", &["offer-1", "offer-2047", "offer-first", "offer-there", "offer-255-tagged", "offer-longest"]),
-        ("gtid_take_in", &["take-in-set", "take-in-worst", "take-in-merged", "take-in-uuids", "take-in-tags"]),
+        ("gtid_offer", &["offer-1", "offer-1023", "offer-first", "offer-there", "offer-2559", "offer-383-tagged", "offer-longest"]),
+        ("gtid_take_in", &["take-in-set", "take-in-longest", "take-in-worst", "take-in-covered", "take-in-merged", "take-in-uuids", "take-in-tags"]),
         ("gtid_list", &["list-35", "list-35-merged", "list-35-tags", "list-33", "list-42"]),
     ];
     println!("| call | bytes of stack | on the input |");

@@ -22,12 +22,12 @@ use Rattle.previous_gtids_event.proofs.RoundTrip.{rewritten-read-alone}
 use Rattle.gtid_sets.specs.Interval.{Gapped}
 use Rattle.gtid_sets.specs.Set.{SetForm, inSetForm, join}
 use Rattle.gtid_sets.specs.TakeIn.{Lawful, joinAll, union, takeIn}
-use Rattle.gtid_sets.specs.Limits.{intervals, fine, isFine, limits, longestSet}
+use Rattle.gtid_sets.specs.Limits.{intervals, crowds, fine, isFine, limits, longestSet}
 use Rattle.gtid_sets.specs.Lent.{Lent, form, unfit, isForm, lentRead, lentSet, GoodKeys, SetLaid}
 use Rattle.gtid_sets.proofs.SetLaws.{join-before, join-into, join-after}
 use Rattle.gtid_sets.proofs.TakeInLaws.{form-takeIn}
 use Rattle.gtid_sets.proofs.FormLaws.{form-holds, form-tests}
-use Rattle.gtid_sets.proofs.LimitLaws.{maxIntervals-is, longestSet-is, limits-says, fine-holds}
+use Rattle.gtid_sets.proofs.LimitLaws.{maxEntries-is, maxIntervals-is, longestSet-is, limits-crowded, limits-says, limits-from, fine-holds}
 use Rattle.gtid_sets.proofs.KeyLaws.{read-good}
 use Rattle.gtid_sets.proofs.ByteLaws.{body-long}
 
@@ -61,6 +61,19 @@ module _ (s : List Entry) (f : SetForm s) (g : GoodKeys s) (h : limits s ≡ fin
   pub lent-back : lentSet (bodyBytes s) ≡ form s
   unfolding lentSet
   lent-back = rw (read-back, same-self (bodyBytes s), form-tests s f, h)
+
+-- ---- sets that were saved while a set had 256 entries and 2,048 intervals at most, in however few entries: they are lent still, unless an
+-- entry has too many
+
+module _ (s : List Entry) (f : SetForm s) (g : GoodKeys s) (few : length s ≤ 256) (less : intervals s ≤ 2048) where
+  pub older-lent : crowds s ≡ 0 → lentSet (bodyBytes s) ≡ form s
+  older-lent fair = lent-back s f g (limits-from s fair (omega (arith, maxEntries-is)) (omega (arith, maxIntervals-is)))
+
+  pub older-unfit : (crowds s ≡ 0 → ⊥) → lentSet (bodyBytes s) ≡ unfit
+  unfolding lentSet
+  older-unfit some =
+      let read = rewritten-read-alone s (well-formed s f g (omega arith)) (omega (arith, body-long s g)) in
+      rw (read, same-self (bodyBytes s), form-tests s f, limits-crowded s some)
 
 -- ---- what is lent is a set
 

@@ -33,7 +33,7 @@ use Rattle.listing.proofs.KeyTextLaws.{key-most}
 use Rattle.listing.proofs.EventTextLaws.{refused-long, id-long}
 use Rattle.listing.proofs.TakenTextLaws.{taken-cases, taken-text}
 
-pub longestText-is : longestText ≡ 99882
+pub longestText-is : longestText ≡ 129322
 unfolding longestText maxEntries maxIntervals
 longestText-is = refl
 
@@ -65,7 +65,7 @@ entries-most (entry k is ∷ s) g f =
     let rest = entries-most s (g .1) (f .3) in
     simp length-append (omega arith)
 
-pub set-text-long : (word : List ℕ) (s : List Entry) → GoodKeys s → SetForm s → limits s ≡ fine → length (setText word s) ≤ length word + 28 + 256 * 70 + 2048 * 40
+pub set-text-long : (word : List ℕ) (s : List Entry) → GoodKeys s → SetForm s → limits s ≡ fine → length (setText word s) ≤ length word + 28 + 384 * 70 + 2560 * 40
 unfolding setText
 set-text-long word s g f h =
     let (few, less) = limits-says s h in
@@ -95,14 +95,14 @@ gtid-text-long type body ok = go (gtid type body) refl
         let (u, n, t) = key-parts type body (gtidRead (parsed v next)) (sym (ap gtidRead e)) refl ok in
         split (eqb type 34) (λ h. rw h (omega arith)) (λ h. rw h (id-most v u n t))
 
-taken-text-long : (body : List ℕ) → length (takenText (takenIn (previous body))) ≤ 99882
+taken-text-long : (body : List ℕ) → length (takenText (takenIn (previous body))) ≤ 129322
 taken-text-long body =
     taken-cases body (λ r e. rw e (omega (arith, refused-most (number r))))
     (λ s e lent.
     let is = lent-is (bodyBytes s) s lent in
     rw (taken-text body s e lent) (omega (arith, set-text-long previousWord s (is .keyed) (is .formed) (is .limited))))
 
-event-text-long : (type : ℕ) (body : List ℕ) → Bytes body → length (eventText type body) ≤ 99882
+event-text-long : (type : ℕ) (body : List ℕ) → Bytes body → length (eventText type body) ≤ 129322
 unfolding eventText
 event-text-long type body ok =
     split (eqb type 35) (λ h. rw h (taken-text-long body)) (λ h. rw h (omega (arith, gtid-text-long type body ok)))

@@ -66,7 +66,7 @@ output-there : (l bs : List ℕ) → length bs ≤ length l → outputOf l (byte
 unfolding outputOf
 output-there l bs h = rw (le-leb (length bs) (length l) h)
 
-module _ (body buffer set : List ℕ) (taken : Wrote) (long : length buffer ≡ 47368) (told : taken ≡ answerOf buffer (takenIn (previous body)))
+module _ (body buffer set : List ℕ) (taken : Wrote) (long : length buffer ≡ 62856) (told : taken ≡ answerOf buffer (takenIn (previous body)))
     (left : set ≡ outputOf buffer (takenIn (previous body))) where
   number-told : (r : Refusal) → takenIn (previous body) ≡ refused r → taken .refusal ≡ number r
   number-told r e = ap (λ (y : Wrote). y .refusal) (told ∙ ap (answerOf buffer) e ∙ sym (output-refused buffer r .0))

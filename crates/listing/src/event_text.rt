@@ -1,5 +1,4 @@
 // The text of an event.
-use crate::LONGEST_SET;
 use crate::digits::decimal_len;
 use crate::digits::put_decimal;
 use crate::keys::key_len;
@@ -14,6 +13,7 @@ use misc::put::put_bytes;
 use misc::refusal::ENDED;
 use misc::refusal::NO_ROOM;
 use resume_set::take_in::take_in;
+use set_check::LONGEST_SET;
 ghost use mathlib.Core.Path.{_≡_};
 ghost use Prim.Native.Nat.{_≤_};
 ghost use lib.ListN.{length};

@@ -77,3 +77,7 @@ badGno = numbered 15
 -- full: the result's set form breaks the set limits
 abbrev pub full : Refusal
 full = numbered 16
+
+-- crowded: an entry of the result's set form has more intervals than one may have (CR 11); judged just before `full`
+abbrev pub crowded : Refusal
+crowded = numbered 17

@@ -30,3 +30,5 @@ pub const NOT_A_SET: u8 = 14;
 pub const BAD_GNO: u8 = 15;
 
 pub const FULL: u8 = 16;
+
+pub const CROWDED: u8 = 17;

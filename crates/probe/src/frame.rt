@@ -2,6 +2,7 @@
 use probe_lines::parts::byte_at;
 use probe_lines::parts::u32_at;
 use probe_lines::parts::u64_at;
+use probe_listing::TEXT_ROOM;
 ghost use Prim.Native.Nat.{_<_};
 
 pub const HEAD_LEN: usize = 24;
@@ -27,10 +28,9 @@ fn two_at(s: &[u8], low: usize, high: usize) -> usize {
     wide(byte_at(s, low)) + 256 * wide(byte_at(s, high))
 }
 
-// The listing names no output length: its text goes into one of the longest text's.
 fn out_len_of(call: u8, told: usize) -> usize {
     if call == 64 {
-        return 99_882;
+        return TEXT_ROOM;
     }
     told
 }

@@ -2,7 +2,7 @@
 -- `listing-exact`, `archive-exact`, `offers-exactly`, `asks-exactly`, `sets-told`; `integers-told`, `events-told`, `bodies-told`, `listing-told`;
 -- `orders`, `zeros`, `outputs`, `rules` and `highest`. Demand 2: `records-mean`, `records-back`, `records-again`, `least-size`, `entries-back`, `entries-mean`,
 -- `building`. Demand 3: `tells-history`, `replays`, `refusals-keep`. No two cases hold at once, and what is laid out has no fault (`OneOutcome`).
--- Wrong programs don't meet the demands (`ShutOut`).
+-- Wrong programs don't meet the demands (`ShutOut`, `Crowding`).
 pub mod EdgesAgree
 -- the language: what is refused has its case, and a case forces its number
 pub mod Gives
@@ -28,6 +28,7 @@ pub mod EventExact
 pub mod BodyFaults
 pub mod BodyForced
 -- every public function
+pub mod LimitsExact
 pub mod IntegersExact
 pub mod SetsExact
 pub mod SetsTold
@@ -41,3 +42,4 @@ pub mod HighestHolds
 pub mod BuildingHolds
 pub mod OneOutcome
 pub mod ShutOut
+pub mod Crowding

@@ -33,6 +33,7 @@ use Rattle.promises.specs.Faults.{EventFault}
 use Rattle.promises.specs.Orders.{LongFirst, Orders, Zeros, Outputs}
 use Rattle.promises.proofs.TaggedRefused.{read-envelope, payload}
 use Rattle.promises.proofs.EventExact.{event-refused}
+use Rattle.promises.proofs.LimitsExact.{entry-limit}
 use Rattle.promises.proofs.SetsExact.{fault-unfit, body-read, event-named}
 
 -- ---- which of several faults counts
@@ -92,6 +93,7 @@ orders =
       small-first = small-first;
       writable-first = writable-first;
       joined-first = λ body es are is good. let (used, read) = body-read body are is in rw (read, good);
+      crowded-first = λ s over. rw (entry-limit s .1 over);
       set-first = λ set fault type body room. let (_, lent) = fault-unfit set 14 fault in rw lent (refl, refl);
       event-next = event-next;
       gno-next = λ set s type body e room are laid named gno.

@@ -7,7 +7,7 @@ use native.Mathlib.Omega.{arith}
 use lib.Dec.{eqb, leb, ltb}
 use lib.ListN.{length, drop}
 use borrow.Author.Tests.{ltb-true, leb-true, leb-false, le-leb, lt-leb, lt-ltb, eqb-true, eqb-false, ne-eqb}
-use Rattle.misc.specs.Refusal.{Refusal, number, tooLong, notASet, badGno, full}
+use Rattle.misc.specs.Refusal.{Refusal, number, tooLong, notASet, badGno, full, crowded}
 use Rattle.misc.specs.Parse.{Bytes, Parse, refuse, parsed}
 use Rattle.misc.specs.Body.{bodyLimit}
 use Rattle.misc.specs.Output.{refused, bytes, outputOf}
@@ -21,9 +21,9 @@ use Rattle.previous_gtids_event.specs.Rewrite.{bodyBytes}
 use Rattle.gtid_event.specs.declared.GtidEvent.{GtidEvent}
 use Rattle.gtid_event_read.specs.Read.{gtid}
 use Rattle.gtid_sets.specs.Interval.{within, covers, Gapped}
-use Rattle.gtid_sets.specs.Set.{has, SetForm}
+use Rattle.gtid_sets.specs.Set.{has, add, SetForm}
 use Rattle.gtid_sets.specs.TakeIn.{lawful, takeIn}
-use Rattle.gtid_sets.specs.Limits.{Judged, fine, breaks, isFine, limits, intervals, maxEntries, maxIntervals}
+use Rattle.gtid_sets.specs.Limits.{Judged, fine, breaks, limits}
 use Rattle.gtid_sets.specs.Run.{anonymous, broken, names, after}
 use Rattle.gtid_sets.specs.Lent.{Lent, form, unfit, lentSet, SetLaid}
 use Rattle.gtid_sets.proofs.LentLaws.{lent-is, is-lent, lent-none}
@@ -39,6 +39,7 @@ use Rattle.promises.specs.PlainFaults.{ShortFault}
 use Rattle.promises.specs.SetFaults.{SetFault, BodyIs, TakeInFault, TakenInAs, keyOf, Names, Accepts, OfferFault, OfferAnswer}
 use Rattle.promises.specs.Exact.{RefusesExactly, SetsExact, OffersExactly, AsksExactly, asks}
 use Rattle.promises.proofs.Forces.{WriterRefuses}
+use Rattle.promises.proofs.LimitsExact.{entry-limit, limits-refuse}
 use Rattle.promises.proofs.Exactly.{writes-exactly}
 use Rattle.promises.proofs.EventExact.{event-refused, event-faulty}
 use Rattle.promises.proofs.BodyFaults.{body-faults}
@@ -72,11 +73,6 @@ set-exact say set bad good n = (go (lentSet set) refl, forced)
 
 -- ---- `take_in`
 
--- the set limits refuse with 16 only
-limits-full : (s : List Entry) {r : Refusal} → limits s ≡ breaks r → r ≡ full
-unfolding limits
-limits-full s e = pick-either (leb (length s) maxEntries && leb (intervals s) maxIntervals) e (λ _ f. clash refl (ap isFine f)) (λ _ f. cc)
-
 body-short : (body : List ℕ) {es : List Entry} {used : ℕ} → previous body ≡ parsed es used → length body ≤ bodyLimit
 unfolding previous
 body-short body {es} {used} read = leb-true _ _ (pick-parsed (leb (length body) bodyLimit) _ tooLong es used read .0)
@@ -97,9 +93,10 @@ module _ (body : List ℕ) (are : Bytes body) where
           → savedIf j (bodyBytes (takeIn es)) ≡ refused r → TakeInFault body (number r)
       joined es is fine good told e = apart cc
       joined es is (breaks x) good told e =
-          let x-full : x ≡ full = limits-full (takeIn es) told in
-          let same : r ≡ full = cc in
-          rw same (TakeInFault.overLimits is good (rw x-full at told))
+          let same : x ≡ r = cc in
+          limits-refuse (takeIn es) (rw same at told)
+          (λ over this. rw this (TakeInFault.crowdedEntry is good over))
+          (λ over this. rw this (TakeInFault.overLimits is good over))
 
       go : (p : Parse (List Entry)) → previous body ≡ p → takenIn p ≡ refused r → TakeInFault body (number r)
       go (refuse x) read e =
@@ -112,6 +109,9 @@ module _ (body : List ℕ) (are : Bytes body) where
   pub take-in-forced : (n : ℕ) → TakeInFault body n → WriterRefuses (takenIn (previous body)) n
   take-in-forced n (TakeInFault.badBody fault) = let (r, e, is) = body-forced body are n fault in (r, rw e, is)
   take-in-forced n (TakeInFault.gnoRule is bad) = let (used, read) = body-read is in (badGno, rw (read, bad), refl)
+  take-in-forced n (TakeInFault.crowdedEntry {es = es} is good over) =
+      let (used, read) = body-read is in
+      (crowded, rw (read, good, entry-limit (takeIn es) .1 over), refl)
   take-in-forced n (TakeInFault.overLimits is good over) = let (used, read) = body-read is in (full, rw (read, good, over), refl)
 
   take-in-writes : (bs : List ℕ) → takenIn (previous body) ≡ bytes bs → TakenInAs body bs
@@ -187,6 +187,9 @@ module _ (set : List ℕ) (type : ℕ) (body : List ℕ) (out : List ℕ) (are :
       let said : eventOf type body ≡ broken r = unfold eventOf in rw e in
       rw (is-lent set s laid, said, is) (refl, out-refused out r)
   fault-forced n len (OfferFault.gnoRule {s = s} laid named bad) = rw (is-lent set s laid, event-named type body are named, bad) (refl, out-refused out badGno)
+  fault-forced n len (OfferFault.crowdedEntry {s = s} {e = e} laid named good new over) =
+      let judged = entry-limit (add (keyOf e) (e .gno) s) .1 over in
+      rw (is-lent set s laid, event-named type body are named, good, new, judged) (refl, out-refused out crowded)
   fault-forced n len (OfferFault.overLimits {s = s} laid named good new over) =
       rw (is-lent set s laid, event-named type body are named, good, new, over) (refl, out-refused out full)
   fault-forced n len (OfferFault.noRoom {after = after} laid ok (ShortFault.short over)) =
@@ -215,9 +218,9 @@ module _ (set : List ℕ) (type : ℕ) (body : List ℕ) (out : List ℕ) (are :
         (λ bad is. rw (is, out-refused out badGno) (OfferAnswer.refused (OfferFault.gnoRule laid n bad)))
         (λ good there is. rw is (fits-or-not (Accepts.already n good there)))
         (λ good new within is. rw is (fits-or-not (Accepts.taken n good new within)))
-        (λ r _ good new over is.
-        let this : r ≡ full = limits-full _ over in
-        rw (is, this, out-refused out full) (OfferAnswer.refused (OfferFault.overLimits laid n good new (rw this at over))))
+        (λ r _ good new breaking is. limits-refuse (add (keyOf e) (e .gno) s) breaking
+        (λ over this. rw (is, this, out-refused out crowded) (OfferAnswer.refused (OfferFault.crowdedEntry laid n good new over)))
+        (λ over this. rw (is, this, out-refused out full) (OfferAnswer.refused (OfferFault.overLimits laid n good new over))))
 
     event-found : (p : Parse GtidEvent) → gtid type body ≡ p
         → OfferAnswer set type body out (offeredOf s (says type p) (length out)) (outputOf out (outputFor s (says type p)))

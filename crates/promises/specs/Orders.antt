@@ -6,7 +6,7 @@ use mathlib.Core.List.{List, [], _∷_, _++_}
 use mathlib.Core.Logic.{_⊎_}
 use lib.IntN.{pos}
 use lib.ListN.{length, drop, replicate}
-use Rattle.misc.specs.Refusal.{Refusal, number, smallPayload, tooLong, notASet}
+use Rattle.misc.specs.Refusal.{Refusal, number, smallPayload, tooLong, notASet, crowded}
 use Rattle.misc.specs.Parse.{Bytes, refuse, uintRead}
 use Rattle.misc.specs.Signed.{intRead}
 use Rattle.misc.specs.Body.{bodyLimit, ofBody, unreadOf}
@@ -28,6 +28,7 @@ use Rattle.gtid_event_read.specs.Read.{gtid, gtidRead}
 use Rattle.gtid_event_write.specs.Writable.{writable}
 use Rattle.gtid_event_write.specs.Write.{eventOutput, lengthOf}
 use Rattle.gtid_sets.specs.TakeIn.{lawful, takeIn}
+use Rattle.gtid_sets.specs.Limits.{EntryOver}
 use Rattle.gtid_sets.specs.Lent.{unfit, lentSet, SetLaid}
 use Rattle.set_check.specs.Check.{checkedOf}
 use Rattle.resume_set.specs.Answers.{setRead, contained, saved, takenIn, eventOf, offered, output}
@@ -56,15 +57,17 @@ pub record Orders : Type 0 where
       → tagged (2 ∷ (a ++ (b ++ rest))) ≡ refuse smallPayload
   -- 12 before 13: a record that can't be written, whatever the output
   pub writable-first : (e : GtidEvent) (out : List ℕ) → writable e ≡ false → answerOf out (eventOutput e) ≡ record { refusal = 12; len = 0 }
-  -- 16 after joining: the limits are judged on the result
+  -- 17 and 16 after joining: the limits are judged on the result
   pub joined-first : (body : List ℕ) (es : List Entry) → Bytes body → BodyIs body es → lawful es ≡ true → takenIn (previous body) ≡ saved (takeIn es)
+  -- 17 before 16: an entry with more than 1,024 intervals counts, however many entries and intervals there are
+  pub crowded-first : (s : List Entry) → EntryOver 1024 s → saved s ≡ refused crowded
   -- in an offer 14 comes first, whatever the event and the output
   pub set-first : (set : List ℕ) → SetFault set 14 → (type : ℕ) (body : List ℕ) (room : ℕ)
       → (offered (lentSet set) (eventOf type body) room ≡ Refused 14 0) × (output (lentSet set) (eventOf type body) ≡ refused notASet)
   -- then the event's own refusals, whatever the output
   pub event-next : (set : List ℕ) (s : List Entry) (type : ℕ) (body : List ℕ) (n room : ℕ) → SetLaid set s → EventFault type body n
       → offered (lentSet set) (eventOf type body) room ≡ Refused n 0
-  -- then 15, whatever the set holds and whatever the output: "already there" and 16 are judged after it
+  -- then 15, whatever the set holds and whatever the output: "already there", 17 and 16 are judged after it
   pub gno-next : (set : List ℕ) (s : List Entry) (type : ℕ) (body : List ℕ) (e : GtidEvent) (room : ℕ) → Bytes body → SetLaid set s → Names type body e
       → (e .gno ≡ 0) ⊎ (gnoTop ≤ e .gno) → offered (lentSet set) (eventOf type body) room ≡ Refused 15 0
 

@@ -15,7 +15,7 @@ use Rattle.previous_gtids_event.specs.Layout.{BodyLaid}
 use Rattle.gtid_event.specs.declared.GtidEvent.{GtidEvent}
 use Rattle.gtid_sets.specs.Set.{has, add}
 use Rattle.gtid_sets.specs.TakeIn.{lawful, takeIn}
-use Rattle.gtid_sets.specs.Limits.{fine, breaks, limits}
+use Rattle.gtid_sets.specs.Limits.{fine, breaks, limits, EntryOver}
 use Rattle.gtid_sets.specs.Lent.{SetLaid}
 use Rattle.resume_set.specs.declared.Offered.{Offered}
 use Rattle.resume_set.specs.declared.Offered.the-variants.{NoId, AlreadyThere, Taken, Refused}
@@ -45,7 +45,9 @@ pub data TakeInFault (body : List ℕ) : ℕ → Type 0 where
   badBody : {n : ℕ} → BodyFault body n → TakeInFault body n
   -- 15: an interval breaks the gno rule
   gnoRule : {es : List Entry} → BodyIs body es → lawful es ≡ false → TakeInFault body 15
-  -- 16: the set of all its ids breaks the set limits
+  -- 17: an entry of the set of all its ids has more than 1,024 intervals
+  crowdedEntry : {es : List Entry} → BodyIs body es → lawful es ≡ true → EntryOver 1024 (takeIn es) → TakeInFault body 17
+  -- 16: none has, but the set breaks the limits of all together
   overLimits : {es : List Entry} → BodyIs body es → lawful es ≡ true → limits (takeIn es) ≡ breaks full → TakeInFault body 16
 
 -- what `take_in` writes
@@ -82,7 +84,10 @@ pub data OfferFault (set : List ℕ) (type : ℕ) (body : List ℕ) (room : ℕ)
   badEvent : {s : List Entry} {n : ℕ} → SetLaid set s → EventFault type body n → OfferFault set type body room n 0
   -- 15: the event's gno breaks the gno rule, whatever the set holds
   gnoRule : {s : List Entry} {e : GtidEvent} → SetLaid set s → Names type body e → isGno (e .gno) ≡ false → OfferFault set type body room 15 0
-  -- 16: the set with the event's id, which it has not, breaks the set limits
+  -- 17: with the event's id, which the set has not, an entry has more than 1,024 intervals
+  crowdedEntry : {s : List Entry} {e : GtidEvent} → SetLaid set s → Names type body e → isGno (e .gno) ≡ true → has s (keyOf e) (e .gno) ≡ false
+      → EntryOver 1024 (add (keyOf e) (e .gno) s) → OfferFault set type body room 17 0
+  -- 16: none has, but the set with it breaks the limits of all together
   overLimits : {s : List Entry} {e : GtidEvent} → SetLaid set s → Names type body e → isGno (e .gno) ≡ true → has s (keyOf e) (e .gno) ≡ false
       → limits (add (keyOf e) (e .gno) s) ≡ breaks full → OfferFault set type body room 16 0
   -- 13: the set after the event has more bytes than the output

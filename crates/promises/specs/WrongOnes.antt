@@ -22,7 +22,8 @@ use Rattle.gtid_event_write.specs.Layout.{fieldBytes}
 use Rattle.gtid_event_write.specs.Write.{eventOutput}
 use Rattle.gtid_sets.specs.Run.{Event, anonymous, broken, names}
 use Rattle.resume_set.specs.Answers.{eventOf}
-use Rattle.resume_set.specs.declared.Offered.the-variants.{NoId, Taken}
+use Rattle.resume_set.specs.declared.Offered.{Offered}
+use Rattle.resume_set.specs.declared.Offered.the-variants.{NoId, AlreadyThere, Taken, Refused}
 use Rattle.resume_set_laws.specs.History.{Offering}
 use Rattle.resume_set_laws.specs.Ours.{ours}
 use Rattle.packets.specs.Key.{same}
@@ -131,6 +132,26 @@ topAlone = bodyBytes (entry (replicate 16 0) (interval gnoTop (gnoTop + 1) ∷ [
 
 abbrev pub takesTop : Offering
 takesTop = onlyFor gnoTop (record { answers = λ set t. Taken (length topAlone); leaves = λ set t. outputOf (t .out) (bytes topAlone) })
+
+-- says 16 where 17 is due
+abbrev pub asFull : Offered → Offered
+asFull (NoId len) = NoId len
+asFull (AlreadyThere len) = AlreadyThere len
+asFull (Taken len) = Taken len
+asFull (Refused n len) = Refused (pick (eqb n 17) 16 n) len
+
+abbrev pub saysFull : Offering
+saysFull = record { answers = λ set t. asFull (ours .answers set t); leaves = ours .leaves }
+
+-- knows no limit for one entry: says "taken" where 17 is due
+abbrev pub asTaken : ℕ → Offered → Offered
+asTaken size (NoId len) = NoId len
+asTaken size (AlreadyThere len) = AlreadyThere len
+asTaken size (Taken len) = Taken len
+asTaken size (Refused n len) = pick (eqb n 17) (Taken size) (Refused n len)
+
+abbrev pub noEntryLimit : Offering
+noEntryLimit = record { answers = λ set t. asTaken (length set + 16) (ours .answers set t); leaves = ours .leaves }
 
 -- finds no id without a tag
 abbrev pub asksTaggedOnly : Asking

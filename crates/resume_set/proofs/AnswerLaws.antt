@@ -8,7 +8,7 @@ use native.Mathlib.Omega.{arith}
 use borrow.Author.Tests.{eq-eqb, ne-eqb}
 use lib.Dec.{leb}
 use lib.ListN.{length, take, length-append, length-replicate}
-use Rattle.misc.specs.Refusal.{Refusal, refusal, number, full}
+use Rattle.misc.specs.Refusal.{Refusal, refusal, number}
 use Rattle.misc.specs.Parse.{Parse, refuse, parsed}
 use Rattle.misc.specs.Output.{bytes, outputOf, answerOf, Placed, WhereFits}
 use Rattle.misc.specs.declared.Wrote.{Wrote}
@@ -27,19 +27,21 @@ use Rattle.gtid_event_read.specs.Read.{gtid, gtidRead}
 use Rattle.gtid_event_read.specs.declared.GtidRead.{GtidRead}
 use Rattle.gtid_event_read.proofs.Ranges.{UntaggedRange, TaggedRange, gtid-range}
 use Rattle.gtid_sets.specs.Set.{has, add}
-use Rattle.gtid_sets.specs.Limits.{Judged, fine, breaks, limits, intervals}
+use Rattle.gtid_sets.specs.Limits.{Judged, fine, breaks, limits, intervals, crowds}
 use Rattle.gtid_sets.specs.Run.{Event, names}
 use Rattle.gtid_sets.specs.Lent.{Lent, form, unfit, lentSet}
-use Rattle.gtid_sets.proofs.LimitLaws.{maxEntries-is, maxIntervals-is, limits-from, too-many-entries, too-many-intervals}
+use Rattle.gtid_sets.proofs.LimitLaws.{maxEntries-is, maxIntervals-is, limits-fair, limits-crowded, limits-from, too-many-entries, too-many-intervals}
+use Rattle.gtid_sets.proofs.LentLaws.{lent-is}
 use Rattle.set_check.specs.Check.{checkedOf}
 use Rattle.set_check.specs.declared.Checked.{Checked}
 use Rattle.set_check.proofs.PlaceLaws.{Bytes}
-use Rattle.resume_set.specs.Answers.{setRead, contained, eventOf, fitting, offeredOf, outputFor, offered, output, saved, caseOf, acceptedAs}
-use Rattle.resume_set.specs.Find.{setOf, Fits}
+use Rattle.resume_set.specs.Answers.{setRead, contained, eventOf, fitting, offeredOf, outputFor, offered, output, saved, caseOf, judgedAs, acceptedAs}
+use Rattle.resume_set.specs.Find.{setOf, Counted, Fits}
 use Rattle.resume_set.specs.declared.SetRead.{SetRead}
 use Rattle.resume_set.specs.declared.Contained.{Contained}
 use Rattle.resume_set.specs.declared.Offered.{Offered}
 use Rattle.resume_set.specs.declared.Offered.the-variants.{Refused}
+use Rattle.resume_set.specs.declared.Held.{Held}
 use Rattle.resume_set.specs.declared.Kind.{Kind}
 use Rattle.resume_set.specs.declared.Kind.the-variants as kind
 use Rattle.resume_set.proofs.SetOfLaws.{lent-set}
@@ -64,6 +66,15 @@ check-told bs c e z = go (lentSet bs) refl
           total = ap intervals same ∙ sym (ap (λ (y : Checked). y .intervals) t);
           lent = p ∙ ap form (sym same);
         }
+
+-- no entry of a set that was checked has too many intervals
+pub fits-counted : (bs : List ℕ) (c : Checked) → Fits bs c → (len : ℕ)
+    → Counted (setOf bs) (record { tagged = c .tagged; entries = c .entries; intervals = c .intervals; crowded = 0; len = len })
+fits-counted bs c f len = record {
+  count = sym (f .set .count);
+  total = sym (f .total);
+  crowd = sym (limits-fair (setOf bs) (lent-is bs (setOf bs) (f .lent) .limited));
+}
 
 pub check-unfit : (bs : List ℕ) (c : Checked) → c ≡ checkedOf (lentSet bs) → (c .refusal ≡ 0 → ⊥) → (lentSet bs ≡ unfit) × (c .refusal ≡ 14)
 check-unfit bs c e h = go (lentSet bs) refl
@@ -102,28 +113,59 @@ told-bytes : (k : Kind) (l bs : List ℕ) → acceptedAs k (answerOf l (bytes bs
 unfolding answerOf
 told-bytes k l bs = split (leb (length bs) (length l)) (λ h. rw h) (λ h. rw h)
 
--- ---- a set that was joined
+-- ---- what the limits say of a set
 
-module _ (s : List Entry) (e i : ℕ) (p : e ≡ length s) (q : i ≡ intervals s) (out : List ℕ) where
-  pub full-entries : 256 < e → (record { refusal = 16; len = 0 } ≡ answerOf out (saved s)) × (out ≡ outputOf out (saved s))
-  full-entries h = rw (too-many-entries s (omega (arith, maxEntries-is))) (output-refused out full)
+module _ (s : List Entry) (h : Held) (c : Counted s h) where
+  pub judged-crowded : 0 < h .crowded → 17 ≡ judgedAs (limits s)
+  judged-crowded some = rw (limits-crowded s (λ none. omega (arith, c .crowd)))
 
-  pub full-intervals : 2048 < i → (record { refusal = 16; len = 0 } ≡ answerOf out (saved s)) × (out ≡ outputOf out (saved s))
-  full-intervals h = rw (too-many-intervals s (omega (arith, maxIntervals-is))) (output-refused out full)
+  module _ (fair : h .crowded ≤ 0) where
+    none : crowds s ≡ 0
+    none = omega (arith, c .crowd)
 
-  module _ (few : e ≤ 256) (less : i ≤ 2048) (len : ℕ) (size : len ≡ length (bodyBytes s)) where
+    pub judged-entries : 384 < h .entries → 16 ≡ judgedAs (limits s)
+    judged-entries many = rw (too-many-entries s none (omega (arith, maxEntries-is, c .count)))
+
+    pub judged-intervals : 2560 < h .intervals → 16 ≡ judgedAs (limits s)
+    judged-intervals many = rw (too-many-intervals s none (omega (arith, maxIntervals-is, c .total)))
+
+    pub judged-fine : h .entries ≤ 384 → h .intervals ≤ 2560 → 0 ≡ judgedAs (limits s)
+    judged-fine few less = rw (limits-from s none (omega (arith, maxEntries-is, c .count)) (omega (arith, maxIntervals-is, c .total)))
+
+-- ---- a set that was made, or is to be written
+
+module _ (s : List Entry) (x : ℕ) (told : x ≡ judgedAs (limits s)) (out : List ℕ) where
+  -- either the set is refused, with this number
+  pub saved-refused : (x ≡ 0 → ⊥) → (record { refusal = x; len = 0 } ≡ answerOf out (saved s)) × (out ≡ outputOf out (saved s))
+  saved-refused some = go (limits s) refl
+    where
+      go : (j : Judged) → limits s ≡ j → (record { refusal = x; len = 0 } ≡ answerOf out (saved s)) × (out ≡ outputOf out (saved s))
+      go fine e = absurd (some (told ∙ ap judgedAs e))
+      go (breaks r) e = rw (told ∙ ap judgedAs e, e) (output-refused out r)
+
+  -- or it is within the limits
+  module _ (zero : x ≡ 0) where
     within : limits s ≡ fine
-    within = limits-from s (omega (arith, maxEntries-is)) (omega (arith, maxIntervals-is))
+    within = go (limits s) refl
+      where
+        go : (j : Judged) → limits s ≡ j → j ≡ fine
+        go fine e = refl
+        go (breaks r) e = absurd (no-zero r (sym (told ∙ ap judgedAs e) ∙ zero))
 
-    pub joined-short : length out < len → (record { refusal = 13; len = len } ≡ answerOf out (saved s)) × (out ≡ outputOf out (saved s))
-    joined-short h = rw within (output-short out (bodyBytes s) len size h)
+    pub saved-copied : (bs d : List ℕ) (w : Wrote) → bodyBytes s ≡ bs → w ≡ answerOf out (bytes bs) → d ≡ outputOf out (bytes bs)
+        → (w ≡ answerOf out (saved s)) × (d ≡ outputOf out (saved s))
+    saved-copied bs d w whole p q = rw (within, whole) (p, q)
 
-    pub joined-fits : (runs d : List ℕ) (r : ℕ) → len ≤ length out → bodyBytes s ≡ runs → WhereFits out 0 runs d r
-        → (record { refusal = 0; len = len } ≡ answerOf out (saved s)) × (d ≡ outputOf out (saved s))
-    joined-fits runs d r h b w =
-        let w′ : WhereFits out 0 (bodyBytes s) d r = rw (← b) at w in
-        let p : Placed out 0 (bodyBytes s) d r = w′ .placed (omega arith) in
-        rw within (output-fits (omega arith) (record { holds = p .holds; ends = omega (arith, size) }))
+    module _ (len : ℕ) (size : len ≡ length (bodyBytes s)) where
+      pub joined-short : length out < len → (record { refusal = 13; len = len } ≡ answerOf out (saved s)) × (out ≡ outputOf out (saved s))
+      joined-short h = rw within (output-short out (bodyBytes s) len size h)
+
+      pub joined-fits : (runs d : List ℕ) (r : ℕ) → len ≤ length out → bodyBytes s ≡ runs → WhereFits out 0 runs d r
+          → (record { refusal = 0; len = len } ≡ answerOf out (saved s)) × (d ≡ outputOf out (saved s))
+      joined-fits runs d r h b w =
+          let w′ : WhereFits out 0 (bodyBytes s) d r = rw (← b) at w in
+          let p : Placed out 0 (bodyBytes s) d r = w′ .placed (omega arith) in
+          rw within (output-fits (omega arith) (record { holds = p .holds; ends = omega (arith, size) }))
 
 -- ---- an id
 

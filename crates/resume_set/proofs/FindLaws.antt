@@ -22,9 +22,10 @@ use Rattle.previous_gtids_event.specs.Previous.{GoodKey}
 use Rattle.previous_gtids_event.specs.Rewrite.{intervalsBytes, tagBytes, entriesBytes, anyTag, headerBytes, bodyBytes}
 use Rattle.gtid_sets.specs.Interval.{insert}
 use Rattle.gtid_sets.specs.Set.{has, join, SetForm}
-use Rattle.gtid_sets.specs.Limits.{intervals}
+use Rattle.gtid_sets.specs.Limits.{summed}
 use Rattle.gtid_sets.specs.Lent.{GoodKeys}
 use Rattle.gtid_sets.proofs.Bools.{or-false-parts}
+use Rattle.gtid_sets.proofs.LimitLaws.{summed-append}
 use Rattle.gtid_sets.proofs.SetLaws.{join-before, join-into, join-after, above-misses, entry-has}
 use Rattle.previous_gtids_event.proofs.Reading.{none-or-tag-short, key-whole}
 use Rattle.previous_gtids_event.proofs.Writing.{length-header, length-intervals-bytes}
@@ -124,10 +125,6 @@ module _ (bs : List ℕ) (w : Bool) (at : ℕ) where
 
 -- ---- entries one after another
 
-pub intervals-append : (s t : List Entry) → intervals (s ++ t) ≡ intervals s + intervals t
-intervals-append [] t = omega arith
-intervals-append (entry k is ∷ s) t = rw (intervals-append s t) (omega arith)
-
 any-append : (s t : List Entry) → anyTag (s ++ t) ≡ (anyTag s || anyTag t)
 unfolding anyTag
 any-append [] t = refl
@@ -147,7 +144,7 @@ untagged-parts k is s h =
 -- the entries of front are before the key and end at a place; those of back stand from there on
 pub record Stand (bs : List ℕ) (w : Bool) (k : Key) (s : List Entry) (done at : ℕ) (front back : List Entry) : Type 0 where
   pub entries : length s ≡ length front + length back
-  pub total : intervals s ≡ intervals front + intervals back
+  pub total : (f : ℕ → ℕ) → summed f s ≡ summed f front + summed f back
   pub count : length front ≡ done
   pub bytes : drop 8 bs ≡ entriesBytes w front ++ drop at bs
   pub rest : drop at bs ≡ entriesBytes w back
@@ -178,7 +175,7 @@ passed-none bs w n k h =
       back = s;
       stand = record {
         entries = omega arith;
-        total = omega arith;
+        total = λ f. omega arith;
         count = refl;
         bytes = refl;
         rest = ap (drop 8) e ∙ drop-at (headerBytes w (length s)) (entriesBytes w s) 8 (length-header w (length s));
@@ -225,7 +222,7 @@ module _ (bs : List ℕ) (w : Bool) (k : Key) (s : List Entry) (done at : ℕ) w
     gapped = tt;
     index = sym (x .count);
     entries = omega (arith, x .entries);
-    total = omega (arith, x .total);
+    total = λ f z. omega (arith, x .total f, z);
     front-bytes = x .bytes;
     back-bytes = x .rest;
     place = omega (arith, x .place);
@@ -309,7 +306,7 @@ module _ (bs : List ℕ) (w : Bool) (k : Key) (s : List Entry) (done at : ℕ) w
               back = x .back;
               stand = record {
                 entries = rw (length-append (x .front) (e ∷ [])) (omega (arith, v .entries));
-                total = rw (intervals-append (x .front) (e ∷ [])) (omega (arith, v .total));
+                total = λ f. rw (summed-append f (x .front) (e ∷ [])) (omega (arith, v .total f));
                 count = rw (length-append (x .front) (e ∷ [])) (omega (arith, v .count));
                 bytes = v .bytes ∙ sym all;
                 rest = next-bytes;
@@ -341,7 +338,7 @@ module _ (bs : List ℕ) (w : Bool) (k : Key) (s : List Entry) (done at : ℕ) w
               gapped = rw same-intervals (v .formed .1);
               index = sym (v .count);
               entries = omega (arith, v .entries);
-              total = omega (arith, v .total, h .count);
+              total = λ f _. rw (h .count) (omega (arith, v .total f));
               front-bytes = v .bytes;
               back-bytes = next-bytes;
               place = omega (arith, v .place);

@@ -26,7 +26,6 @@ use Rattle.previous_gtids_event.specs.declared.EntryRead.{EntryRead}
 use Rattle.previous_gtids_event.specs.declared.HeaderRead.{HeaderRead}
 use Rattle.previous_gtids_event.proofs.Reading.{previous-parts}
 use Rattle.gtid_sets.specs.Set.{SetForm, join}
-use Rattle.gtid_sets.specs.Limits.{intervals}
 use Rattle.gtid_sets.specs.TakeIn.{proper, lawful, joinAll, union, takeIn}
 use Rattle.gtid_sets.specs.Lent.{GoodKeys}
 use Rattle.gtid_sets.proofs.FormLaws.{proper-holds}
@@ -35,7 +34,7 @@ use Rattle.gtid_sets.proofs.SetLaws.{form-join}
 use Rattle.gtid_sets.proofs.LentLaws.{empty-bytes, good-join}
 use Rattle.set_check.specs.Places.{numberAt, intervalsAt}
 use Rattle.set_check.proofs.GappedWalk.{intervals-more}
-use Rattle.resume_set.specs.Find.{entriesOf}
+use Rattle.resume_set.specs.Find.{entriesOf, Counted}
 use Rattle.resume_set.specs.Join.{PlanIs, planRuns}
 use Rattle.resume_set.specs.TakeIn.{heldSet, HeldIs, keyIn, EntryIs, widest, enough, Room}
 use Rattle.resume_set.specs.declared.Held.{Held}
@@ -47,14 +46,14 @@ use Rattle.resume_set.proofs.EntryLaws.{ReadEntry, body-starts, NextEnt
 -- ---- a set at the front of a buffer
 
 held-as : (bs : List ℕ) (s : List Entry) (h : Held) → take (h .len) bs ≡ bodyBytes s → SetForm s → GoodKeys s → h .len ≤ 2 ^ 40
-    → h .len ≡ length (bodyBytes s) → h .tagged ≡ anyTag s → h .entries ≡ length s → h .intervals ≡ intervals s
+    → h .len ≡ length (bodyBytes s) → h .tagged ≡ anyTag s → Counted s h
     → HeldIs bs h × (heldSet bs h ≡ s)
-held-as bs s h stands f g small len tags count total =
+held-as bs s h stands f g small len tags counted =
     let size : length (take (h .len) bs) ≡ h .len = ap length stands ∙ sym len in
     let told = set-is (take (h .len) bs) s stands f g (omega arith) in (
       record {
-        set = rw (tags, count) (told .0);
-        total = ap intervals (told .1) ∙ sym total;
+        set = rw (tags, counted .count) (told .0);
+        counted = rw (told .1) counted;
         inside = omega (arith, sym (length-take (h .len) bs) ∙ size);
       },
       told .1,
@@ -69,16 +68,15 @@ output-front l bs h = rw (le-leb (length bs) (length l) h) (take-at bs (drop (le
 
 module _ (held spare : List ℕ) (is : Held) (u t : List ℕ) (a b : ℕ) (h : HeldIs held is) (uuid : length u ≡ 16) (rule : noneOrTag t ≡ true)
     (room : Room held spare (enough (u ++ t) (heldSet held is) 1)) (plan : Plan) (planned : PlanIs (take (is .len) held) u t a b plan) where
-  pub plan-fits : plan .len ≤ length held
+  pub plan-fits : plan .after .len ≤ length held
   plan-fits =
       omega (arith, planned .len-is, enough-now (u ++ t) a b (heldSet held is) (h .set .formed) (good-key u t uuid rule), room .wide)
 
   pub interval-joined : isInterval (interval a b) ≡ true
       → (spare′ : List ℕ) (n : ℕ) → WhereFits spare 0 (planRuns (take (is .len) held) u t plan) spare′ n
-      → (held′ : List ℕ) → held′ ≡ outputOf held (bytes (take (plan .len) spare′))
-      → (r : Held) → r ≡ record { tagged = plan .tags; entries = plan .entries; intervals = plan .intervals; len = plan .len }
-      → HeldIs held′ r × (heldSet held′ r ≡ join (u ++ t) a b (heldSet held is))
-  interval-joined gnos spare′ n put held′ copied r told =
+      → (held′ : List ℕ) → held′ ≡ outputOf held (bytes (take (plan .after .len) spare′))
+      → HeldIs held′ (plan .after) × (heldSet held′ (plan .after) ≡ join (u ++ t) a b (heldSet held is))
+  interval-joined gnos spare′ n put held′ copied =
       let s = join (u ++ t) a b (heldSet held is) in
       let good = good-key u t uuid rule in
       let gno = interval-says a b gnos in
@@ -87,13 +85,12 @@ module _ (held spare : List ℕ) (is : Held) (u t : List ℕ) (a b : ℕ) (h : H
       let same = room .alike in
       let whole : planRuns (take (is .len) held) u t plan ≡ bodyBytes s = sym (planned .bytes) in
       let put′ : WhereFits spare 0 (bodyBytes s) spare′ n = rw whole at put in
-      let ready : take (plan .len) spare′ ≡ bodyBytes s =
+      let ready : take (plan .after .len) spare′ ≡ bodyBytes s =
       rw len (ap (take (length (bodyBytes s))) (output-fits (omega arith) (put′ .placed (omega arith)) .1) ∙ output-front spare (bodyBytes s) (omega arith)) in
-      let stands : take (plan .len) held′ ≡ bodyBytes s =
+      let stands : take (plan .after .len) held′ ≡ bodyBytes s =
       rw (copied, ready, len) (output-front held (bodyBytes s) (omega arith)) in
-      rw told
-      (held-as held′ s _ stands (form-join (u ++ t) a b (heldSet held is) (gno .0) (gno .1) (gno .2) (h .set .formed))
-      (good-join (u ++ t) a b (heldSet held is) good (h .set .keyed)) (omega (arith, room .small)) len (planned .tags-is) (planned .entries-is) (planned .intervals-is))
+      held-as held′ s (plan .after) stands (form-join (u ++ t) a b (heldSet held is) (gno .0) (gno .1) (gno .2) (h .set .formed))
+      (good-join (u ++ t) a b (heldSet held is) good (h .set .keyed)) (omega (arith, room .small)) len (planned .tags-is) (planned .counted)
 
 -- ---- the intervals of an entry
 
@@ -224,12 +221,12 @@ module _ (body : List ℕ) (tagged : Bool) (start : ℕ) (wanted : List Entry) (
 -- ---- all of a body, joined to the empty set
 
 abbrev pub empty : Held
-empty = record { tagged = false; entries = 0; intervals = 0; len = 8 }
+empty = record { tagged = false; entries = 0; intervals = 0; crowded = 0; len = 8 }
 
 module _ (held : List ℕ) (zeros : take 8 held ≡ 0 ∷ 0 ∷ 0 ∷ 0 ∷ 0 ∷ 0 ∷ 0 ∷ 0 ∷ []) where
   held-empty : HeldIs held empty × (heldSet held empty ≡ [])
   unfolding anyTag
-  held-empty = held-as held [] empty (zeros ∙ sym empty-bytes) tt tt (omega arith) (sym (ap length empty-bytes)) refl refl refl
+  held-empty = held-as held [] empty (zeros ∙ sym empty-bytes) tt tt (omega arith) (sym (ap length empty-bytes)) refl (record { count = refl; total = refl; crowd = refl })
 
   pub merge-starts : (spare body : List ℕ) → length held ≡ 65536 + 65536 / 24 → length spare ≡ 65536 + 65536 / 24 → refusalOf (previous body) ≡ 0
       → HeldIs held empty × Room held spare (widest (heldSet held empty) + (length body - 8 + length body / 24))

@@ -4,7 +4,7 @@ use mathlib.Core.Path.{_≡_, refl, sym, ap, _∙_}
 use mathlib.Core.Bool.{Bool, true, false, not, _&&_, _||_, or-comm}
 use mathlib.Core.List.{List, [], _∷_, _++_, append-assoc, append-nil}
 use native.Mathlib.Omega.{arith}
-use borrow.Author.Tests.{le-ltb, ltb-false}
+use borrow.Author.Tests.{le-ltb, ltb-true, ltb-false}
 use lib.Dec.{ltb}
 use lib.ListN.{length, take, drop, length-append, length-drop}
 use lib.Seq.{take-at, drop-at, drop-length}
@@ -20,10 +20,11 @@ use Rattle.previous_gtids_event.specs.Entry.{Entry, entry, uuidOf, tagOf}
 use Rattle.previous_gtids_event.specs.Rewrite.{intervalsBytes, tagBytes, entriesBytes, anyTag, headerBytes, bodyBytes}
 use Rattle.gtid_sets.specs.Interval.{Gapped, insert}
 use Rattle.gtid_sets.specs.Set.{join}
-use Rattle.gtid_sets.specs.Limits.{intervals}
+use Rattle.gtid_sets.specs.Limits.{summed, intervals, over, crowds}
 use Rattle.gtid_sets.specs.Lent.{GoodKeys}
 use Rattle.gtid_sets.specs.Splice.{earlier, takenUp, reach, from}
 use Rattle.gtid_sets.proofs.Bools.{or-swap, or-false-parts}
+use Rattle.gtid_sets.proofs.LimitLaws.{maxOfEntry-is, summed-append, over-none, over-one, crowds-most}
 use Rattle.gtid_sets.proofs.SetLaws.{join-before, join-into, join-after}
 use Rattle.gtid_sets.proofs.SpliceLaws.{insert-splice}
 use Rattle.previous_gtids_event.proofs.Writing.{length-header, length-intervals-bytes}
@@ -38,7 +39,6 @@ use Rattle.resume_set.specs.Join.{extra, SpliceIs, planRuns, PlanIs}
 use Rattle.resume_set.specs.declared.Found.{Found}
 use Rattle.resume_set.specs.declared.Splice.{Splice}
 use Rattle.resume_set.specs.declared.Plan.{Plan}
-use Rattle.resume_set.proofs.FindLaws.{intervals-append}
 use Rattle.resume_set.proofs.WalkLaws.{drop-intervals}
 
 -- ---- a splice at a place
@@ -188,12 +188,13 @@ any-join k a b (entry j is ∷ s) = key-cases k j
 pub record Small (bs : List ℕ) (n : ℕ) : Type 0 where
   pub few : 24 * n ≤ length bs
   pub total : 16 * intervals (setOf bs) ≤ length bs
+  pub crowd : crowds (setOf bs) ≤ n
   pub long : length bs ≤ 2 ^ 40
 
 pub set-small : (bs : List ℕ) (w : Bool) (n : ℕ) → IsSet bs w n → Small bs n
 set-small bs w n h =
     let least = body-least (setOf bs) (h .keyed) in
-    record { few = omega (arith, ap length (h .written), h .count); total = omega (arith, ap length (h .written)); long = h .small }
+    record { few = omega (arith, ap length (h .written), h .count); total = omega (arith, ap length (h .written)); crowd = omega (arith, crowds-most (setOf bs), h .count); long = h .small }
 
 tag-length : (v : Bool) (t : List ℕ) → length t ≤ 32 → length (tagBytes v t) ≡ extra v (1 + length t)
 tag-length true t h = rw (one-byte (length t) (omega arith)) (omega arith)
@@ -206,6 +207,11 @@ implied false x e = clash e refl
 added-is : (h : Bool) → added h ≡ extra (not h) 1
 added-is true = refl
 added-is false = refl
+
+pub extra-over : (n : ℕ) → extra (ltb 1024 n) 1 ≡ over n
+extra-over n = split (ltb 1024 n)
+    (λ h. rw (h, over-one n (omega (arith, maxOfEntry-is, ltb-true 1024 n h))))
+    (λ h. rw (h, over-none n (omega (arith, maxOfEntry-is, ltb-false 1024 n h))))
 
 added-few : (h : Bool) → added h ≤ 1
 added-few true = omega arith
@@ -236,6 +242,10 @@ module _ (bs : List ℕ) (w : Bool) (n : ℕ) (lent : IsSet bs w n) (u t : List 
   small : Small bs n
   small = set-small bs w n lent
 
+  -- the intervals are those before, of the key and after
+  all-intervals : intervals (setOf bs) ≡ intervals (is .front) + (f .count + intervals (is .back))
+  all-intervals = is .total (λ n. n) refl
+
   parts : (uuidOf (u ++ t) ≡ u) × (tagOf (u ++ t) ≡ t)
   unfolding uuidOf tagOf
   parts = (take-at u t 16 long, drop-at u t 16 long)
@@ -249,7 +259,7 @@ module _ (bs : List ℕ) (w : Bool) (n : ℕ) (lent : IsSet bs w n) (u t : List 
 
   front-run : RunIs bs w v (is .front) 8 (f .at)
   front-run = run-is bs w v (is .front) 8 (f .at) (is .front-bytes) (is .length-front) (omega (arith, is .order, is .end, is .inside)) (is .tags .0) (is .keyed .0)
-      (omega (arith, is .total, small .total, small .long)) (implied w (ltb 0 (length t)))
+      (omega (arith, all-intervals, small .total, small .long)) (implied w (ltb 0 (length t)))
 
   back-length : length (entriesBytes w (is .back)) ≡ length bs - f .next
   back-length = ap length (sym (is .back-bytes)) ∙ length-drop (f .next) bs
@@ -257,7 +267,7 @@ module _ (bs : List ℕ) (w : Bool) (n : ℕ) (lent : IsSet bs w n) (u t : List 
   back-run : RunIs bs w v (is .back) (f .next) (length bs)
   back-run = run-is bs w v (is .back) (f .next) (length bs) (is .back-bytes ∙ rw (drop-length bs) (sym (append-nil (entriesBytes w (is .back)))))
       (omega (arith, back-length, is .inside)) (omega arith) (is .tags .1) (is .keyed .1)
-      (omega (arith, is .total, small .total, small .long)) (implied w (ltb 0 (length t)))
+      (omega (arith, all-intervals, small .total, small .long)) (implied w (ltb 0 (length t)))
 
   after-length : length after ≡ n + extra (not (f .here)) 1
   unfolding after
@@ -270,10 +280,22 @@ module _ (bs : List ℕ) (w : Bool) (n : ℕ) (lent : IsSet bs w n) (u t : List 
       (ap (entriesBytes v) (is .joins a b) ∙ entriesBytes-append v (is .front) (entry (u ++ t) new ∷ is .back)
       ∙ ap (λ (x : List ℕ). entriesBytes v (is .front) ++ x) (entries-head v (u ++ t) new (is .back))))
 
-  module _ (len entries total : ℕ) (e₁ : len ≡ f .at + (24 + extra v (1 + length t) + 16 * held) + (length bs - f .next) + extra (v && not w) n)
-      (e₂ : entries ≡ n + extra (not (f .here)) 1) (e₃ : intervals (setOf bs) ≡ total) where
+  module _ (len entries total others crowded : ℕ) (e₁ : len ≡ f .at + (24 + extra v (1 + length t) + 16 * held) + (length bs - f .next) + extra (v && not w) n)
+      (e₂ : entries ≡ n + extra (not (f .here)) 1) (e₃ : total ≡ intervals (setOf bs))
+      (e₄ : others + over (f .count) ≡ crowds (setOf bs)) (e₅ : crowded ≡ others + over held) where
     abbrev plan : Plan
-    plan = record { tags = v; widen = v && not w; entries = entries; intervals = total - p .taken + 1; len = len; found = f; splice = p }
+    plan =
+        record {
+          widen = v && not w;
+          after = record { tagged = v; entries = entries; intervals = total - p .taken + 1; crowded = crowded; len = len };
+          found = f;
+          splice = p;
+        }
+
+    -- a number for each entry, added up over the set after it
+    after-summed : (g : ℕ → ℕ) → summed g after ≡ summed g (is .front) + (g held + summed g (is .back))
+    unfolding after
+    after-summed g = rw (is .joins a b, summed-append g (is .front) (entry (u ++ t) new ∷ is .back), si .count-is)
 
     back-count : entries - (1 + f .index) ≡ length (is .back)
     back-count = omega (arith, e₂, is .entries, added-is (f .here), is .index, lent .count)
@@ -305,7 +327,13 @@ module _ (bs : List ℕ) (w : Bool) (n : ℕ) (lent : IsSet bs w n) (u t : List 
           is .place,
         )))
 
-    pub plan-is : PlanIs bs u t a b (record { tags = v; widen = v && not w; entries = entries; intervals = total - p .taken + 1; len = len; found = f; splice = p })
+    pub plan-is : PlanIs bs u t a b
+        (record {
+          widen = v && not w;
+          after = record { tagged = v; entries = entries; intervals = total - p .taken + 1; crowded = crowded; len = len };
+          found = f;
+          splice = p;
+        })
     unfolding after
     plan-is = record {
       runs = record {
@@ -319,8 +347,11 @@ module _ (bs : List ℕ) (w : Bool) (n : ℕ) (lent : IsSet bs w n) (u t : List 
       bytes = plan-bytes;
       len-is = sym plan-size;
       tags-is = sym after-tags;
-      entries-is = e₂ ∙ sym after-length;
-      intervals-is = sym (rw (is .joins a b, intervals-append (is .front) (entry (u ++ t) new ∷ is .back), si .count-is) (omega (arith, is .total, e₃, si .inside)));
+      counted = record {
+        count = e₂ ∙ sym after-length;
+        total = omega (arith, after-summed (λ n. n), all-intervals, e₃, si .inside);
+        crowd = omega (arith, after-summed over, is .total over (over-none 0 (omega arith)), e₄, e₅);
+      };
       member = is .member;
       gapped = is .gapped;
       before-is = si .before-is;

@@ -35,9 +35,6 @@ module _ (s : List Entry) (bs out d : List ℕ) (w : Wrote) (whole : bodyBytes s
   pub saved-fine : limits s ≡ fine → (w ≡ answerOf out (saved s)) × (d ≡ outputOf out (saved s))
   saved-fine f = rw (f, whole) (p, q)
 
-  pub saved-few : (e i : ℕ) → length s ≡ e → intervals s ≡ i → e ≤ 256 → i ≤ 2048 → (w ≡ answerOf out (saved s)) × (d ≡ outputOf out (saved s))
-  saved-few e i j k few less = saved-fine (limits-from s (omega (arith, maxEntries-is)) (omega (arith, maxIntervals-is)))
-
 -- ---- what was read, refused or by the gno rule
 
 taken-none : (p : Parse (List Entry)) (out : List ℕ) (x : Refusal) (r : ℕ) → p ≡ refuse x → r ≡ number x

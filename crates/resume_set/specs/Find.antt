@@ -12,12 +12,13 @@ use Rattle.previous_gtids_event.specs.Previous.{entriesIn}
 use Rattle.previous_gtids_event.specs.Rewrite.{entriesBytes, anyTag, bodyBytes}
 use Rattle.gtid_sets.specs.Interval.{covers, Gapped, insert}
 use Rattle.gtid_sets.specs.Set.{has, SetForm, join}
-use Rattle.gtid_sets.specs.Limits.{intervals}
+use Rattle.gtid_sets.specs.Limits.{summed, intervals, crowds}
 use Rattle.gtid_sets.specs.Lent.{form, lentSet, GoodKeys}
 use Rattle.set_check.specs.Places.{numberAt, intervalsAt}
 use Rattle.set_check.specs.declared.Checked.{Checked}
 use Rattle.resume_set.specs.declared.EntryPlace.{EntryPlace}
 use Rattle.resume_set.specs.declared.Found.{Found}
+use Rattle.resume_set.specs.declared.Held.{Held}
 
 -- ---- the set that some bytes are, within the limits or not
 
@@ -37,6 +38,12 @@ pub record IsSet (bs : List ℕ) (w : Bool) (n : ℕ) : Type 0 where
   pub tags : anyTag (setOf bs) ≡ w
   pub count : length (setOf bs) ≡ n
   pub small : length bs ≤ 2 ^ 40
+
+-- these are its counts
+pub record Counted (s : List Entry) (h : Held) : Type 0 where
+  pub count : h .entries ≡ length s
+  pub total : h .intervals ≡ intervals s
+  pub crowd : h .crowded ≡ crowds s
 
 -- what a check that found no fault says
 pub record Fits (bs : List ℕ) (c : Checked) : Type 0 where
@@ -80,7 +87,7 @@ pub record FoundIs (bs : List ℕ) (w : Bool) (k : Key) (s : List Entry) (r : Fo
   pub gapped : Gapped 0 (old bs r)
   pub index : r .index ≡ length front
   pub entries : length s + added (r .here) ≡ length front + (1 + length back)
-  pub total : intervals s ≡ intervals front + (r .count + intervals back)
+  pub total : (f : ℕ → ℕ) → f 0 ≡ 0 → summed f s ≡ summed f front + (f (r .count) + summed f back)
   pub front-bytes : drop 8 bs ≡ entriesBytes w front ++ drop (r .at) bs
   pub back-bytes : drop (r .next) bs ≡ entriesBytes w back
   pub place : 8 ≤ r .at

@@ -10,10 +10,9 @@ use Rattle.previous_gtids_event.specs.Entry.{Entry, entry, tagOf}
 use Rattle.previous_gtids_event.specs.Previous.{noneOrTag}
 use Rattle.previous_gtids_event.specs.Rewrite.{entriesBytes}
 use Rattle.previous_gtids_event.specs.declared.EntryRead.{EntryRead}
-use Rattle.gtid_sets.specs.Limits.{intervals}
 use Rattle.gtid_sets.specs.TakeIn.{proper}
 use Rattle.set_check.specs.Places.{intervalsAt}
-use Rattle.resume_set.specs.Find.{setOf, IsSet}
+use Rattle.resume_set.specs.Find.{setOf, IsSet, Counted}
 use Rattle.resume_set.specs.declared.Held.{Held}
 
 -- ---- a set in a work buffer
@@ -23,7 +22,7 @@ heldSet bs h = setOf (take (h .len) bs)
 
 pub record HeldIs (bs : List ℕ) (h : Held) : Type 0 where
   pub set : IsSet (take (h .len) bs) (h .tagged) (h .entries)
-  pub total : intervals (heldSet bs h) ≡ h .intervals
+  pub counted : Counted (heldSet bs h) h
   pub inside : h .len ≤ length bs
 
 -- ---- an entry of a body

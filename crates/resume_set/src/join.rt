@@ -1,4 +1,5 @@
 // Joining an interval of a key to a set: first the plan, which writes nothing, and then the set as planned.
+use crate::Held;
 use crate::Plan;
 use crate::find::find;
 use crate::intervals::splice_at;
@@ -7,21 +8,24 @@ use crate::put::put_head;
 use crate::put::put_spliced;
 use misc::Wrote;
 use misc::bytes::write_bytes;
+use misc::refusal::CROWDED;
 use misc::refusal::FULL;
 use misc::refusal::NO_ROOM;
 use previous_gtids_event::rewrite::put_header;
 use set_check::MAX_ENTRIES;
 use set_check::MAX_INTERVALS;
+use set_check::MAX_OF_ENTRY;
 ghost use mathlib.Core.Path.{_≡_};
-ghost use mathlib.Core.List.{_++_};
+ghost use mathlib.Core.List.{List, _++_};
 ghost use Prim.Native.Nat.{_+_, _≤_, _<_};
 ghost use lib.ListN.{length};
 ghost use Rattle.misc.specs.Output.{outputOf, answerOf, WhereFits};
+ghost use Rattle.previous_gtids_event.specs.Entry.{Entry};
 ghost use Rattle.previous_gtids_event.specs.Rewrite.{bodyBytes};
 ghost use Rattle.gtid_sets.specs.Set.{join};
-ghost use Rattle.gtid_sets.specs.Limits.{intervals};
-ghost use Rattle.resume_set.specs.Answers.{saved};
-ghost use Rattle.resume_set.specs.Find.{setOf, IsSet};
+ghost use Rattle.gtid_sets.specs.Limits.{over, limits};
+ghost use Rattle.resume_set.specs.Answers.{saved, judgedAs};
+ghost use Rattle.resume_set.specs.Find.{setOf, IsSet, Counted};
 ghost use Rattle.resume_set.specs.Join.{extra, PlanIs, Runs, planRuns};
 
 // How many bytes, if they are wanted.
@@ -34,23 +38,23 @@ fn gained(wanted: bool, count: usize) -> usize
     0
 }
 
+// 1 for more intervals than one entry may have.
+fn over(count: usize) -> usize
+    ensures { λ r. ⌜ (r ≡ over count) × (r ≤ 1) ⌝ }
+{
+    gained(MAX_OF_ENTRY < count, 1)
+}
+
 // How the set grows by the interval from a up to b of a key.
-pub(crate) fn plan_join(
-    set: &[u8],
-    tagged: bool,
-    count: usize,
-    total: usize,
-    uuid: &[u8],
-    tag: &[u8],
-    a: u64,
-    b: u64,
-) -> Plan
-    requires { ⌜ IsSet (now set) tagged count ⌝ }
-    requires { ⌜ intervals (setOf (now set)) ≡ total ⌝ }
+pub(crate) fn plan_join(set: &[u8], is: Held, uuid: &[u8], tag: &[u8], a: u64, b: u64) -> Plan
+    requires { ⌜ IsSet (now set) (is .tagged) (is .entries) ⌝ }
+    requires { ⌜ Counted (setOf (now set)) is ⌝ }
     requires { ⌜ (length (now uuid) ≡ 16) × (length (now tag) ≤ 32) ⌝ }
     requires { ⌜ a < b ⌝ }
     ensures { λ r. ⌜ PlanIs (now (set .entry)) (now (uuid .entry)) (now (tag .entry)) a b r ⌝ }
 {
+    let tagged = is.tagged;
+    let count = is.entries;
     let found = find(set, tagged, count, uuid, tag);
     let splice = splice_at(set, found.first, found.count, a, b);
     let tags = tagged | (0 < tag.len());
@@ -62,12 +66,16 @@ pub(crate) fn plan_join(
         + (set.len() - found.next)
         + gained(widen, count);
     let added = gained(!here, 1);
+    let others = is.crowded - over(found.count);
     Plan {
-        tags,
         widen,
-        entries: count + added,
-        intervals: total - splice.taken + 1,
-        len,
+        after: Held {
+            tagged: tags,
+            entries: count + added,
+            intervals: is.intervals - splice.taken + 1,
+            crowded: others + over(held),
+            len,
+        },
         found,
         splice,
     }
@@ -81,9 +89,9 @@ pub(crate) fn put_joined(set: &[u8], uuid: &[u8], tag: &[u8], plan: Plan, out: &
     let found = plan.found;
     let splice = plan.splice;
     let held = found.count - splice.taken + 1;
-    let at0 = put_header(plan.entries as u64, plan.tags, out, 0);
+    let at0 = put_header(plan.after.entries as u64, plan.after.tagged, out, 0);
     let at1 = put_entries(set, 8, found.at, found.index, plan.widen, out, at0);
-    let at2 = put_head(uuid, tag, plan.tags, held, out, at1);
+    let at2 = put_head(uuid, tag, plan.after.tagged, held, out, at1);
     let at3 = put_spliced(
         set,
         found.first,
@@ -95,27 +103,35 @@ pub(crate) fn put_joined(set: &[u8], uuid: &[u8], tag: &[u8], plan: Plan, out: &
         out,
         at2,
     );
-    let left = plan.entries - (1 + found.index);
+    let left = plan.after.entries - (1 + found.index);
     put_entries(set, found.next, set.len(), left, plan.widen, out, at3)
 }
 
+// What the limits say of a set: 17 if an entry has too many intervals, else 16 if there are too many entries or intervals, else 0.
+fn judge(is: Held) -> u8
+    ensures { λ r. ⌜ ((s : List Entry) → Counted s is → r ≡ judgedAs (limits s)) ⌝ }
+{
+    if 0 < is.crowded {
+        return CROWDED;
+    }
+    if MAX_ENTRIES < is.entries {
+        return FULL;
+    }
+    if MAX_INTERVALS < is.intervals {
+        return FULL;
+    }
+    0
+}
+
 // Writes a set that has been made, if it is within the limits and there is room.
-pub(crate) fn write_set(set: &[u8], count: usize, total: usize, out: &mut [u8]) -> Wrote
-    requires { ⌜ (bodyBytes (setOf (now set)) ≡ now set) × (length (setOf (now set)) ≡ count) × (intervals (setOf (now set)) ≡ total) ⌝ }
+pub(crate) fn write_set(set: &[u8], is: Held, out: &mut [u8]) -> Wrote
+    requires { ⌜ (bodyBytes (setOf (now set)) ≡ now set) × Counted (setOf (now set)) is ⌝ }
     ensures { λ r. ⌜ r ≡ answerOf (now (out .entry)) (saved (setOf (now (set .entry)))) ⌝ }
     ensures { λ _. ⌜ now (out .exit) ≡ outputOf (now (out .entry)) (saved (setOf (now (set .entry)))) ⌝ }
 {
-    if MAX_ENTRIES < count {
-        return Wrote {
-            refusal: FULL,
-            len: 0,
-        };
-    }
-    if MAX_INTERVALS < total {
-        return Wrote {
-            refusal: FULL,
-            len: 0,
-        };
+    let refusal = judge(is);
+    if refusal != 0 {
+        return Wrote { refusal, len: 0 };
     }
     write_bytes(set, out)
 }
@@ -134,19 +150,11 @@ pub(crate) fn write_joined(
     ensures { λ r. ⌜ r ≡ answerOf (now (out .entry)) (saved (join (now (uuid .entry) ++ now (tag .entry)) a b (setOf (now (set .entry))))) ⌝ }
     ensures { λ _. ⌜ now (out .exit) ≡ outputOf (now (out .entry)) (saved (join (now (uuid .entry) ++ now (tag .entry)) a b (setOf (now (set .entry))))) ⌝ }
 {
-    if MAX_ENTRIES < plan.entries {
-        return Wrote {
-            refusal: FULL,
-            len: 0,
-        };
+    let len = plan.after.len;
+    let refusal = judge(plan.after);
+    if refusal != 0 {
+        return Wrote { refusal, len: 0 };
     }
-    if MAX_INTERVALS < plan.intervals {
-        return Wrote {
-            refusal: FULL,
-            len: 0,
-        };
-    }
-    let len = plan.len;
     if out.len() < len {
         return Wrote {
             refusal: NO_ROOM,

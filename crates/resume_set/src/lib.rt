@@ -91,21 +91,20 @@ pub(crate) struct Splice {
     pub(crate) end: u64,
 }
 
-// A set in a work buffer: whether it has tags, its counts and its length.
+// What is known of a set in set form: whether it has tags; how many entries, intervals, and entries with too many intervals it has; and its
+// length.
 pub(crate) struct Held {
     pub(crate) tagged: bool,
     pub(crate) entries: usize,
     pub(crate) intervals: usize,
+    pub(crate) crowded: usize,
     pub(crate) len: usize,
 }
 
-// How a set grows by an interval: whether it then has tags, and had none; its counts and its length; and where the interval goes.
+// How a set grows by an interval: whether tags come to it; what it is then; and where the interval goes.
 pub(crate) struct Plan {
-    pub(crate) tags: bool,
     pub(crate) widen: bool,
-    pub(crate) entries: usize,
-    pub(crate) intervals: usize,
-    pub(crate) len: usize,
+    pub(crate) after: Held,
     pub(crate) found: Found,
     pub(crate) splice: Splice,
 }
@@ -189,16 +188,14 @@ fn offer_id(
     if !lawful {
         return Offered::Refused(BAD_GNO, 0);
     }
-    let plan = join::plan_join(
-        set,
-        checked.tagged,
-        checked.entries,
-        checked.intervals,
-        uuid,
-        tag,
-        gno,
-        gno + 1,
-    );
+    let is = Held {
+        tagged: checked.tagged,
+        entries: checked.entries,
+        intervals: checked.intervals,
+        crowded: 0,
+        len: set.len(),
+    };
+    let plan = join::plan_join(set, is, uuid, tag, gno, gno + 1);
     let present = intervals::covers_at(
         set,
         plan.found.first,
@@ -215,7 +212,8 @@ fn offer_id(
 }
 
 // Offers an event to a set: "no id" for type 34, "already there" or "taken", and the set after it is written. Refused are bytes that
-// are no set (14), what reading the event refuses, a gno outside its rule (15), a full set (16) and an output that is too short (13).
+// are no set (14), what reading the event refuses, a gno outside its rule (15), an entry (17) or a set (16) that would be too great, and
+// an output that is too short (13).
 pub fn offer(set: &[u8], event_type: u8, body: &[u8], out: &mut [u8]) -> Offered
     ensures { λ r. ⌜ r ≡ offerAnswers (now (set .entry)) «event_type» (now (body .entry)) (now (out .entry)) ⌝ }
     ensures { λ _. ⌜ now (out .exit) ≡ offerLeaves (now (set .entry)) «event_type» (now (body .entry)) (now (out .entry)) ⌝ }

@@ -97,28 +97,12 @@ fn join_interval(
     ensures { λ r. ⌜ heldSet (now (held .exit)) r ≡ join (now (uuid .entry) ++ now (tag .entry)) a b (heldSet (now (held .entry)) is) ⌝ }
 {
     let len = is.len;
-    let plan = plan_join(
-        &held[..len],
-        is.tagged,
-        is.entries,
-        is.intervals,
-        uuid,
-        tag,
-        a,
-        b,
-    );
-    let tagged = plan.tags;
-    let entries = plan.entries;
-    let intervals = plan.intervals;
-    let next = plan.len;
+    let plan = plan_join(&held[..len], is, uuid, tag, a, b);
+    let after = plan.after;
+    let next = after.len;
     put_joined(&held[..len], uuid, tag, plan, spare);
     write_bytes(&spare[..next], held);
-    Held {
-        tagged,
-        entries,
-        intervals,
-        len: next,
-    }
+    after
 }
 
 // Joins the intervals of an entry of the body to the set in `held`.
@@ -179,14 +163,16 @@ fn merge(body: &[u8], out: &mut [u8]) -> Wrote
         tagged: false,
         entries: 0,
         intervals: 0,
+        crowded: 0,
         len: 8,
     };
     let set = join_body(body, &mut held, &mut spare, empty);
-    write_set(&held[..set.len], set.entries, set.intervals, out)
+    let len = set.len;
+    write_set(&held[..len], set, out)
 }
 
 // Takes in a body: the set of all its ids is written, in set form. Refused are bodies that can't be read (11, 1, 6), an interval outside
-// the gno rule (15), more than a set may hold (16) and an output that is too short (13).
+// the gno rule (15), more than an entry (17) or a set may hold (16) and an output that is too short (13).
 pub fn take_in(body: &[u8], out: &mut [u8]) -> Wrote
     ensures { λ r. ⌜ r ≡ takeInAnswers (now (body .entry)) (now (out .entry)) ⌝ }
     ensures { λ _. ⌜ now (out .exit) ≡ takeInLeaves (now (body .entry)) (now (out .entry)) ⌝ }

@@ -5,7 +5,7 @@ use mathlib.Core.Bool.{Bool, true, false, _&&_, _||_}
 use mathlib.Core.List.{List, [], _∷_, _++_}
 use lib.ListN.{length, take}
 use lib.Dec.{ltb, eqb}
-use Rattle.misc.specs.Refusal.{number, noRoom, full}
+use Rattle.misc.specs.Refusal.{number, noRoom, full, crowded}
 use Rattle.misc.specs.Parse.{Bytes}
 use Rattle.packets.specs.Key.{Key}
 use Rattle.previous_gtids_event.specs.Entry.{Entry}
@@ -91,12 +91,12 @@ TellsHistory f = (body : List ℕ) (es : List Entry) (set : List ℕ) (ts : List
 
 -- ---- replay
 
--- refused for full
+-- refused for full: the set would pass its limits (16), or an entry its own (17)
 abbrev pub forFull : Offered → Bool
 forFull (NoId len) = false
 forFull (AlreadyThere len) = false
 forFull (Taken len) = false
-forFull (Refused n len) = eqb n (number full)
+forFull (Refused n len) = eqb n (number full) || eqb n (number crowded)
 
 -- refused for room: with the length that is needed
 abbrev pub forRoom : Offered → Bool
@@ -122,7 +122,7 @@ SameEvents [] (u ∷ us) = ⊥
 SameEvents (t ∷ ts) [] = ⊥
 SameEvents (t ∷ ts) (u ∷ us) = (t .type ≡ u .type) × (t .body ≡ u .body) × SameEvents ts us
 
--- a run that was never refused for full, stopped after some offers, saved, and fed the whole list again from the start ends with
+-- a run that was never refused for full, with 16 or 17, stopped after some offers, saved, and fed the whole list again from the start ends with
 -- identical bytes; and the second run is refused neither for full nor for room
 abbrev pub Replays : Offering → Type 0
 Replays f = (body : List ℕ) (es : List Entry) (set : List ℕ) (before after again : List Turn) → TakesIn body es set

@@ -1,5 +1,5 @@
 -- Laws of the check: its loop, and what a whole set is.
-use Prim.Native.Nat.{ℕ, suc, _+_, _-_, _*_, _≤_}
+use Prim.Native.Nat.{ℕ, suc, _+_, _-_, _*_, _<_, _≤_}
 use mathlib.Core.Path.{_≡_, refl, sym, ap, _∙_}
 use mathlib.Core.Bool.{Bool, true, false, not, _||_, _&&_}
 use mathlib.Core.List.{List, [], _∷_, _++_}
@@ -14,7 +14,7 @@ use Rattle.previous_gtids_event.specs.Rewrite.{entriesBytes, anyTag, headerByte
 use Rattle.gtid_sets.specs.Set.{Above}
 use Rattle.gtid_sets.specs.Limits.{maxEntries, maxIntervals, intervals}
 use Rattle.gtid_sets.specs.Lent.{form, lentSet, GoodKeys, SetLaid}
-use Rattle.gtid_sets.proofs.LimitLaws.{limits-says, limits-from}
+use Rattle.gtid_sets.proofs.LimitLaws.{limits-fair, limits-says, limits-from}
 use Rattle.previous_gtids_event.proofs.Writing.{length-header}
 use Rattle.gtid_sets.proofs.LentLaws.{is-lent, lent-none}
 use Rattle.set_check.specs.Check.{checkedOf, HeaderIs, NoHeader, EntryIs, NoEntry, Rest, Whole}
@@ -38,15 +38,15 @@ pub walked-none : (bs : List ℕ) (w : Bool) (count : ℕ) → Walked bs w count
 walked-none bs w count = record { on = λ p. p; back = λ p. p; total = λ q. omega arith }
 
 module _ (bs : List ℕ) (w : Bool) (count n at : ℕ) (low : Key) (used : ℕ) (any : Bool) (v : Walked bs w count (suc n) at low used any) where
-  pub walked-not : NoEntry bs w at low (maxIntervals - used) → Rest bs w count 8 [] 0 false → ⊥
+  pub walked-not : NoEntry bs w at low → Rest bs w count 8 [] 0 false → ⊥
   walked-not none p = rest-not bs w n at low used any none (v .on p)
 
-  pub walked-next : Bytes bs → (r : Head) (h : EntryIs bs w at low (maxIntervals - used) r) → used ≤ maxIntervals
+  pub walked-next : Bytes bs → (r : Head) (h : EntryIs bs w at low r)
       → Walked bs w count n (r .first + 16 * r .count) (h .head .key) (used + r .count) (any || ltb 0 (r .«tag_len»))
-  walked-next ok r h u = record {
+  walked-next ok r h = record {
     on = λ p. rest-after bs w n at low used any r h (v .on p);
-    back = λ q. v .back (rest-before bs w n at low used any r h u ok q);
-    total = λ q. v .total (rest-before bs w n at low used any r h u ok q) ∙ omega (arith, same-total bs w n at low used any r h u ok q);
+    back = λ q. v .back (rest-before bs w n at low used any r h ok q);
+    total = λ q. v .total (rest-before bs w n at low used any r h ok q) ∙ omega (arith, same-total bs w n at low used any r h ok q);
   }
 
 agree : (a b : Bool) → (a && b) || not (a || b) ≡ true → b || false ≡ a
@@ -80,6 +80,9 @@ module _ (bs : List ℕ) (w : Bool) (count at : ℕ) (low : Key) (used : ℕ) (a
   pub walked-untagged : (w && any) || not (w || any) ≡ false → Rest bs w count 8 [] 0 false → ⊥
   walked-untagged f p = clash (agreed w any (nothing-left bs w at low used any (v .on p) .1)) f
 
+  pub walked-many : maxIntervals < used → Rest bs w count 8 [] 0 false → ⊥
+  walked-many m p = omega (arith, v .on p .limit)
+
   pub walked-whole : at ≡ length bs → used ≤ maxIntervals → (w && any) || not (w || any) ≡ true
       → Whole bs w count (record { ok = true; intervals = used })
   unfolding entriesBytes anyTag
@@ -91,6 +94,7 @@ module _ (bs : List ℕ) (w : Bool) (count at : ℕ) (low : Key) (used : ℕ) (a
         formed = tt;
         above = tt;
         keyed = tt;
+        fair = refl;
         limit = omega arith;
         tags = agree w any t;
       } in
@@ -121,6 +125,7 @@ lent-rest bs s l =
         formed = l .formed;
         above = all-above s (l .keyed);
         keyed = l .keyed;
+        fair = limits-fair s (l .limited);
         limit = omega arith;
         tags = refl;
       },
@@ -152,7 +157,7 @@ module _ (bs : List ℕ) (r : Header) (h : HeaderIs bs r) where
         written = h .is ∙ rw (t, q .count, q .is);
         formed = q .formed;
         keyed = q .keyed;
-        limited = limits-from (q .set) (omega (arith, q .count, h .few)) (omega (arith, q .limit));
+        limited = limits-from (q .set) (q .fair) (omega (arith, q .count, h .few)) (omega (arith, q .limit));
       })
 
   pub check-whole : (x : Entries) (q : Whole bs (r .tagged) (r .count) x)

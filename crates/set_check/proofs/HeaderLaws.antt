@@ -13,7 +13,7 @@ use Rattle.set_check.specs.Places.{numberAt}
 use Rattle.set_check.specs.Check.{HeaderIs, NoHeader}
 use Rattle.set_check.proofs.PlaceLaws.{Bytes, cut-there, number-stands, number-there}
 
-few : (n : ℕ) → n ≤ maxEntries → n ≤ 256
+few : (n : ℕ) → n ≤ maxEntries → n ≤ 384
 few n h = omega (arith, maxEntries-is)
 
 -- the header is the number that stands there
@@ -38,7 +38,7 @@ module _ (bs : List ℕ) where
       let l : length bs ≡ length (headerBytes w n) + length x = ap length e ∙ length-append (headerBytes w n) x in
       omega (arith, length-header w n)
 
-  pub header-is : Bytes bs → 8 ≤ length bs → (w : Bool) (n : ℕ) → n ≤ 256 → numberAt bs 0 ≡ headerNumber w n
+  pub header-is : Bytes bs → 8 ≤ length bs → (w : Bool) (n : ℕ) → n ≤ 384 → numberAt bs 0 ≡ headerNumber w n
       → HeaderIs bs (record { ok = true; tagged = w; count = n })
   header-is ok h w n k e = record {
     is = rw (header-number w n (omega arith), ← e, number-stands bs ok 0 (omega arith)) (cut-there bs 0 8);
@@ -46,7 +46,7 @@ module _ (bs : List ℕ) where
     there = h;
   }
 
-  module _ (v : ℕ) (is : v ≡ numberAt bs 0) (many : 256 < v) where
+  module _ (v : ℕ) (is : v ≡ numberAt bs 0) (many : 384 < v) where
     -- a greater number is that of a tagged header
     header-tagged : (w : Bool) (n : ℕ) (x : List ℕ) → n ≤ maxEntries → bs ≡ headerBytes w n ++ x → v ≡ 2 ^ 56 + n * 256 + 1
     header-tagged false n x h e = absurd (omega (arith, few n h, header-there bs false n x h e))
@@ -58,5 +58,5 @@ module _ (bs : List ℕ) where
     pub header-odd : 2 ^ 56 + 1 ≤ v → ((v - (2 ^ 56 + 1)) % 256 ≡ 0 → ⊥) → NoHeader bs
     header-odd h o w n x k e = let t = header-tagged w n x k e in o (omega arith)
 
-    pub header-many : 2 ^ 56 + 1 ≤ v → 256 < (v - (2 ^ 56 + 1)) / 256 → NoHeader bs
+    pub header-many : 2 ^ 56 + 1 ≤ v → 384 < (v - (2 ^ 56 + 1)) / 256 → NoHeader bs
     header-many h o w n x k e = omega (arith, few n k, header-tagged w n x k e)

@@ -5,8 +5,8 @@ use mathlib.Core.Logic.{_⊎_, inl, inr}
 use mathlib.Core.Bool.{Bool, true, false, _||_, or-assoc}
 use mathlib.Core.List.{List, [], _∷_, _++_, append-assoc}
 use native.Mathlib.Omega.{arith}
-use lib.Dec.{ltb}
-use borrow.Author.Tests.{ltb-false}
+use lib.Dec.{ltb, leb}
+use borrow.Author.Tests.{ltb-false, leb-true}
 use lib.ListN.{length, drop, length-append}
 use Rattle.misc.specs.Parse.{part}
 use Rattle.misc.specs.Le.{leOf, leBytes}
@@ -15,18 +15,18 @@ use Rattle.misc.proofs.LeLaws.{length-leBytes, leOf-leBytes}
 use Rattle.packets.specs.Gno.{Interval}
 use Rattle.packets.specs.Key.{Key, order, orElse, orderRead, _≺_}
 use Rattle.packets.specs.declared.KeyOrder.{KeyOrder}
-use Rattle.packets.proofs.Tests.{clash}
+use Rattle.packets.proofs.Tests.{split, clash}
 use Rattle.packets.proofs.Keys.{order-append}
 use Rattle.previous_gtids_event.specs.Entry.{Entry, entry, uuidOf, tagOf}
 use Rattle.previous_gtids_event.specs.Previous.{GoodKey}
 use Rattle.previous_gtids_event.specs.Rewrite.{intervalsBytes, entryBytes, entriesBytes, anyTag}
 use Rattle.gtid_sets.specs.Interval.{Gapped, gapped, Some}
 use Rattle.gtid_sets.specs.Set.{Above, SetForm}
-use Rattle.gtid_sets.specs.Limits.{maxIntervals, intervals}
+use Rattle.gtid_sets.specs.Limits.{maxIntervals, maxOfEntry, intervals, crowds}
 use Rattle.gtid_sets.specs.Lent.{GoodKeys}
 use Rattle.gtid_sets.proofs.Bools.{or-false-parts}
 use Rattle.gtid_sets.proofs.FormLaws.{gapped-holds, gapped-tests}
-use Rattle.gtid_sets.proofs.LimitLaws.{maxIntervals-is}
+use Rattle.gtid_sets.proofs.LimitLaws.{maxIntervals-is, maxOfEntry-is, over-none}
 use Rattle.gtid_sets.proofs.ByteLaws.{append-parts}
 use Rattle.previous_gtids_event.proofs.Reading.{key-whole}
 use Rattle.previous_gtids_event.proofs.Writing.{length-intervals-bytes}
@@ -114,14 +114,16 @@ more-some (i ∷ is) h = tt
 
 -- ---- the tests of `entry_above`
 
-module _ (bs : List ℕ) (w : Bool) (at : ℕ) (low : Key) (room : ℕ) where
-  pub entry-headless : NoHead bs w at → NoEntry bs w at low room
-  entry-headless h k is x o s g f p e z =
-      h k (length is) (intervalsBytes is ++ x) o (some-more is s) (omega arith) (rw (length-append, length-intervals-bytes is) (omega arith)) e
+module _ (bs : List ℕ) (w : Bool) (at : ℕ) (low : Key) where
+  pub entry-headless : NoHead bs w at → NoEntry bs w at low
+  entry-headless h k is x o s g f p e =
+      h k (length is) (intervalsBytes is ++ x) o (some-more is s) (omega (arith, maxOfEntry-is)) (rw (length-append, length-intervals-bytes is) (omega arith)) e
 
   module _ (r : Head) (h : HeadIs bs w at r) where
-    pub entry-many : room < r .count → NoEntry bs w at low room
-    entry-many m k is x o s g f p e z = let c = only-count bs w at r h k (length is) _ o (omega arith) e in omega arith
+    pub entry-many : 1024 < r .count → NoEntry bs w at low
+    entry-many m k is x o s g f p e =
+        let c = only-count bs w at r h k (length is) _ o (omega (arith, maxOfEntry-is)) e in
+        omega (arith, maxOfEntry-is)
 
     -- the intervals are those that stand there
     only-intervals : (k : Key) (is : List Interval) (x : List ℕ) → KeyOk w k → Gapped 0 is → length is < 2 ^ 64
@@ -130,19 +132,24 @@ module _ (bs : List ℕ) (w : Bool) (at : ℕ) (low : Key) (room : ℕ) where
         rw (only-count bs w at r h k (length is) _ o m e)
         (intervals-there bs (r .first) is x (only-after bs w at r h k (length is) _ o m e) (gapped-wide 0 is g))
 
-    pub entry-ungapped : gapped 0 (intervalsAt (r .count) bs (r .first)) ≡ false → NoEntry bs w at low room
-    entry-ungapped u k is x o s g f p e z = clash (gapped-tests 0 is g) (rw (only-intervals k is x o g (omega arith) e) at u)
+    pub entry-ungapped : gapped 0 (intervalsAt (r .count) bs (r .first)) ≡ false → NoEntry bs w at low
+    entry-ungapped u k is x o s g f p e = clash (gapped-tests 0 is g) (rw (only-intervals k is x o g (omega (arith, maxOfEntry-is)) e) at u)
 
-    pub entry-low : (low ≺ h .key → ⊥) → NoEntry bs w at low room
-    entry-low u k is x o s g f p e z = u (rw (only-key bs w at r h k (length is) _ o (omega arith) e) p)
+    pub entry-low : (low ≺ h .key → ⊥) → NoEntry bs w at low
+    entry-low u k is x o s g f p e = u (rw (only-key bs w at r h k (length is) _ o (omega (arith, maxOfEntry-is)) e) p)
 
-    pub entry-is : r .count ≤ room → gapped 0 (intervalsAt (r .count) bs (r .first)) ≡ true → low ≺ h .key → EntryIs bs w at low room r
-    entry-is f g p = record { head = h; few = f; gapped = gapped-holds 0 (intervalsAt (r .count) bs (r .first)) g; rises = p }
+    pub entry-is : r .count ≤ 1024 → gapped 0 (intervalsAt (r .count) bs (r .first)) ≡ true → low ≺ h .key → EntryIs bs w at low r
+    entry-is f g p = record { head = h; few = omega (arith, maxOfEntry-is); gapped = gapped-holds 0 (intervalsAt (r .count) bs (r .first)) g; rises = p }
 
 -- ---- the rest from an entry on, and from the next
 
-module _ (bs : List ℕ) (w : Bool) (n at : ℕ) (low : Key) (used : ℕ) (any : Bool) (r : Head) (h : EntryIs bs w at low (maxIntervals - used) r)
-    (under : used ≤ maxIntervals) where
+-- no entry has too many: not the first, and none after it
+first-fair : (k : Key) (is : List Interval) (s : List Entry) → crowds (entry k is ∷ s) ≡ 0 → (length is ≤ maxOfEntry) × (crowds s ≡ 0)
+first-fair k is s none = split (leb (length is) maxOfEntry)
+    (λ h. let rest : 0 + crowds s ≡ 0 = rw h at none in (leb-true _ _ h, omega arith))
+    (λ h. let more : 1 + crowds s ≡ 0 = rw h at none in absurd (omega arith))
+
+module _ (bs : List ℕ) (w : Bool) (n at : ℕ) (low : Key) (used : ℕ) (any : Bool) (r : Head) (h : EntryIs bs w at low r) where
   len-is : r .«tag_len» ≡ length (tagOf (h .head .key))
   len-is = sym (part-length (r .«tag_len») bs (r .«tag_at») (omega (arith, h .head .after, h .head .room))) ∙ ap length (h .head .tag-there)
 
@@ -162,6 +169,7 @@ module _ (bs : List ℕ) (w : Bool) (n at : ℕ) (low : Key) (used : ℕ) (any :
         formed = (more-some is (rw c (h .head .some)), h .gapped, q .above, q .formed);
         above = h .rises;
         keyed = (h .head .ok .good, q .keyed);
+        fair = rw (c, over-none (r .count) (h .few)) (omega (arith, q .fair));
         limit = rw c (omega (arith, q .limit));
         tags = rw (← len-is) (sym (or-assoc any (ltb 0 (r .«tag_len»)) (anyTag (q .set))) ∙ q .tags);
       }
@@ -171,25 +179,25 @@ module _ (bs : List ℕ) (w : Bool) (n at : ℕ) (low : Key) (used : ℕ) (any :
   same-total ok q = rw (intervals-count (r .count) bs (r .first))
 
 module _ (bs : List ℕ) (w : Bool) (n at : ℕ) (low : Key) (used : ℕ) (any : Bool) where
-  pub rest-not : NoEntry bs w at low (maxIntervals - used) → Rest bs w (suc n) at low used any → ⊥
-  rest-not none p = go (p .set) (p .is) (p .count) (p .formed) (p .above) (p .keyed) (p .limit) (p .tags)
+  pub rest-not : NoEntry bs w at low → Rest bs w (suc n) at low used any → ⊥
+  rest-not none p = go (p .set) (p .is) (p .count) (p .formed) (p .above) (p .keyed) (p .fair) (p .limit) (p .tags)
     where
       go : (s : List Entry) → drop at bs ≡ entriesBytes w s → length s ≡ suc n → SetForm s → Above low s → GoodKeys s
-          → used + intervals s ≤ maxIntervals → (any || anyTag s) ≡ w → ⊥
-      go [] e c f a k l t = omega arith
-      go (entry k is ∷ s) e c f a g l t =
-          none k is (entriesBytes w s) (key-ok w any k is s (g .0) t) (f .0) (f .1) (omega arith) a (e ∙ entries-head w k is s) (omega (arith, maxIntervals-is))
+          → crowds s ≡ 0 → used + intervals s ≤ maxIntervals → (any || anyTag s) ≡ w → ⊥
+      go [] e c f a k v l t = omega arith
+      go (entry k is ∷ s) e c f a g v l t =
+          none k is (entriesBytes w s) (key-ok w any k is s (g .0) t) (f .0) (f .1) (first-fair k is s v .0) a (e ∙ entries-head w k is s)
 
-  pub rest-after : (r : Head) (h : EntryIs bs w at low (maxIntervals - used) r) → Rest bs w (suc n) at low used any
+  pub rest-after : (r : Head) (h : EntryIs bs w at low r) → Rest bs w (suc n) at low used any
       → Rest bs w n (r .first + 16 * r .count) (h .head .key) (used + r .count) (any || ltb 0 (r .«tag_len»))
   unfolding anyTag
-  rest-after r h p = go (p .set) (p .is) (p .count) (p .formed) (p .above) (p .keyed) (p .limit) (p .tags)
+  rest-after r h p = go (p .set) (p .is) (p .count) (p .formed) (p .above) (p .keyed) (p .fair) (p .limit) (p .tags)
     where
       go : (s : List Entry) → drop at bs ≡ entriesBytes w s → length s ≡ suc n → SetForm s → Above low s → GoodKeys s
-          → used + intervals s ≤ maxIntervals → (any || anyTag s) ≡ w
+          → crowds s ≡ 0 → used + intervals s ≤ maxIntervals → (any || anyTag s) ≡ w
           → Rest bs w n (r .first + 16 * r .count) (h .head .key) (used + r .count) (any || ltb 0 (r .«tag_len»))
-      go [] e c f a k l t = absurd (omega arith)
-      go (entry k is ∷ s) e c f a g l t =
+      go [] e c f a k v l t = absurd (omega arith)
+      go (entry k is ∷ s) e c f a g v l t =
           let o : KeyOk w k = key-ok w any k is s (g .0) t in
           let d : drop at bs ≡ headBytes w k (length is) (intervalsBytes is ++ entriesBytes w s) = e ∙ entries-head w k is s in
           let small : length is < 2 ^ 64 = omega (arith, maxIntervals-is) in
@@ -208,6 +216,7 @@ module _ (bs : List ℕ) (w : Bool) (n at : ℕ) (low : Key) (used : ℕ) (any :
             formed = f .3;
             above = rw same (f .2);
             keyed = g .1;
+            fair = first-fair k is s v .1;
             limit = omega arith;
             tags = rw len (or-assoc any (ltb 0 (length (tagOf k))) (anyTag s) ∙ t);
           }

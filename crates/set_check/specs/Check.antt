@@ -1,5 +1,5 @@
 -- What checking a lent set finds.
-use Prim.Native.Nat.{ℕ, _+_, _^_, _<_, _≤_}
+use Prim.Native.Nat.{ℕ, _+_, _≤_}
 use mathlib.Core.Path.{_≡_}
 use mathlib.Core.Logic.{_⊎_}
 use mathlib.Core.Bool.{Bool, false, _||_}
@@ -13,7 +13,7 @@ use Rattle.previous_gtids_event.specs.Entry.{Entry}
 use Rattle.previous_gtids_event.specs.Rewrite.{intervalsBytes, entriesBytes, anyTag, headerBytes}
 use Rattle.gtid_sets.specs.Interval.{Gapped, Some}
 use Rattle.gtid_sets.specs.Set.{Above, SetForm}
-use Rattle.gtid_sets.specs.Limits.{maxEntries, maxIntervals, intervals}
+use Rattle.gtid_sets.specs.Limits.{maxEntries, maxIntervals, maxOfEntry, intervals, crowds}
 use Rattle.gtid_sets.specs.Lent.{Lent, form, unfit, GoodKeys}
 use Rattle.set_check.specs.Places.{intervalsAt}
 use Rattle.set_check.specs.Head.{headBytes, KeyOk, HeadIs}
@@ -49,21 +49,21 @@ pub record LowKey (bs : List ℕ) (at n «tag_at» «tag_len» : ℕ) : Type 0 w
   pub tag-there : «tag_at» + «tag_len» ≤ length bs
   pub shape : (n ≡ 16) ⊎ ((n ≡ 0) × («tag_len» ≡ 0))
 
-pub record EntryIs (bs : List ℕ) (w : Bool) (at : ℕ) (low : Key) (room : ℕ) (r : Head) : Type 0 where
+pub record EntryIs (bs : List ℕ) (w : Bool) (at : ℕ) (low : Key) (r : Head) : Type 0 where
   pub head : HeadIs bs w at r
-  pub few : r .count ≤ room
+  pub few : r .count ≤ maxOfEntry
   pub gapped : Gapped 0 (intervalsAt (r .count) bs (r .first))
   pub rises : low ≺ head .key
 
-abbrev pub NoEntry : List ℕ → Bool → ℕ → Key → ℕ → Type 0
-NoEntry bs w at low room =
-    (k : Key) (is : List Interval) (rest : List ℕ) → KeyOk w k → Some is → Gapped 0 is → length is ≤ room → low ≺ k
-    → drop at bs ≡ headBytes w k (length is) (intervalsBytes is ++ rest) → room < 2 ^ 64 → ⊥
+abbrev pub NoEntry : List ℕ → Bool → ℕ → Key → Type 0
+NoEntry bs w at low =
+    (k : Key) (is : List Interval) (rest : List ℕ) → KeyOk w k → Some is → Gapped 0 is → length is ≤ maxOfEntry → low ≺ k
+    → drop at bs ≡ headBytes w k (length is) (intervalsBytes is ++ rest) → ⊥
 
 -- ---- inside: the entries from a place on
 
--- n entries stand from a place on to the end, in set form above a key; with those before them they keep the limit of intervals and
--- say whether there are tags
+-- n entries stand from a place on to the end, in set form above a key, none with too many intervals; with those before them they keep the
+-- limit of all intervals and say whether there are tags
 pub record Rest (bs : List ℕ) (w : Bool) (n at : ℕ) (low : Key) (used : ℕ) (any : Bool) : Type 0 where
   pub set : List Entry
   pub is : drop at bs ≡ entriesBytes w set
@@ -71,6 +71,7 @@ pub record Rest (bs : List ℕ) (w : Bool) (n at : ℕ) (low : Key) (used : ℕ)
   pub formed : SetForm set
   pub above : Above low set
   pub keyed : GoodKeys set
+  pub fair : crowds set ≡ 0
   pub limit : used + intervals set ≤ maxIntervals
   pub tags : (any || anyTag set) ≡ w
 

@@ -5,6 +5,7 @@ use crate::Head;
 use crate::Header;
 use crate::MAX_ENTRIES;
 use crate::MAX_INTERVALS;
+use crate::MAX_OF_ENTRY;
 use crate::heads::head_at;
 use crate::places::number_at;
 use crate::places::parts_order;
@@ -85,7 +86,7 @@ fn header_at(set: &[u8]) -> Header
 }
 
 // The head of the entry at a place, if its key comes after a lower key, which stands in two parts of the set, and its intervals are
-// gapped and at most `room`.
+// gapped and no more than an entry may have.
 fn entry_above(
     set: &[u8],
     at: usize,
@@ -94,12 +95,11 @@ fn entry_above(
     len: usize,
     low_tag: usize,
     low_tag_len: usize,
-    room: usize,
 ) -> Head
     requires { ⌜ LowKey (now set) low len «low_tag» «low_tag_len» ⌝ }
     ensures { λ r. ⌜ Told (r .ok)
-        (EntryIs (now (set .entry)) tagged at (keyIn (now (set .entry)) low len «low_tag» «low_tag_len») room r)
-        (NoEntry (now (set .entry)) tagged at (keyIn (now (set .entry)) low len «low_tag» «low_tag_len») room) ⌝ }
+        (EntryIs (now (set .entry)) tagged at (keyIn (now (set .entry)) low len «low_tag» «low_tag_len») r)
+        (NoEntry (now (set .entry)) tagged at (keyIn (now (set .entry)) low len «low_tag» «low_tag_len»)) ⌝ }
 {
     let none = Head {
         ok: false,
@@ -116,7 +116,7 @@ fn entry_above(
     if !ok {
         return none;
     }
-    if room < count {
+    if MAX_OF_ENTRY < count {
         return none;
     }
     let gapped = gapped_at(set, head.first, count);
@@ -156,16 +156,7 @@ fn check_entries(set: &[u8], tagged: bool, count: usize) -> Entries
     let mut any = false;
     let mut done: usize = 0;
     while done < count {
-        let head = entry_above(
-            set,
-            at,
-            tagged,
-            low,
-            len,
-            low_tag,
-            low_tag_len,
-            MAX_INTERVALS - used,
-        );
+        let head = entry_above(set, at, tagged, low, len, low_tag, low_tag_len);
         let ok = head.ok;
         if !ok {
             return none;
@@ -180,6 +171,9 @@ fn check_entries(set: &[u8], tagged: bool, count: usize) -> Entries
         done += 1;
     }
     if at != set.len() {
+        return none;
+    }
+    if MAX_INTERVALS < used {
         return none;
     }
     let as_said = (tagged & any) | !(tagged | any);

@@ -6,10 +6,16 @@ mod heads;
 pub mod places;
 
 // A set has so many entries at most,
-pub const MAX_ENTRIES: usize = 256;
+pub const MAX_ENTRIES: usize = 384;
 
-// and so many intervals, all entries together.
-pub const MAX_INTERVALS: usize = 2048;
+// so many intervals, all entries together,
+pub const MAX_INTERVALS: usize = 2560;
+
+// and so many in any one entry.
+pub const MAX_OF_ENTRY: usize = 1024;
+
+// So the longest has 62,856 bytes (`longestSet`).
+pub const LONGEST_SET: usize = 8 + MAX_ENTRIES * (16 + 1 + 32 + 8) + MAX_INTERVALS * 16;
 
 // What a lent set is: refused with 14, or in set form and within the limits.
 pub struct Checked {

@@ -1,5 +1,6 @@
-//! What the tests share: a folder for files, and the follower of `examples` with a binlog for it.
+//! What the tests share: a folder for files, an offer that is committed, and the follower of `examples` with a binlog for it.
 #![allow(dead_code)] // no test uses all of it
+use gtid_resume::{Offered, Refusal, ResumeSet};
 use std::env;
 use std::ffi::OsString;
 use std::fs;
@@ -31,6 +32,14 @@ impl Drop for Folder {
     fn drop(&mut self) {
         let _ = fs::remove_dir_all(&self.0);
     }
+}
+
+/// Offers an event and commits the offer.
+pub fn take(set: &mut ResumeSet, event_type: u8, body: &[u8]) -> Result<Offered, Refusal> {
+    let offer = set.offer(event_type, body)?;
+    let answer = offer.answer();
+    offer.commit();
+    Ok(answer)
 }
 
 /// A binlog without checksums.

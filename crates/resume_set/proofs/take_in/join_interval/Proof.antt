@@ -1,6 +1,6 @@
 -- `resume_set::take_in::join_interval` meets its contract.
 use Prim.Native.Nat.{_≤_}
-use mathlib.Core.Path.{refl, sym}
+use mathlib.Core.Path.{sym}
 use native.Mathlib.Omega.{arith}
 use denote.Ref.{now}
 use borrow.Author.Needs.{needs}
@@ -12,7 +12,7 @@ use Rattle.resume_set.proofs.take_in.join_interval.Statement.{statement
 use Rattle.resume_set.proofs.take_in.join_interval.Tie as tie
 
 -- the planned set fits into the buffers
-fits : (c : tie.After-plan-join) → c .plan-join .result .len ≤ length (now (c .before .before .before .before .before .before .args .held))
+fits : (c : tie.After-plan-join) → c .plan-join .result .after .len ≤ length (now (c .before .before .before .before .before .before .args .held))
 fits c =
     let a = c .before .before .before .before .before .before .args in
     let p = c .before .before .before .before .before .before .pre in
@@ -28,20 +28,20 @@ plan-join-requires : tie.Need-plan-join-requires
 plan-join-requires c κs =
     let a = c .before .before .before .before .before .args in
     let p = c .before .before .before .before .before .pre in
-    (p .0 .set, (p .0 .total, ((p .1 .0 .0, p .1 .0 .1), interval-says (a .a) (a .b) (p .1 .1 .0) .1)))
+    (p .0 .set, (p .0 .counted, ((p .1 .0 .0, p .1 .0 .1), interval-says (a .a) (a .b) (p .1 .1 .0) .1)))
 
 slice-reshare-prefix-put-joined : tie.Need-slice-reshare-prefix-put-joined
 slice-reshare-prefix-put-joined c = search needs
 
 slice-aggregate-put-joined : tie.Need-slice-aggregate-put-joined
-slice-aggregate-put-joined c = sym (length-take-le _ _ (c .before .before .before .before .before .before .before .pre .0 .inside))
+slice-aggregate-put-joined c = sym (length-take-le _ _ (c .before .before .before .before .before .before .before .before .pre .0 .inside))
 
 put-joined-requires : tie.Need-put-joined-requires
 put-joined-requires c κs = search needs
 
 slice-reshare-prefix-write-bytes : tie.Need-slice-reshare-prefix-write-bytes
 slice-reshare-prefix-write-bytes c =
-    omega (arith, fits (c .before .before .before .before .before), c .before .before .put-joined .kept .1 .1 .1 .1 .0, c .before .before .before .before .before .before .before .before .before .before .before .pre .1 .1 .1 .alike)
+    omega (arith, fits (c .before .before .before .before .before .before), c .before .before .put-joined .kept .1 .1 .1 .1 .0, c .before .before .before .before .before .before .before .before .before .before .before .before .pre .1 .1 .1 .alike)
 
 slice-aggregate-write-bytes : tie.Need-slice-aggregate-write-bytes
 slice-aggregate-write-bytes c = sym (length-take-le _ _ (slice-reshare-prefix-write-bytes (c .before)))
@@ -57,10 +57,10 @@ same-length-2 c = search needs
 
 returns : tie.Need-returns
 returns c =
-    let a = c .before .before .before .before .before .before .before .before .before .before .before .before .before .before .before .before .args in
-    let p = c .before .before .before .before .before .before .before .before .before .before .before .before .before .before .before .before .pre in
-    let planned = c .before .before .before .before .before .before .before .before .before .before .plan-join in
-    interval-joined (now (a .held)) (now (a .spare)) (a .is) (now (a .uuid)) (now (a .tag)) (a .a) (a .b) (p .0) (p .1 .0 .0) (p .1 .0 .2) (p .1 .1 .1) (planned .result) (planned .ensures) (p .1 .1 .0) _ _ (c .before .before .before .before .before .before .before .put-joined .ensures) _ (c .before .before .write-bytes .ensures .1) _ refl
+    let a = c .before .before .before .before .before .before .before .before .before .before .before .before .before .before .before .before .before .args in
+    let p = c .before .before .before .before .before .before .before .before .before .before .before .before .before .before .before .before .before .pre in
+    let planned = c .before .before .before .before .before .before .before .before .before .before .before .plan-join in
+    interval-joined (now (a .held)) (now (a .spare)) (a .is) (now (a .uuid)) (now (a .tag)) (a .a) (a .b) (p .0) (p .1 .0 .0) (p .1 .0 .2) (p .1 .1 .1) (planned .result) (planned .ensures) (p .1 .1 .0) _ _ (c .before .before .before .before .before .before .before .put-joined .ensures) _ (c .before .before .write-bytes .ensures .1)
 
 pub join-interval-spec : {M : Type 1} → statement M
 join-interval-spec =

@@ -40,7 +40,7 @@ slice-aggregate-write-set c = sym (length-take-le _ _ (c .before .before .before
 write-set-requires : tie.Need-write-set-requires
 write-set-requires c κs =
     let h = c .before .before .before .before .join-body .ensures .0 in
-    (sym (h .set .written), h .set .count, h .total)
+    (sym (h .set .written), h .counted)
 
 same-length : tie.Need-same-length
 same-length c = search needs

@@ -1,5 +1,5 @@
 -- `set_check::check::check_entries` meets its contract.
-use Prim.Native.Nat.{suc, _+_, _-_, _≤_}
+use Prim.Native.Nat.{suc, _+_, _-_, _*_, _≤_}
 use mathlib.Core.Logic.{inl, inr}
 use mathlib.Core.Path.{_≡_, refl}
 use native.Mathlib.Omega.{arith}
@@ -8,9 +8,8 @@ use denote.Ref.{now}
 use borrow.Author.Needs.{needs}
 use borrow.Author.Tests.{not-true, not-false}
 use Rattle.gtid_sets.proofs.LimitLaws.{maxIntervals-is}
-use Rattle.gtid_sets.specs.Limits.{maxIntervals}
 use Rattle.set_check.specs.Check.{keyIn, LowKey, EntryIs}
-use Rattle.set_check.proofs.CheckLaws.{Walked, walked-none, walked-not, walked-next, walked-short, walked-untagged, walked-whole}
+use Rattle.set_check.proofs.CheckLaws.{Walked, walked-none, walked-not, walked-next, walked-short, walked-many, walked-untagged, walked-whole}
 use Rattle.set_check.proofs.RestLaws.{key-there}
 use Rattle.set_check.proofs.PlaceLaws.{says-yes, says-no}
 use Rattle.set_check.proofs.check.check_entries.Statement.{statement}
@@ -18,7 +17,7 @@ use Rattle.set_check.proofs.check.check_entries.Tie as tie
 
 abbrev Inv-loop : tie.InvT-loop
 Inv-loop set tagged count none at₀ low₀ len₀ low-tag₀ low-tag-len₀ used₀ any₀ done₀ at low len low-tag low-tag-len used any done =
-    (done ≤ count) × (at ≤ length set) × (used ≤ 2048) × LowKey set low len low-tag low-tag-len
+    (done ≤ count) × (at ≤ length set) × (16 * used ≤ at) × LowKey set low len low-tag low-tag-len
     × Walked set tagged count (count - done) at (keyIn set low len low-tag low-tag-len) used any
 
 abbrev μ-loop : tie.MeasureT-loop
@@ -40,17 +39,14 @@ walked c =
 entry : (c : tie.Else1 Inv-loop μ-loop)
     → let a = c .before .before .before .before .before .args in
     let l = c .before .before .before .loop in
-    EntryIs (now (a .set)) (a .tagged) (l .at) (keyIn (now (a .set)) (l .low) (l .len) (l .low-tag) (l .low-tag-len)) (maxIntervals - l .used) (c .before .entry-above .result)
-entry c = rw maxIntervals-is (c .before .entry-above .ensures .yes (not-false _ (c .if1 .left)))
+    EntryIs (now (a .set)) (a .tagged) (l .at) (keyIn (now (a .set)) (l .low) (l .len) (l .low-tag) (l .low-tag-len)) (c .before .entry-above .result)
+entry c = c .before .entry-above .ensures .yes (not-false _ (c .if1 .left))
 
 loop-holds : tie.Need-loop-holds Inv-loop μ-loop
 loop-holds c =
     let a = c .before .args in
     let all : a .count - 0 ≡ a .count = omega arith in
     (omega arith, c .before .pre, omega arith, record { there = omega arith; tag-there = omega arith; shape = inr (refl, refl) }, rw all (walked-none (now (a .set)) (a .tagged) (a .count)))
-
-sub-entry-above : tie.Need-sub-entry-above Inv-loop μ-loop
-sub-entry-above c = omega arith
 
 entry-above-requires : tie.Need-entry-above-requires Inv-loop μ-loop
 entry-above-requires c κs = c .before .loop .inv .3
@@ -59,13 +55,13 @@ returns : tie.Need-returns Inv-loop μ-loop
 returns c =
     let a = c .before .before .before .before .before .args in
     let l = c .before .before .before .loop in
-    says-no (walked-not (now (a .set)) (a .tagged) (a .count) (a .count - (l .done + 1)) (l .at) (keyIn (now (a .set)) (l .low) (l .len) (l .low-tag) (l .low-tag-len)) (l .used) (l .any) (walked (c .before .before)) (rw maxIntervals-is (c .before .entry-above .ensures .no (not-true _ (c .if1 .taken)))))
+    says-no (walked-not (now (a .set)) (a .tagged) (a .count) (a .count - (l .done + 1)) (l .at) (keyIn (now (a .set)) (l .low) (l .len) (l .low-tag) (l .low-tag-len)) (l .used) (l .any) (walked (c .before .before)) (c .before .entry-above .ensures .no (not-true _ (c .if1 .taken))))
 
 add-used : tie.Need-add-used Inv-loop μ-loop
-add-used c = let e = entry (c .before) in record { fits = omega (arith, e .few, maxIntervals-is) }
+add-used c = let e = entry (c .before) in record { fits = omega (arith, e .head .room) }
 
 mul-at : tie.Need-mul-at Inv-loop μ-loop
-mul-at c = let e = entry (c .before .before .before) in record { fits = omega (arith, e .few, maxIntervals-is) }
+mul-at c = let e = entry (c .before .before .before) in record { fits = omega (arith, e .head .room) }
 
 add-at : tie.Need-add-at Inv-loop μ-loop
 add-at c = let e = entry (c .before .before .before .before) in record { fits = omega (arith, e .head .room) }
@@ -86,9 +82,9 @@ loop-again c =
     let h = e .head in (
       omega arith,
       h .room,
-      omega (arith, e .few, maxIntervals-is),
+      omega (arith, h .place, h .after),
       record { there = omega (arith, h .place, h .after, h .room); tag-there = omega (arith, h .after, h .room); shape = inl refl },
-      rw (key-there s (a .tagged) (l .at) r h) (walked-next s (a .tagged) (a .count) (a .count - (l .done + 1)) (l .at) (keyIn s (l .low) (l .len) (l .low-tag) (l .low-tag-len)) (l .used) (l .any) (walked (c .before .before .before .before .before .before)) (λ i. c .before .before .before .before .before .before .before .before .shared-slice-known .given i .fits) r e (omega (arith, maxIntervals-is))),
+      rw (key-there s (a .tagged) (l .at) r h) (walked-next s (a .tagged) (a .count) (a .count - (l .done + 1)) (l .at) (keyIn s (l .low) (l .len) (l .low-tag) (l .low-tag-len)) (l .used) (l .any) (walked (c .before .before .before .before .before .before)) (λ i. c .before .before .before .before .before .before .before .before .shared-slice-known .given i .fits) r e),
     )
 
 returns-2 : tie.Need-returns-2 Inv-loop μ-loop
@@ -103,14 +99,21 @@ returns-3 c =
     let a = c .before .before .before .before .before .args in
     let l = c .before .before .before .loop in
     let none : a .count - l .done ≡ 0 = omega arith in
-    says-no (walked-untagged (now (a .set)) (a .tagged) (a .count) (l .at) (keyIn (now (a .set)) (l .low) (l .len) (l .low-tag) (l .low-tag-len)) (l .used) (l .any) (rw none at (l .inv .4)) (not-true _ (c .if3 .taken)))
+    says-no (walked-many (now (a .set)) (a .tagged) (a .count) (l .at) (keyIn (now (a .set)) (l .low) (l .len) (l .low-tag) (l .low-tag-len)) (l .used) (l .any) (rw none at (l .inv .4)) (omega (arith, maxIntervals-is)))
 
 returns-4 : tie.Need-returns-4 Inv-loop μ-loop
 returns-4 c =
-    let a = c .before .before .before .before .before .args in
-    let l = c .before .before .before .loop in
+    let a = c .before .before .before .before .before .before .args in
+    let l = c .before .before .before .before .loop in
     let none : a .count - l .done ≡ 0 = omega arith in
-    says-yes (walked-whole (now (a .set)) (a .tagged) (a .count) (l .at) (keyIn (now (a .set)) (l .low) (l .len) (l .low-tag) (l .low-tag-len)) (l .used) (l .any) (rw none at (l .inv .4)) (c .before .if2 .left) (omega (arith, maxIntervals-is)) (not-false _ (c .if3 .left)))
+    says-no (walked-untagged (now (a .set)) (a .tagged) (a .count) (l .at) (keyIn (now (a .set)) (l .low) (l .len) (l .low-tag) (l .low-tag-len)) (l .used) (l .any) (rw none at (l .inv .4)) (not-true _ (c .if4 .taken)))
+
+returns-5 : tie.Need-returns-5 Inv-loop μ-loop
+returns-5 c =
+    let a = c .before .before .before .before .before .before .args in
+    let l = c .before .before .before .before .loop in
+    let none : a .count - l .done ≡ 0 = omega arith in
+    says-yes (walked-whole (now (a .set)) (a .tagged) (a .count) (l .at) (keyIn (now (a .set)) (l .low) (l .len) (l .low-tag) (l .low-tag-len)) (l .used) (l .any) (rw none at (l .inv .4)) (c .before .before .if2 .left) (omega (arith, maxIntervals-is)) (not-false _ (c .if4 .left)))
 
 pub check-entries-spec : {M : Type 1} → statement M
 check-entries-spec =
@@ -119,7 +122,6 @@ check-entries-spec =
     Inv-loop
     μ-loop
     loop-holds
-    sub-entry-above
     entry-above-requires
     returns
     add-used
@@ -130,4 +132,5 @@ check-entries-spec =
     loop-again
     returns-2
     returns-3
-    returns-4)
+    returns-4
+    returns-5)

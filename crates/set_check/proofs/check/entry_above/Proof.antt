@@ -35,12 +35,12 @@ head-at-requires c κs = search needs
 returns : tie.Need-returns
 returns c =
     let a = c .before .before .before .args in
-    says-no (entry-headless (now (a .set)) (a .tagged) (a .at) (keyIn (now (a .set)) (a .low) (a .len) (a .low-tag) (a .low-tag-len)) (a .room) (c .before .head-at .ensures .no (not-true _ (c .if1 .taken))))
+    says-no (entry-headless (now (a .set)) (a .tagged) (a .at) (keyIn (now (a .set)) (a .low) (a .len) (a .low-tag) (a .low-tag-len)) (c .before .head-at .ensures .no (not-true _ (c .if1 .taken))))
 
 returns-2 : tie.Need-returns-2
 returns-2 c =
     let a = c .before .before .before .before .args in
-    says-no (entry-many (now (a .set)) (a .tagged) (a .at) (keyIn (now (a .set)) (a .low) (a .len) (a .low-tag) (a .low-tag-len)) (a .room) (c .before .before .head-at .result) (head (c .before)) (c .if2 .taken))
+    says-no (entry-many (now (a .set)) (a .tagged) (a .at) (keyIn (now (a .set)) (a .low) (a .len) (a .low-tag) (a .low-tag-len)) (c .before .before .head-at .result) (head (c .before)) (c .if2 .taken))
 
 gapped-at-requires : tie.Need-gapped-at-requires
 gapped-at-requires c κs = head (c .before) .room
@@ -48,7 +48,7 @@ gapped-at-requires c κs = head (c .before) .room
 returns-3 : tie.Need-returns-3
 returns-3 c =
     let a = c .before .before .before .before .before .before .args in
-    says-no (entry-ungapped (now (a .set)) (a .tagged) (a .at) (keyIn (now (a .set)) (a .low) (a .len) (a .low-tag) (a .low-tag-len)) (a .room) (c .before .before .before .before .head-at .result) (head (c .before .before .before)) (sym (c .before .gapped-at .ensures) ∙ not-true _ (c .if3 .taken)))
+    says-no (entry-ungapped (now (a .set)) (a .tagged) (a .at) (keyIn (now (a .set)) (a .low) (a .len) (a .low-tag) (a .low-tag-len)) (c .before .before .before .before .head-at .result) (head (c .before .before .before)) (sym (c .before .gapped-at .ensures) ∙ not-true _ (c .if3 .taken)))
 
 add-low-uuid : tie.Need-add-low-uuid
 add-low-uuid c = record { fits = omega (arith, c .before .before .before .before .before .before .pre .there) }
@@ -116,7 +116,7 @@ returns-4 c =
     let k = keyIn (now (a .set)) (a .low) (a .len) (a .low-tag) (a .low-tag-len) in
     let h = head (c .before .before .before .before .before .before .before .before .before .before) in
     record {
-      yes = λ _. entry-is (now (a .set)) (a .tagged) (a .at) k (a .room) (c .before .before .before .before .before .before .before .before .before .before .before .head-at .result) h (c .before .before .before .before .before .before .before .before .before .if2 .left)
+      yes = λ _. entry-is (now (a .set)) (a .tagged) (a .at) k (c .before .before .before .before .before .before .before .before .before .before .before .head-at .result) h (c .before .before .before .before .before .before .before .before .before .if2 .left)
           (sym (c .before .before .before .before .before .before .before .before .gapped-at .ensures) ∙ not-false _ (c .before .before .before .before .before .before .before .if3 .left)) (says-before (order k (h .key)) (order-told (c .before .before) ∙ c .enum-told .given .1));
       no = λ e. clash (not-false _ (c .before .before .before .before .before .before .before .before .before .before .if1 .left)) e;
     }
@@ -126,7 +126,7 @@ returns-5 c =
     let a = c .before .before .before .before .before .before .before .before .before .before .before .before .before .args in
     let k = keyIn (now (a .set)) (a .low) (a .len) (a .low-tag) (a .low-tag-len) in
     let h = head (c .before .before .before .before .before .before .before .before .before .before) in
-    says-no (entry-low (now (a .set)) (a .tagged) (a .at) k (a .room) (c .before .before .before .before .before .before .before .before .before .before .before .head-at .result) h
+    says-no (entry-low (now (a .set)) (a .tagged) (a .at) k (c .before .before .before .before .before .before .before .before .before .before .before .head-at .result) h
     (λ p. let told = sym (ap orderRead p) ∙ order-told (c .before .before) ∙ c .enum-told2 .given .1 in let z : _≡_ {A = ℕ} 0 1 = cc in omega arith))
 
 returns-6 : tie.Need-returns-6
@@ -134,7 +134,7 @@ returns-6 c =
     let a = c .before .before .before .before .before .before .before .before .before .before .before .before .before .args in
     let k = keyIn (now (a .set)) (a .low) (a .len) (a .low-tag) (a .low-tag-len) in
     let h = head (c .before .before .before .before .before .before .before .before .before .before) in
-    says-no (entry-low (now (a .set)) (a .tagged) (a .at) k (a .room) (c .before .before .before .before .before .before .before .before .before .before .before .head-at .result) h
+    says-no (entry-low (now (a .set)) (a .tagged) (a .at) k (c .before .before .before .before .before .before .before .before .before .before .before .head-at .result) h
     (λ p. let told = sym (ap orderRead p) ∙ order-told (c .before .before) ∙ c .enum-told3 .given .1 in let z : _≡_ {A = ℕ} 0 1 = cc in omega arith))
 
 pub entry-above-spec : {M : Type 1} → statement M
