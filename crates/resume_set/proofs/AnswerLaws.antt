@@ -5,8 +5,8 @@ use mathlib.Core.Logic.{_⊎_, inl, inr}
 use mathlib.Core.Bool.{Bool, true, false, _&&_}
 use mathlib.Core.List.{List, _++_}
 use native.Mathlib.Omega.{arith}
-use borrow.Author.Tests.{eq-eqb, ne-eqb}
-use lib.Dec.{leb}
+use borrow.Author.Tests.{eq-eqb, ne-eqb, ltb-true, ltb-false, lt-ltb, le-ltb}
+use lib.Dec.{leb, ltb}
 use lib.ListN.{length, take, length-append, length-replicate}
 use Rattle.misc.specs.Refusal.{Refusal, refusal, number}
 use Rattle.misc.specs.Parse.{Parse, refuse, parsed}
@@ -26,22 +26,24 @@ use Rattle.gtid_event.specs.declared.GtidEvent.{GtidEvent}
 use Rattle.gtid_event_read.specs.Read.{gtid, gtidRead}
 use Rattle.gtid_event_read.specs.declared.GtidRead.{GtidRead}
 use Rattle.gtid_event_read.proofs.Ranges.{UntaggedRange, TaggedRange, gtid-range}
-use Rattle.gtid_sets.specs.Set.{has, add}
-use Rattle.gtid_sets.specs.Limits.{Judged, fine, breaks, limits, intervals, crowds}
+use Rattle.gtid_sets.specs.Set.{has, join, add}
+use Rattle.gtid_sets.specs.Limits.{Judged, fine, breaks, limits, intervals, over, crowds}
 use Rattle.gtid_sets.specs.Run.{Event, names}
 use Rattle.gtid_sets.specs.Lent.{Lent, form, unfit, lentSet}
-use Rattle.gtid_sets.proofs.LimitLaws.{maxEntries-is, maxIntervals-is, limits-fair, limits-crowded, limits-from, too-many-entries, too-many-intervals}
+use Rattle.gtid_sets.proofs.LimitLaws.{maxEntries-is, maxIntervals-is, maxOfEntry-is, over-none, over-one, limits-fair, limits-crowded, limits-from, too-many-entries, too-many-intervals}
 use Rattle.gtid_sets.proofs.LentLaws.{lent-is}
 use Rattle.set_check.specs.Check.{checkedOf}
 use Rattle.set_check.specs.declared.Checked.{Checked}
 use Rattle.set_check.proofs.PlaceLaws.{Bytes}
 use Rattle.resume_set.specs.Answers.{setRead, contained, eventOf, fitting, offeredOf, outputFor, offered, output, saved, caseOf, judgedAs, acceptedAs}
 use Rattle.resume_set.specs.Find.{setOf, Counted, Fits}
+use Rattle.resume_set.specs.Join.{PlanIs}
 use Rattle.resume_set.specs.declared.SetRead.{SetRead}
 use Rattle.resume_set.specs.declared.Contained.{Contained}
 use Rattle.resume_set.specs.declared.Offered.{Offered}
 use Rattle.resume_set.specs.declared.Offered.the-variants.{Refused}
 use Rattle.resume_set.specs.declared.Held.{Held}
+use Rattle.resume_set.specs.declared.Plan.{Plan}
 use Rattle.resume_set.specs.declared.Kind.{Kind}
 use Rattle.resume_set.specs.declared.Kind.the-variants as kind
 use Rattle.resume_set.proofs.SetOfLaws.{lent-set}
@@ -115,22 +117,41 @@ told-bytes k l bs = split (leb (length bs) (length l)) (λ h. rw h) (λ h. rw h)
 
 -- ---- what the limits say of a set
 
-module _ (s : List Entry) (h : Held) (c : Counted s h) where
-  pub judged-crowded : 0 < h .crowded → 17 ≡ judgedAs (limits s)
-  judged-crowded some = rw (limits-crowded s (λ none. omega (arith, c .crowd)))
+module _ (s : List Entry) (crowd : Bool) (e i : ℕ) (c : (crowd ≡ ltb 0 (crowds s)) × (e ≡ length s) × (i ≡ intervals s)) where
+  pub judged-crowded : crowd ≡ true → 17 ≡ judgedAs (limits s)
+  judged-crowded h = rw (limits-crowded s (λ none. omega (arith, ltb-true 0 (crowds s) (sym (c .0) ∙ h))))
 
-  module _ (fair : h .crowded ≤ 0) where
+  module _ (fair : crowd ≡ false) where
     none : crowds s ≡ 0
-    none = omega (arith, c .crowd)
+    none = omega (arith, ltb-false 0 (crowds s) (sym (c .0) ∙ fair))
 
-    pub judged-entries : 384 < h .entries → 16 ≡ judgedAs (limits s)
-    judged-entries many = rw (too-many-entries s none (omega (arith, maxEntries-is, c .count)))
+    pub judged-entries : 384 < e → 16 ≡ judgedAs (limits s)
+    judged-entries many = rw (too-many-entries s none (omega (arith, maxEntries-is)))
 
-    pub judged-intervals : 2560 < h .intervals → 16 ≡ judgedAs (limits s)
-    judged-intervals many = rw (too-many-intervals s none (omega (arith, maxIntervals-is, c .total)))
+    pub judged-intervals : 2560 < i → 16 ≡ judgedAs (limits s)
+    judged-intervals many = rw (too-many-intervals s none (omega (arith, maxIntervals-is)))
 
-    pub judged-fine : h .entries ≤ 384 → h .intervals ≤ 2560 → 0 ≡ judgedAs (limits s)
-    judged-fine few less = rw (limits-from s none (omega (arith, maxEntries-is, c .count)) (omega (arith, maxIntervals-is, c .total)))
+    pub judged-fine : e ≤ 384 → i ≤ 2560 → 0 ≡ judgedAs (limits s)
+    judged-fine few less = rw (limits-from s none (omega (arith, maxEntries-is)) (omega (arith, maxIntervals-is)))
+
+-- an entry with so many intervals is the only one that can have too many
+pub only-crowd : (n held m : ℕ) → n ≡ m + over held → m ≡ 0 → ltb 1024 held ≡ ltb 0 n
+only-crowd n held m is none = split (ltb 1024 held)
+    (λ h. let one = over-one held (omega (arith, maxOfEntry-is, ltb-true 1024 held h)) in rw h (sym (lt-ltb 0 n (omega arith))))
+    (λ h. let zero = over-none held (omega (arith, maxOfEntry-is, ltb-false 1024 held h)) in rw h (sym (le-ltb 0 n (omega arith))))
+
+-- what is known of a set that was made, and of one that is planned
+pub counts : (s : List Entry) (h : Held) → Counted s h → (ltb 0 (h .crowded) ≡ ltb 0 (crowds s)) × (h .entries ≡ length s) × (h .intervals ≡ intervals s)
+counts s h c = (ap (ltb 0) (c .crowd), c .count, c .total)
+
+pub planned : (bs u t : List ℕ) (a b : ℕ) (p : Plan) → PlanIs bs u t a b p → crowds (setOf bs) ≡ 0
+    → let s : List Entry = join (u ++ t) a b (setOf bs) in
+    (ltb 1024 (p .held) ≡ ltb 0 (crowds s)) × (p .entries ≡ length s) × (p .intervals ≡ intervals s)
+planned bs u t a b p is none = (
+  only-crowd _ (p .held) (is .others) (is .crowd-is) (omega (arith, is .crowd-was)),
+  is .entries-is,
+  is .intervals-is,
+)
 
 -- ---- a set that was made, or is to be written
 

@@ -26,6 +26,7 @@ use Rattle.previous_gtids_event.specs.declared.EntryRead.{EntryRead}
 use Rattle.previous_gtids_event.specs.declared.HeaderRead.{HeaderRead}
 use Rattle.previous_gtids_event.proofs.Reading.{previous-parts}
 use Rattle.gtid_sets.specs.Set.{SetForm, join}
+use Rattle.gtid_sets.specs.Limits.{over}
 use Rattle.gtid_sets.specs.TakeIn.{proper, lawful, joinAll, union, takeIn}
 use Rattle.gtid_sets.specs.Lent.{GoodKeys}
 use Rattle.gtid_sets.proofs.FormLaws.{proper-holds}
@@ -68,15 +69,17 @@ output-front l bs h = rw (le-leb (length bs) (length l) h) (take-at bs (drop (le
 
 module _ (held spare : List ℕ) (is : Held) (u t : List ℕ) (a b : ℕ) (h : HeldIs held is) (uuid : length u ≡ 16) (rule : noneOrTag t ≡ true)
     (room : Room held spare (enough (u ++ t) (heldSet held is) 1)) (plan : Plan) (planned : PlanIs (take (is .len) held) u t a b plan) where
-  pub plan-fits : plan .after .len ≤ length held
+  pub plan-fits : plan .len ≤ length held
   plan-fits =
       omega (arith, planned .len-is, enough-now (u ++ t) a b (heldSet held is) (h .set .formed) (good-key u t uuid rule), room .wide)
 
   pub interval-joined : isInterval (interval a b) ≡ true
       → (spare′ : List ℕ) (n : ℕ) → WhereFits spare 0 (planRuns (take (is .len) held) u t plan) spare′ n
-      → (held′ : List ℕ) → held′ ≡ outputOf held (bytes (take (plan .after .len) spare′))
-      → HeldIs held′ (plan .after) × (heldSet held′ (plan .after) ≡ join (u ++ t) a b (heldSet held is))
-  interval-joined gnos spare′ n put held′ copied =
+      → (held′ : List ℕ) → held′ ≡ outputOf held (bytes (take (plan .len) spare′))
+      → (was then : ℕ) → was ≡ over (plan .found .count) → then ≡ over (plan .held)
+      → let r : Held = record { tagged = plan .tags; entries = plan .entries; intervals = plan .intervals; crowded = is .crowded - was + then; len = plan .len } in
+      HeldIs held′ r × (heldSet held′ r ≡ join (u ++ t) a b (heldSet held is))
+  interval-joined gnos spare′ n put held′ copied was then p q =
       let s = join (u ++ t) a b (heldSet held is) in
       let good = good-key u t uuid rule in
       let gno = interval-says a b gnos in
@@ -85,12 +88,17 @@ module _ (held spare : List ℕ) (is : Held) (u t : List ℕ) (a b : ℕ) (h : H
       let same = room .alike in
       let whole : planRuns (take (is .len) held) u t plan ≡ bodyBytes s = sym (planned .bytes) in
       let put′ : WhereFits spare 0 (bodyBytes s) spare′ n = rw whole at put in
-      let ready : take (plan .after .len) spare′ ≡ bodyBytes s =
+      let ready : take (plan .len) spare′ ≡ bodyBytes s =
       rw len (ap (take (length (bodyBytes s))) (output-fits (omega arith) (put′ .placed (omega arith)) .1) ∙ output-front spare (bodyBytes s) (omega arith)) in
-      let stands : take (plan .after .len) held′ ≡ bodyBytes s =
+      let stands : take (plan .len) held′ ≡ bodyBytes s =
       rw (copied, ready, len) (output-front held (bodyBytes s) (omega arith)) in
-      held-as held′ s (plan .after) stands (form-join (u ++ t) a b (heldSet held is) (gno .0) (gno .1) (gno .2) (h .set .formed))
-      (good-join (u ++ t) a b (heldSet held is) good (h .set .keyed)) (omega (arith, room .small)) len (planned .tags-is) (planned .counted)
+      held-as held′ s _ stands (form-join (u ++ t) a b (heldSet held is) (gno .0) (gno .1) (gno .2) (h .set .formed))
+      (good-join (u ++ t) a b (heldSet held is) good (h .set .keyed)) (omega (arith, room .small)) len (planned .tags-is)
+      (record {
+        count = planned .entries-is;
+        total = planned .intervals-is;
+        crowd = omega (arith, h .counted .crowd, planned .crowd-was, planned .crowd-is);
+      })
 
 -- ---- the intervals of an entry
 

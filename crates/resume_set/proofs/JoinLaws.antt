@@ -24,7 +24,7 @@ use Rattle.gtid_sets.specs.Limits.{summed, intervals, over, crowds}
 use Rattle.gtid_sets.specs.Lent.{GoodKeys}
 use Rattle.gtid_sets.specs.Splice.{earlier, takenUp, reach, from}
 use Rattle.gtid_sets.proofs.Bools.{or-swap, or-false-parts}
-use Rattle.gtid_sets.proofs.LimitLaws.{maxOfEntry-is, summed-append, over-none, over-one, crowds-most}
+use Rattle.gtid_sets.proofs.LimitLaws.{maxOfEntry-is, summed-append, over-none, over-one}
 use Rattle.gtid_sets.proofs.SetLaws.{join-before, join-into, join-after}
 use Rattle.gtid_sets.proofs.SpliceLaws.{insert-splice}
 use Rattle.previous_gtids_event.proofs.Writing.{length-header, length-intervals-bytes}
@@ -188,13 +188,12 @@ any-join k a b (entry j is ∷ s) = key-cases k j
 pub record Small (bs : List ℕ) (n : ℕ) : Type 0 where
   pub few : 24 * n ≤ length bs
   pub total : 16 * intervals (setOf bs) ≤ length bs
-  pub crowd : crowds (setOf bs) ≤ n
   pub long : length bs ≤ 2 ^ 40
 
 pub set-small : (bs : List ℕ) (w : Bool) (n : ℕ) → IsSet bs w n → Small bs n
 set-small bs w n h =
     let least = body-least (setOf bs) (h .keyed) in
-    record { few = omega (arith, ap length (h .written), h .count); total = omega (arith, ap length (h .written)); crowd = omega (arith, crowds-most (setOf bs), h .count); long = h .small }
+    record { few = omega (arith, ap length (h .written), h .count); total = omega (arith, ap length (h .written)); long = h .small }
 
 tag-length : (v : Bool) (t : List ℕ) → length t ≤ 32 → length (tagBytes v t) ≡ extra v (1 + length t)
 tag-length true t h = rw (one-byte (length t) (omega arith)) (omega arith)
@@ -280,17 +279,11 @@ module _ (bs : List ℕ) (w : Bool) (n : ℕ) (lent : IsSet bs w n) (u t : List 
       (ap (entriesBytes v) (is .joins a b) ∙ entriesBytes-append v (is .front) (entry (u ++ t) new ∷ is .back)
       ∙ ap (λ (x : List ℕ). entriesBytes v (is .front) ++ x) (entries-head v (u ++ t) new (is .back))))
 
-  module _ (len entries total others crowded : ℕ) (e₁ : len ≡ f .at + (24 + extra v (1 + length t) + 16 * held) + (length bs - f .next) + extra (v && not w) n)
-      (e₂ : entries ≡ n + extra (not (f .here)) 1) (e₃ : total ≡ intervals (setOf bs))
-      (e₄ : others + over (f .count) ≡ crowds (setOf bs)) (e₅ : crowded ≡ others + over held) where
+  module _ (len entries total : ℕ) (e₁ : len ≡ f .at + (24 + extra v (1 + length t) + 16 * held) + (length bs - f .next) + extra (v && not w) n)
+      (e₂ : entries ≡ n + extra (not (f .here)) 1) (e₃ : total ≡ intervals (setOf bs)) where
     abbrev plan : Plan
     plan =
-        record {
-          widen = v && not w;
-          after = record { tagged = v; entries = entries; intervals = total - p .taken + 1; crowded = crowded; len = len };
-          found = f;
-          splice = p;
-        }
+        record { tags = v; widen = v && not w; entries = entries; intervals = total - p .taken + 1; held = held; len = len; found = f; splice = p }
 
     -- a number for each entry, added up over the set after it
     after-summed : (g : ℕ → ℕ) → summed g after ≡ summed g (is .front) + (g held + summed g (is .back))
@@ -328,12 +321,7 @@ module _ (bs : List ℕ) (w : Bool) (n : ℕ) (lent : IsSet bs w n) (u t : List 
         )))
 
     pub plan-is : PlanIs bs u t a b
-        (record {
-          widen = v && not w;
-          after = record { tagged = v; entries = entries; intervals = total - p .taken + 1; crowded = crowded; len = len };
-          found = f;
-          splice = p;
-        })
+        (record { tags = v; widen = v && not w; entries = entries; intervals = total - p .taken + 1; held = held; len = len; found = f; splice = p })
     unfolding after
     plan-is = record {
       runs = record {
@@ -347,11 +335,11 @@ module _ (bs : List ℕ) (w : Bool) (n : ℕ) (lent : IsSet bs w n) (u t : List 
       bytes = plan-bytes;
       len-is = sym plan-size;
       tags-is = sym after-tags;
-      counted = record {
-        count = e₂ ∙ sym after-length;
-        total = omega (arith, after-summed (λ n. n), all-intervals, e₃, si .inside);
-        crowd = omega (arith, after-summed over, is .total over (over-none 0 (omega arith)), e₄, e₅);
-      };
+      entries-is = e₂ ∙ sym after-length;
+      intervals-is = omega (arith, after-summed (λ n. n), all-intervals, e₃, si .inside);
+      others = crowds (is .front) + crowds (is .back);
+      crowd-was = omega (arith, is .total over (over-none 0 (omega arith)));
+      crowd-is = omega (arith, after-summed over);
       member = is .member;
       gapped = is .gapped;
       before-is = si .before-is;

@@ -8,8 +8,9 @@ use Rattle.previous_gtids_event.specs.Rewrite.{intervalsBytes, anyTag, headerBy
 use Rattle.gtid_sets.specs.Interval.{covers, Gapped, insert}
 use Rattle.gtid_sets.specs.Set.{has, join}
 use Rattle.gtid_sets.specs.Splice.{earlier}
+use Rattle.gtid_sets.specs.Limits.{intervals, over, crowds}
 use Rattle.set_check.specs.Places.{intervalsAt}
-use Rattle.resume_set.specs.Find.{setOf, Counted, old}
+use Rattle.resume_set.specs.Find.{setOf, old}
 use Rattle.resume_set.specs.Put.{headRun, splicedRun, entriesRun, EntriesThere}
 use Rattle.resume_set.specs.declared.Splice.{Splice}
 use Rattle.resume_set.specs.declared.Plan.{Plan}
@@ -28,26 +29,30 @@ pub record SpliceIs (bs : List ℕ) (first count a b : ℕ) (r : Splice) : Type 
 -- the runs of the set after it
 abbrev pub planRuns : List ℕ → List ℕ → List ℕ → Plan → List ℕ
 planRuns bs u t r =
-    headerBytes (r .after .tagged) (r .after .entries) ++ entriesRun (r .widen) bs 8 (r .found .at) (r .found .index)
-    ++ headRun u (r .after .tagged) t (r .found .count - r .splice .taken + 1)
+    headerBytes (r .tags) (r .entries) ++ entriesRun (r .widen) bs 8 (r .found .at) (r .found .index)
+    ++ headRun u (r .tags) t (r .held)
     ++ splicedRun bs (r .found .first) (r .found .count) (r .splice .before) (r .splice .taken) (r .splice .start) (r .splice .end)
-    ++ entriesRun (r .widen) bs (r .found .next) (length bs) (r .after .entries - (1 + r .found .index))
+    ++ entriesRun (r .widen) bs (r .found .next) (length bs) (r .entries - (1 + r .found .index))
 
 -- the runs lie inside, and the counts are small
 pub record Runs (bs : List ℕ) (r : Plan) : Type 0 where
   pub before-there : EntriesThere (r .widen) bs 8 (r .found .at) (r .found .index)
-  pub after-there : EntriesThere (r .widen) bs (r .found .next) (length bs) (r .after .entries - (1 + r .found .index))
+  pub after-there : EntriesThere (r .widen) bs (r .found .next) (length bs) (r .entries - (1 + r .found .index))
   pub splice-there : r .found .first + 16 * r .found .count ≤ length bs
   pub splice-inside : r .splice .before + r .splice .taken ≤ r .found .count
-  pub index-below : 1 + r .found .index ≤ r .after .entries
-  pub few : r .after .entries < 2 ^ 48
+  pub index-below : 1 + r .found .index ≤ r .entries
+  pub few : r .entries < 2 ^ 48
 
 pub record PlanIs (bs : List ℕ) (u t : List ℕ) (a b : ℕ) (r : Plan) : Type 0 where
   pub runs : Runs bs r
   pub bytes : bodyBytes (join (u ++ t) a b (setOf bs)) ≡ planRuns bs u t r
-  pub len-is : r .after .len ≡ length (bodyBytes (join (u ++ t) a b (setOf bs)))
-  pub tags-is : r .after .tagged ≡ anyTag (join (u ++ t) a b (setOf bs))
-  pub counted : Counted (join (u ++ t) a b (setOf bs)) (r .after)
+  pub len-is : r .len ≡ length (bodyBytes (join (u ++ t) a b (setOf bs)))
+  pub tags-is : r .tags ≡ anyTag (join (u ++ t) a b (setOf bs))
+  pub entries-is : r .entries ≡ length (join (u ++ t) a b (setOf bs))
+  pub intervals-is : r .intervals ≡ intervals (join (u ++ t) a b (setOf bs))
+  pub others : ℕ
+  pub crowd-was : crowds (setOf bs) ≡ others + over (r .found .count)
+  pub crowd-is : crowds (join (u ++ t) a b (setOf bs)) ≡ others + over (r .held)
   pub member : (m : ℕ) → has (setOf bs) (u ++ t) m ≡ covers (old bs (r .found)) m
   pub gapped : Gapped 0 (old bs (r .found))
   pub before-is : r .splice .before ≡ earlier a (old bs (r .found))

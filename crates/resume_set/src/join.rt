@@ -18,12 +18,14 @@ use set_check::MAX_OF_ENTRY;
 ghost use mathlib.Core.Path.{_≡_};
 ghost use mathlib.Core.List.{List, _++_};
 ghost use Prim.Native.Nat.{_+_, _≤_, _<_};
+ghost use lib.Dec.{ltb};
 ghost use lib.ListN.{length};
 ghost use Rattle.misc.specs.Output.{outputOf, answerOf, WhereFits};
 ghost use Rattle.previous_gtids_event.specs.Entry.{Entry};
 ghost use Rattle.previous_gtids_event.specs.Rewrite.{bodyBytes};
 ghost use Rattle.gtid_sets.specs.Set.{join};
-ghost use Rattle.gtid_sets.specs.Limits.{over, limits};
+ghost use Rattle.gtid_sets.specs.Limits.{over, crowds, limits};
+ghost use Rattle.gtid_sets.specs.Limits as sets;
 ghost use Rattle.resume_set.specs.Answers.{saved, judgedAs};
 ghost use Rattle.resume_set.specs.Find.{setOf, IsSet, Counted};
 ghost use Rattle.resume_set.specs.Join.{extra, PlanIs, Runs, planRuns};
@@ -39,7 +41,7 @@ fn gained(wanted: bool, count: usize) -> usize
 }
 
 // 1 for more intervals than one entry may have.
-fn over(count: usize) -> usize
+pub(crate) fn over(count: usize) -> usize
     ensures { λ r. ⌜ (r ≡ over count) × (r ≤ 1) ⌝ }
 {
     gained(MAX_OF_ENTRY < count, 1)
@@ -66,16 +68,13 @@ pub(crate) fn plan_join(set: &[u8], is: Held, uuid: &[u8], tag: &[u8], a: u64, b
         + (set.len() - found.next)
         + gained(widen, count);
     let added = gained(!here, 1);
-    let others = is.crowded - over(found.count);
     Plan {
+        tags,
         widen,
-        after: Held {
-            tagged: tags,
-            entries: count + added,
-            intervals: is.intervals - splice.taken + 1,
-            crowded: others + over(held),
-            len,
-        },
+        entries: count + added,
+        intervals: is.intervals - splice.taken + 1,
+        held,
+        len,
         found,
         splice,
     }
@@ -88,10 +87,9 @@ pub(crate) fn put_joined(set: &[u8], uuid: &[u8], tag: &[u8], plan: Plan, out: &
 {
     let found = plan.found;
     let splice = plan.splice;
-    let held = found.count - splice.taken + 1;
-    let at0 = put_header(plan.after.entries as u64, plan.after.tagged, out, 0);
+    let at0 = put_header(plan.entries as u64, plan.tags, out, 0);
     let at1 = put_entries(set, 8, found.at, found.index, plan.widen, out, at0);
-    let at2 = put_head(uuid, tag, plan.after.tagged, held, out, at1);
+    let at2 = put_head(uuid, tag, plan.tags, plan.held, out, at1);
     let at3 = put_spliced(
         set,
         found.first,
@@ -103,21 +101,21 @@ pub(crate) fn put_joined(set: &[u8], uuid: &[u8], tag: &[u8], plan: Plan, out: &
         out,
         at2,
     );
-    let left = plan.after.entries - (1 + found.index);
+    let left = plan.entries - (1 + found.index);
     put_entries(set, found.next, set.len(), left, plan.widen, out, at3)
 }
 
 // What the limits say of a set: 17 if an entry has too many intervals, else 16 if there are too many entries or intervals, else 0.
-fn judge(is: Held) -> u8
-    ensures { λ r. ⌜ ((s : List Entry) → Counted s is → r ≡ judgedAs (limits s)) ⌝ }
+fn judge(crowded: bool, entries: usize, intervals: usize) -> u8
+    ensures { λ r. ⌜ ((s : List Entry) → (crowded ≡ ltb 0 (crowds s)) × (entries ≡ length s) × (intervals ≡ sets.intervals s) → r ≡ judgedAs (limits s)) ⌝ }
 {
-    if 0 < is.crowded {
+    if crowded {
         return CROWDED;
     }
-    if MAX_ENTRIES < is.entries {
+    if MAX_ENTRIES < entries {
         return FULL;
     }
-    if MAX_INTERVALS < is.intervals {
+    if MAX_INTERVALS < intervals {
         return FULL;
     }
     0
@@ -129,14 +127,14 @@ pub(crate) fn write_set(set: &[u8], is: Held, out: &mut [u8]) -> Wrote
     ensures { λ r. ⌜ r ≡ answerOf (now (out .entry)) (saved (setOf (now (set .entry)))) ⌝ }
     ensures { λ _. ⌜ now (out .exit) ≡ outputOf (now (out .entry)) (saved (setOf (now (set .entry)))) ⌝ }
 {
-    let refusal = judge(is);
+    let refusal = judge(0 < is.crowded, is.entries, is.intervals);
     if refusal != 0 {
         return Wrote { refusal, len: 0 };
     }
     write_bytes(set, out)
 }
 
-// Writes the set as planned, if it is within the limits and there is room.
+// Writes the set as planned, if it is within the limits and there is room; no entry of the set before it has too many intervals.
 pub(crate) fn write_joined(
     set: &[u8],
     uuid: &[u8],
@@ -146,12 +144,12 @@ pub(crate) fn write_joined(
     plan: Plan,
     out: &mut [u8],
 ) -> Wrote
-    requires { ⌜ PlanIs (now set) (now uuid) (now tag) a b plan ⌝ }
+    requires { ⌜ PlanIs (now set) (now uuid) (now tag) a b plan × (crowds (setOf (now set)) ≡ 0) ⌝ }
     ensures { λ r. ⌜ r ≡ answerOf (now (out .entry)) (saved (join (now (uuid .entry) ++ now (tag .entry)) a b (setOf (now (set .entry))))) ⌝ }
     ensures { λ _. ⌜ now (out .exit) ≡ outputOf (now (out .entry)) (saved (join (now (uuid .entry) ++ now (tag .entry)) a b (setOf (now (set .entry))))) ⌝ }
 {
-    let len = plan.after.len;
-    let refusal = judge(plan.after);
+    let len = plan.len;
+    let refusal = judge(MAX_OF_ENTRY < plan.held, plan.entries, plan.intervals);
     if refusal != 0 {
         return Wrote { refusal, len: 0 };
     }

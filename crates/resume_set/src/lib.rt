@@ -101,10 +101,15 @@ pub(crate) struct Held {
     pub(crate) len: usize,
 }
 
-// How a set grows by an interval: whether tags come to it; what it is then; and where the interval goes.
+// How a set grows by an interval: whether it then has tags, and had none; its counts, that of the key's own intervals, and its length; and
+// where the interval goes.
 pub(crate) struct Plan {
+    pub(crate) tags: bool,
     pub(crate) widen: bool,
-    pub(crate) after: Held,
+    pub(crate) entries: usize,
+    pub(crate) intervals: usize,
+    pub(crate) held: usize,
+    pub(crate) len: usize,
     pub(crate) found: Found,
     pub(crate) splice: Splice,
 }

@@ -1,6 +1,7 @@
 // Taking in the body of a Previous-GTIDs event. A body that is a set already is copied; the intervals of any other are joined to a
 // set that grows in a work buffer, one after another. A second work buffer receives each next set.
 use crate::Held;
+use crate::join::over;
 use crate::join::plan_join;
 use crate::join::put_joined;
 use crate::join::write_set;
@@ -98,8 +99,16 @@ fn join_interval(
 {
     let len = is.len;
     let plan = plan_join(&held[..len], is, uuid, tag, a, b);
-    let after = plan.after;
-    let next = after.len;
+    // the key's entry is counted as it is then, in the place of what it was
+    let others = is.crowded - over(plan.found.count);
+    let after = Held {
+        tagged: plan.tags,
+        entries: plan.entries,
+        intervals: plan.intervals,
+        crowded: others + over(plan.held),
+        len: plan.len,
+    };
+    let next = plan.len;
     put_joined(&held[..len], uuid, tag, plan, spare);
     write_bytes(&spare[..next], held);
     after

@@ -53,7 +53,7 @@ add-write-joined c =
     record { fits = omega (arith, gnoTop-is) }
 
 write-joined-requires : tie.Need-write-joined-requires
-write-joined-requires c κs = c .before .before .before .plan-join .ensures
+write-joined-requires c κs = (c .before .before .before .plan-join .ensures, sym (fits-counted _ _ (c .before .before .before .before .before .before .before .before .before .before .pre .0) 0 .crowd))
 
 accepted-requires-2 : tie.Need-accepted-requires-2
 accepted-requires-2 c κs = search needs

@@ -1,11 +1,9 @@
 -- `resume_set::join::plan_join` meets its contract.
-use Prim.Native.Nat.{_-_, _*_, _^_, _≤_}
+use Prim.Native.Nat.{_*_, _^_, _≤_}
 use mathlib.Core.Path.{refl}
 use native.Mathlib.Omega.{arith}
 use denote.Ref.{now}
 use borrow.Author.Needs.{needs}
-use Rattle.gtid_sets.specs.Limits.{over}
-use Rattle.gtid_sets.proofs.LimitLaws.{over-none}
 use Rattle.resume_set.proofs.JoinLaws.{Small, set-small, plan-is}
 use Rattle.resume_set.proofs.join.plan_join.Statement.{statement}
 use Rattle.resume_set.proofs.join.plan_join.Tie as tie
@@ -68,38 +66,22 @@ add-len-5 c =
 gained-requires-3 : tie.Need-gained-requires-3
 gained-requires-3 c κs = search needs
 
-over-requires : tie.Need-over-requires
-over-requires c κs = search needs
-
-sub-others : tie.Need-sub-others
-sub-others c =
-    let counted = c .before .before .before .before .before .before .before .before .before .before .find .ensures .total over (over-none 0 (omega arith)) in
-    omega (arith, c .before .over .ensures .0, counted, c .before .before .before .before .before .before .before .before .before .before .before .before .before .before .pre .1 .0 .crowd)
-
-add-t18 : tie.Need-add-t18
-add-t18 c = record { fits = omega (arith, c .before .before .gained3 .ensures .1, small (c .before .before .before .before .before .before .before .before .before .before)) }
-
-sub-t29 : tie.Need-sub-t29
-sub-t29 c = omega (arith, c .before .before .before .before .before .before .before .before .before .before .before .before .find .ensures .total (λ n. n) refl, c .before .before .before .before .before .before .before .before .before .before .before .before .before .before .before .before .pre .1 .0 .total, c .before .before .before .before .before .before .before .before .before .before .before .splice-at .ensures .inside)
-
 add-t28 : tie.Need-add-t28
-add-t28 c = record { fits = omega (arith, small (c .before .before .before .before .before .before .before .before .before .before .before .before), c .before .before .before .before .before .before .before .before .before .before .before .before .before .before .before .before .pre .1 .0 .total) }
+add-t28 c = record { fits = omega (arith, c .gained3 .ensures .1, small (c .before .before .before .before .before .before .before .before)) }
 
-over-requires-2 : tie.Need-over-requires-2
-over-requires-2 c κs = search needs
+sub-t17 : tie.Need-sub-t17
+sub-t17 c = omega (arith, c .before .before .before .before .before .before .before .before .before .before .find .ensures .total (λ n. n) refl, c .before .before .before .before .before .before .before .before .before .before .before .before .before .before .pre .1 .0 .total, c .before .before .before .before .before .before .before .before .before .splice-at .ensures .inside)
 
-add-t26 : tie.Need-add-t26
-add-t26 c = record { fits = omega (arith, c .over2 .ensures .1, small (c .before .before .before .before .before .before .before .before .before .before .before .before .before), c .before .before .before .before .before .before .before .before .before .before .before .before .before .before .before .before .before .pre .1 .0 .crowd) }
+add-t27 : tie.Need-add-t27
+add-t27 c = record { fits = omega (arith, small (c .before .before .before .before .before .before .before .before .before .before), c .before .before .before .before .before .before .before .before .before .before .before .before .before .before .pre .1 .0 .total) }
 
 returns : tie.Need-returns
 returns c =
-    let a = c .before .before .before .before .before .before .before .before .before .before .before .before .before .before .before .before .before .args in
-    let f = c .before .before .before .before .before .before .before .before .before .before .before .before .before .find in
-    let splice = c .before .before .before .before .before .before .before .before .before .before .before .before .splice-at in
-    let counted = f .ensures .total over (over-none 0 (omega arith)) in
-    plan-is (now (a .set)) (a .is .tagged) (a .is .entries) (c .before .before .before .before .before .before .before .before .before .before .before .before .before .before .before .before .before .pre .0) (now (a .uuid)) (now (a .tag)) (c .before .before .before .before .before .before .before .before .before .before .before .before .before .before .before .before .before .pre .1 .1 .0 .0) (c .before .before .before .before .before .before .before .before .before .before .before .before .before .before .before .before .before .pre .1 .1 .0 .1) (a .a) (a .b) (f .result) (f .ensures) (splice .result) (splice .ensures)
-    _ _ (a .is .intervals) (a .is .crowded - c .before .before .before .before .over .result) _ (rw (c .before .before .before .before .before .before .before .before .before .gained .ensures .0, c .before .before .before .before .before .before .gained2 .ensures .0)) (rw (c .before .before .before .before .before .gained3 .ensures .0)) (c .before .before .before .before .before .before .before .before .before .before .before .before .before .before .before .before .before .pre .1 .0 .total)
-    (omega (arith, c .before .before .before .before .over .ensures .0, counted, c .before .before .before .before .before .before .before .before .before .before .before .before .before .before .before .before .before .pre .1 .0 .crowd)) (rw (c .over2 .ensures .0))
+    let a = c .before .before .before .before .before .before .before .before .before .before .before .before .before .before .args in
+    let f = c .before .before .before .before .before .before .before .before .before .before .find in
+    let splice = c .before .before .before .before .before .before .before .before .before .splice-at in
+    plan-is (now (a .set)) (a .is .tagged) (a .is .entries) (c .before .before .before .before .before .before .before .before .before .before .before .before .before .before .pre .0) (now (a .uuid)) (now (a .tag)) (c .before .before .before .before .before .before .before .before .before .before .before .before .before .before .pre .1 .1 .0 .0) (c .before .before .before .before .before .before .before .before .before .before .before .before .before .before .pre .1 .1 .0 .1) (a .a) (a .b) (f .result) (f .ensures) (splice .result) (splice .ensures)
+    _ _ (a .is .intervals) (rw (c .before .before .before .before .before .before .gained .ensures .0, c .before .before .before .gained2 .ensures .0)) (rw (c .before .before .gained3 .ensures .0)) (c .before .before .before .before .before .before .before .before .before .before .before .before .before .before .pre .1 .0 .total)
 
 pub plan-join-spec : {M : Type 1} → statement M
 plan-join-spec =
@@ -120,11 +102,7 @@ plan-join-spec =
     gained-requires-2
     add-len-5
     gained-requires-3
-    over-requires
-    sub-others
-    add-t18
-    sub-t29
     add-t28
-    over-requires-2
-    add-t26
+    sub-t17
+    add-t27
     returns)

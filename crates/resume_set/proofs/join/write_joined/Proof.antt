@@ -4,7 +4,7 @@ use denote.Ref.{now}
 use borrow.Author.Needs.{needs}
 use Rattle.gtid_sets.specs.Set.{join}
 use Rattle.resume_set.specs.Find.{setOf}
-use Rattle.resume_set.proofs.AnswerLaws.{saved-refused, joined-short, joined-fits}
+use Rattle.resume_set.proofs.AnswerLaws.{planned, saved-refused, joined-short, joined-fits}
 use Rattle.resume_set.proofs.join.write_joined.Statement.{statement}
 use Rattle.resume_set.proofs.join.write_joined.Tie as tie
 
@@ -13,29 +13,29 @@ judge-requires c κs = search needs
 
 returns : tie.Need-returns
 returns c =
-    let a = c .before .before .before .before .before .before .args in
+    let a = c .before .before .before .before .before .before .before .args in
     let s = join (now (a .uuid) ++ now (a .tag)) (a .a) (a .b) (setOf (now (a .set))) in
-    saved-refused s _ (c .before .judge .ensures s (c .before .before .before .before .before .before .pre .counted)) (now (a .out)) (c .if1 .taken)
+    saved-refused s _ (c .before .judge .ensures s (planned _ _ _ _ _ _ (c .before .before .before .before .before .before .before .pre .0) (c .before .before .before .before .before .before .before .pre .1))) (now (a .out)) (c .if1 .taken)
 
 returns-2 : tie.Need-returns-2
 returns-2 c =
-    let a = c .before .before .before .before .before .before .before .args in
-    let p = c .before .before .before .before .before .before .before .pre in
+    let a = c .before .before .before .before .before .before .before .before .args in
+    let p = c .before .before .before .before .before .before .before .before .pre .0 in
     let s = join (now (a .uuid) ++ now (a .tag)) (a .a) (a .b) (setOf (now (a .set))) in
-    joined-short s _ (c .before .before .judge .ensures s (p .counted)) (now (a .out)) (c .before .if1 .left) (a .plan .after .len) (p .len-is) (c .if2 .taken)
+    joined-short s _ (c .before .before .judge .ensures s (planned _ _ _ _ _ _ p (c .before .before .before .before .before .before .before .before .pre .1))) (now (a .out)) (c .before .if1 .left) (a .plan .len) (p .len-is) (c .if2 .taken)
 
 put-joined-requires : tie.Need-put-joined-requires
-put-joined-requires c κs = c .before .before .before .before .before .before .before .before .pre .runs
+put-joined-requires c κs = c .before .before .before .before .before .before .before .before .before .pre .0 .runs
 
 same-length : tie.Need-same-length
 same-length c = search needs
 
 returns-3 : tie.Need-returns-3
 returns-3 c =
-    let a = c .before .before .before .before .before .before .before .before .before .before .before .args in
-    let p = c .before .before .before .before .before .before .before .before .before .before .before .pre in
+    let a = c .before .before .before .before .before .before .before .before .before .before .before .before .args in
+    let p = c .before .before .before .before .before .before .before .before .before .before .before .before .pre .0 in
     let s = join (now (a .uuid) ++ now (a .tag)) (a .a) (a .b) (setOf (now (a .set))) in
-    joined-fits s _ (c .before .before .before .before .before .before .judge .ensures s (p .counted)) (now (a .out)) (c .before .before .before .before .before .if1 .left) (a .plan .after .len) (p .len-is) _ _ _ (c .before .before .before .before .if2 .left) (p .bytes) (c .before .before .put-joined .ensures)
+    joined-fits s _ (c .before .before .before .before .before .before .judge .ensures s (planned _ _ _ _ _ _ p (c .before .before .before .before .before .before .before .before .before .before .before .before .pre .1))) (now (a .out)) (c .before .before .before .before .before .if1 .left) (a .plan .len) (p .len-is) _ _ _ (c .before .before .before .before .if2 .left) (p .bytes) (c .before .before .put-joined .ensures)
 
 pub write-joined-spec : {M : Type 1} → statement M
 write-joined-spec =
