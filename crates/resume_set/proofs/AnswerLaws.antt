@@ -70,13 +70,8 @@ check-told bs c e z = go (lentSet bs) refl
         }
 
 -- no entry of a set that was checked has too many intervals
-pub fits-counted : (bs : List ℕ) (c : Checked) → Fits bs c → (len : ℕ)
-    → Counted (setOf bs) (record { tagged = c .tagged; entries = c .entries; intervals = c .intervals; crowded = 0; len = len })
-fits-counted bs c f len = record {
-  count = sym (f .set .count);
-  total = sym (f .total);
-  crowd = sym (limits-fair (setOf bs) (lent-is bs (setOf bs) (f .lent) .limited));
-}
+pub fits-fair : (bs : List ℕ) (c : Checked) → Fits bs c → crowds (setOf bs) ≡ 0
+fits-fair bs c f = limits-fair (setOf bs) (lent-is bs (setOf bs) (f .lent) .limited)
 
 pub check-unfit : (bs : List ℕ) (c : Checked) → c ≡ checkedOf (lentSet bs) → (c .refusal ≡ 0 → ⊥) → (lentSet bs ≡ unfit) × (c .refusal ≡ 14)
 check-unfit bs c e h = go (lentSet bs) refl

@@ -48,15 +48,22 @@ pub(crate) fn over(count: usize) -> usize
 }
 
 // How the set grows by the interval from a up to b of a key.
-pub(crate) fn plan_join(set: &[u8], is: Held, uuid: &[u8], tag: &[u8], a: u64, b: u64) -> Plan
-    requires { ⌜ IsSet (now set) (is .tagged) (is .entries) ⌝ }
-    requires { ⌜ Counted (setOf (now set)) is ⌝ }
+pub(crate) fn plan_join(
+    set: &[u8],
+    tagged: bool,
+    count: usize,
+    total: usize,
+    uuid: &[u8],
+    tag: &[u8],
+    a: u64,
+    b: u64,
+) -> Plan
+    requires { ⌜ IsSet (now set) tagged count ⌝ }
+    requires { ⌜ sets.intervals (setOf (now set)) ≡ total ⌝ }
     requires { ⌜ (length (now uuid) ≡ 16) × (length (now tag) ≤ 32) ⌝ }
     requires { ⌜ a < b ⌝ }
     ensures { λ r. ⌜ PlanIs (now (set .entry)) (now (uuid .entry)) (now (tag .entry)) a b r ⌝ }
 {
-    let tagged = is.tagged;
-    let count = is.entries;
     let found = find(set, tagged, count, uuid, tag);
     let splice = splice_at(set, found.first, found.count, a, b);
     let tags = tagged | (0 < tag.len());
@@ -72,7 +79,7 @@ pub(crate) fn plan_join(set: &[u8], is: Held, uuid: &[u8], tag: &[u8], a: u64, b
         tags,
         widen,
         entries: count + added,
-        intervals: is.intervals - splice.taken + 1,
+        intervals: total - splice.taken + 1,
         held,
         len,
         found,

@@ -91,8 +91,7 @@ pub(crate) struct Splice {
     pub(crate) end: u64,
 }
 
-// What is known of a set in set form: whether it has tags; how many entries, intervals, and entries with too many intervals it has; and its
-// length.
+// A set in a work buffer: whether it has tags; how many entries, intervals, and entries with too many intervals it has; and its length.
 pub(crate) struct Held {
     pub(crate) tagged: bool,
     pub(crate) entries: usize,
@@ -193,14 +192,16 @@ fn offer_id(
     if !lawful {
         return Offered::Refused(BAD_GNO, 0);
     }
-    let is = Held {
-        tagged: checked.tagged,
-        entries: checked.entries,
-        intervals: checked.intervals,
-        crowded: 0,
-        len: set.len(),
-    };
-    let plan = join::plan_join(set, is, uuid, tag, gno, gno + 1);
+    let plan = join::plan_join(
+        set,
+        checked.tagged,
+        checked.entries,
+        checked.intervals,
+        uuid,
+        tag,
+        gno,
+        gno + 1,
+    );
     let present = intervals::covers_at(
         set,
         plan.found.first,

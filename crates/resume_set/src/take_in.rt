@@ -98,7 +98,16 @@ fn join_interval(
     ensures { λ r. ⌜ heldSet (now (held .exit)) r ≡ join (now (uuid .entry) ++ now (tag .entry)) a b (heldSet (now (held .entry)) is) ⌝ }
 {
     let len = is.len;
-    let plan = plan_join(&held[..len], is, uuid, tag, a, b);
+    let plan = plan_join(
+        &held[..len],
+        is.tagged,
+        is.entries,
+        is.intervals,
+        uuid,
+        tag,
+        a,
+        b,
+    );
     // the key's entry is counted as it is then, in the place of what it was
     let others = is.crowded - over(plan.found.count);
     let after = Held {

@@ -7,7 +7,7 @@ use borrow.Author.Tests.{not-true, not-false}
 use borrow.Author.Needs.{needs}
 use Rattle.packets.proofs.GnoLaws.{gnoTop-is, gno-says}
 use Rattle.resume_set.specs.Find.{setOf}
-use Rattle.resume_set.proofs.AnswerLaws.{fits-counted, id-unlawful, id-already, id-new}
+use Rattle.resume_set.proofs.AnswerLaws.{fits-fair, id-unlawful, id-already, id-new}
 use Rattle.resume_set.proofs.offer_id.Statement.{statement}
 use Rattle.resume_set.proofs.offer_id.Tie as tie
 
@@ -25,7 +25,7 @@ add-plan-join c =
     record { fits = omega (arith, gnoTop-is) }
 
 plan-join-requires : tie.Need-plan-join-requires
-plan-join-requires c κs = let p = c .before .before .before .before .before .before .pre in (p .0 .set, (fits-counted _ _ (p .0) _, (p .1, omega arith)))
+plan-join-requires c κs = let p = c .before .before .before .before .before .before .pre in (p .0 .set, (p .0 .total, (p .1, omega arith)))
 
 covers-at-requires : tie.Need-covers-at-requires
 covers-at-requires c κs =
@@ -53,7 +53,7 @@ add-write-joined c =
     record { fits = omega (arith, gnoTop-is) }
 
 write-joined-requires : tie.Need-write-joined-requires
-write-joined-requires c κs = (c .before .before .before .plan-join .ensures, sym (fits-counted _ _ (c .before .before .before .before .before .before .before .before .before .before .pre .0) 0 .crowd))
+write-joined-requires c κs = (c .before .before .before .plan-join .ensures, fits-fair _ _ (c .before .before .before .before .before .before .before .before .before .before .pre .0))
 
 accepted-requires-2 : tie.Need-accepted-requires-2
 accepted-requires-2 c κs = search needs

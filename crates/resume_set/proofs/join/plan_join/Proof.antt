@@ -1,6 +1,6 @@
 -- `resume_set::join::plan_join` meets its contract.
 use Prim.Native.Nat.{_*_, _^_, _≤_}
-use mathlib.Core.Path.{refl}
+use mathlib.Core.Path.{refl, sym}
 use native.Mathlib.Omega.{arith}
 use denote.Ref.{now}
 use borrow.Author.Needs.{needs}
@@ -8,8 +8,8 @@ use Rattle.resume_set.proofs.JoinLaws.{Small, set-small, plan-is}
 use Rattle.resume_set.proofs.join.plan_join.Statement.{statement}
 use Rattle.resume_set.proofs.join.plan_join.Tie as tie
 
-small : (c : tie.After-find) → Small (now (c .before .before .before .before .args .set)) (c .before .before .before .before .args .is .entries)
-small c = set-small (now (c .before .before .before .before .args .set)) (c .before .before .before .before .args .is .tagged) (c .before .before .before .before .args .is .entries) (c .before .before .before .before .pre .0)
+small : (c : tie.After-find) → Small (now (c .before .before .before .before .args .set)) (c .before .before .before .before .args .count)
+small c = set-small (now (c .before .before .before .before .args .set)) (c .before .before .before .before .args .tagged) (c .before .before .before .before .args .count) (c .before .before .before .before .pre .0)
 
 -- the intervals that are there take up bytes
 few : (c : tie.After-find) → 16 * c .find .result .count ≤ 2 ^ 40
@@ -70,18 +70,18 @@ add-t28 : tie.Need-add-t28
 add-t28 c = record { fits = omega (arith, c .gained3 .ensures .1, small (c .before .before .before .before .before .before .before .before)) }
 
 sub-t17 : tie.Need-sub-t17
-sub-t17 c = omega (arith, c .before .before .before .before .before .before .before .before .before .before .find .ensures .total (λ n. n) refl, c .before .before .before .before .before .before .before .before .before .before .before .before .before .before .pre .1 .0 .total, c .before .before .before .before .before .before .before .before .before .splice-at .ensures .inside)
+sub-t17 c = omega (arith, c .before .before .before .before .before .before .before .before .before .find .ensures .total (λ n. n) refl, c .before .before .before .before .before .before .before .before .before .before .before .before .before .pre .1 .0, c .before .before .before .before .before .before .before .before .splice-at .ensures .inside)
 
 add-t27 : tie.Need-add-t27
-add-t27 c = record { fits = omega (arith, small (c .before .before .before .before .before .before .before .before .before .before), c .before .before .before .before .before .before .before .before .before .before .before .before .before .before .pre .1 .0 .total) }
+add-t27 c = record { fits = omega (arith, small (c .before .before .before .before .before .before .before .before .before), c .before .before .before .before .before .before .before .before .before .before .before .before .before .pre .1 .0) }
 
 returns : tie.Need-returns
 returns c =
-    let a = c .before .before .before .before .before .before .before .before .before .before .before .before .before .before .args in
-    let f = c .before .before .before .before .before .before .before .before .before .before .find in
-    let splice = c .before .before .before .before .before .before .before .before .before .splice-at in
-    plan-is (now (a .set)) (a .is .tagged) (a .is .entries) (c .before .before .before .before .before .before .before .before .before .before .before .before .before .before .pre .0) (now (a .uuid)) (now (a .tag)) (c .before .before .before .before .before .before .before .before .before .before .before .before .before .before .pre .1 .1 .0 .0) (c .before .before .before .before .before .before .before .before .before .before .before .before .before .before .pre .1 .1 .0 .1) (a .a) (a .b) (f .result) (f .ensures) (splice .result) (splice .ensures)
-    _ _ (a .is .intervals) (rw (c .before .before .before .before .before .before .gained .ensures .0, c .before .before .before .gained2 .ensures .0)) (rw (c .before .before .gained3 .ensures .0)) (c .before .before .before .before .before .before .before .before .before .before .before .before .before .before .pre .1 .0 .total)
+    let a = c .before .before .before .before .before .before .before .before .before .before .before .before .before .args in
+    let f = c .before .before .before .before .before .before .before .before .before .find in
+    let splice = c .before .before .before .before .before .before .before .before .splice-at in
+    plan-is (now (a .set)) (a .tagged) (a .count) (c .before .before .before .before .before .before .before .before .before .before .before .before .before .pre .0) (now (a .uuid)) (now (a .tag)) (c .before .before .before .before .before .before .before .before .before .before .before .before .before .pre .1 .1 .0 .0) (c .before .before .before .before .before .before .before .before .before .before .before .before .before .pre .1 .1 .0 .1) (a .a) (a .b) (f .result) (f .ensures) (splice .result) (splice .ensures)
+    _ _ (a .total) (rw (c .before .before .before .before .before .gained .ensures .0, c .before .before .gained2 .ensures .0)) (rw (c .before .gained3 .ensures .0)) (sym (c .before .before .before .before .before .before .before .before .before .before .before .before .before .pre .1 .0))
 
 pub plan-join-spec : {M : Type 1} → statement M
 plan-join-spec =

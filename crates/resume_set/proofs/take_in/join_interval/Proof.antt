@@ -31,7 +31,7 @@ plan-join-requires : tie.Need-plan-join-requires
 plan-join-requires c κs =
     let a = c .before .before .before .before .before .args in
     let p = c .before .before .before .before .before .pre in
-    (p .0 .set, (p .0 .counted, ((p .1 .0 .0, p .1 .0 .1), interval-says (a .a) (a .b) (p .1 .1 .0) .1)))
+    (p .0 .set, (sym (p .0 .counted .total), ((p .1 .0 .0, p .1 .0 .1), interval-says (a .a) (a .b) (p .1 .1 .0) .1)))
 
 over-requires : tie.Need-over-requires
 over-requires c κs = search needs
