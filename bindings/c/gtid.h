@@ -10,7 +10,7 @@
  * all of the output is as it was, and `*len` is 0. The one exception is 13, an output that is too short: then `*len` is the
  * length that is needed. It can't come where the output has the length that stands with the call.
  *
- * A call uses up to 200 KB of the stack. None keeps anything, so calls on different memory may run at the same time. */
+ * A call uses up to 210 KB of the stack. None keeps anything, so calls on different memory may run at the same time. */
 #ifndef GTID_H
 #define GTID_H
 

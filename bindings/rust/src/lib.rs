@@ -6,7 +6,7 @@
 //!
 //! The archive is for x86-64 Linux. `rt staticlib abi` in the repository makes it (it is looked for in `target/staticlib` there, or in the
 //! folder that GTID_LIB_DIR names); then depend on this crate by its path. On another machine build for x86-64 and emulate: the variables
-//! that this takes stand in `tools/needs`. A call uses up to 200 KB of the stack.
+//! that this takes stand in `tools/needs`. A call uses up to 210 KB of the stack.
 //!
 //! A follower's step, run for each transaction: offer its id, copy it and commit it in the tool, commit the offer, and save. In this order
 //! no crash loses a transaction; [`ResumeSet::offer`] says what the tool must do about one that it is given twice.

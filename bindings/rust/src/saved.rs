@@ -23,8 +23,8 @@ impl ResumeSet {
     /// A set from the time when the number after [`HIGHEST_GNO`](crate::HIGHEST_GNO) was let in, and that has it, is no set any more. It can
     /// be kept without that id: README.md of the repository says how ("A saved set with the number 2^63-1").
     ///
-    /// Nor is a set from the time when one entry could have more than 1,024 intervals, and that has such an entry. It can be kept as two
-    /// sets, one that is asked and one that events are offered to: `tests/limits.rs` shows how (`an_old_set_goes_on_as_two`).
+    /// Nor is a set from the time when one entry could have more than 1,024 intervals, and that has such an entry. It can go on as two sets,
+    /// one that is asked and one that events are offered to: README.md says how ("A saved set with more than 1,024 intervals in one entry").
     ///
     /// ```
     /// use gtid_resume::{Refusal, ResumeSet};

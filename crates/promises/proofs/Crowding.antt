@@ -10,14 +10,14 @@ use Rattle.packets.specs.Key.{Key}
 use Rattle.packets.proofs.GnoLaws.{gnoTop-is}
 use Rattle.previous_gtids_event.specs.Entry.{Entry, entry, uuidOf, tagOf}
 use Rattle.previous_gtids_event.specs.Rewrite.{bodyBytes}
-use Rattle.gtid_sets.specs.Interval.{Gapped, Some, insert}
+use Rattle.gtid_sets.specs.Interval.{Gapped, insert}
 use Rattle.gtid_sets.specs.Set.{has, add, SetForm}
 use Rattle.gtid_sets.specs.Limits.{EntryOver}
 use Rattle.gtid_sets.specs.Lent.{GoodKeys, SetLaid}
 use Rattle.gtid_sets.proofs.IntervalLaws.{insert-before, gapped-misses}
 use Rattle.gtid_sets.proofs.SetLaws.{join-into, entry-has}
 use Rattle.gtid_sets.proofs.LimitLaws.{maxEntries-is, maxIntervals-is, maxOfEntry-is, over-none, limits-from}
-use Rattle.resume_set.specs.declared.Offered.{Offered}
+use Rattle.set_check.proofs.RestLaws.{more-some}
 use Rattle.resume_set.specs.declared.Offered.the-variants.{Refused, Taken}
 use Rattle.resume_set_laws.specs.History.{Offering}
 use Rattle.resume_set_laws.specs.Ours.{ours}
@@ -49,10 +49,6 @@ unfolding spread
 spread-before zero from a b h = refl
 spread-before (suc n) from a b h = ap length (insert-before a b from (from + 1) (spread n (from + 2)) h) ∙ omega (arith, spread-length n (from + 2))
 
-some-there : (is : List Interval) → 0 < length is → Some is
-some-there [] h = absurd (omega arith)
-some-there (i ∷ is) h = tt
-
 -- ---- an entry of the zero uuid with 1,024 of them, from 3 on
 
 abbrev zeros : Key
@@ -68,7 +64,7 @@ gaps : Gapped 2 most
 gaps = spread-gapped 1024 2 3 (omega arith) (omega (arith, gnoTop-is))
 
 formed : SetForm entryFull
-formed = (some-there most (omega (arith, spread-length 1024 3)), spread-gapped 1024 0 3 (omega arith) (omega (arith, gnoTop-is)), tt, tt)
+formed = (more-some most (omega (arith, spread-length 1024 3)), spread-gapped 1024 0 3 (omega arith) (omega (arith, gnoTop-is)), tt, tt)
 
 keyed : GoodKeys entryFull
 unfolding uuidOf tagOf

@@ -150,6 +150,11 @@ planned bs u t a b p is none = (
 
 -- ---- a set that was made, or is to be written
 
+-- within the limits it is written as it is
+pub saved-fine : (s : List Entry) (bs out d : List ℕ) (w : Wrote) → bodyBytes s ≡ bs → w ≡ answerOf out (bytes bs) → d ≡ outputOf out (bytes bs)
+    → limits s ≡ fine → (w ≡ answerOf out (saved s)) × (d ≡ outputOf out (saved s))
+saved-fine s bs out d w whole p q f = rw (f, whole) (p, q)
+
 module _ (s : List Entry) (x : ℕ) (told : x ≡ judgedAs (limits s)) (out : List ℕ) where
   -- either the set is refused, with this number
   pub saved-refused : (x ≡ 0 → ⊥) → (record { refusal = x; len = 0 } ≡ answerOf out (saved s)) × (out ≡ outputOf out (saved s))
@@ -161,16 +166,12 @@ module _ (s : List Entry) (x : ℕ) (told : x ≡ judgedAs (limits s)) (out : Li
 
   -- or it is within the limits
   module _ (zero : x ≡ 0) where
-    within : limits s ≡ fine
+    pub within : limits s ≡ fine
     within = go (limits s) refl
       where
         go : (j : Judged) → limits s ≡ j → j ≡ fine
         go fine e = refl
         go (breaks r) e = absurd (no-zero r (sym (told ∙ ap judgedAs e) ∙ zero))
-
-    pub saved-copied : (bs d : List ℕ) (w : Wrote) → bodyBytes s ≡ bs → w ≡ answerOf out (bytes bs) → d ≡ outputOf out (bytes bs)
-        → (w ≡ answerOf out (saved s)) × (d ≡ outputOf out (saved s))
-    saved-copied bs d w whole p q = rw (within, whole) (p, q)
 
     module _ (len : ℕ) (size : len ≡ length (bodyBytes s)) where
       pub joined-short : length out < len → (record { refusal = 13; len = len } ≡ answerOf out (saved s)) × (out ≡ outputOf out (saved s))

@@ -1,4 +1,4 @@
--- Laws of what is written for a set that was made, and of what taking in a body answers and writes.
+-- Laws of what taking in a body answers and writes.
 use Prim.Native.Nat.{ℕ, _^_, _<_, _≤_}
 use mathlib.Core.Path.{_≡_, sym, ap, _∙_}
 use mathlib.Core.Bool.{true, false}
@@ -18,22 +18,16 @@ use Rattle.previous_gtids_event.specs.Answers.{previousRead}
 use Rattle.previous_gtids_event.specs.declared.PreviousRead.{PreviousRead}
 use Rattle.previous_gtids_event.proofs.Reading.{was-read, was-not-read, previous-parts, previous-inside, previous-says}
 use Rattle.previous_gtids_event.proofs.RoundTrip.{rewritten-read}
-use Rattle.gtid_sets.specs.Limits.{fine, limits, intervals}
+use Rattle.gtid_sets.specs.Limits.{intervals}
 use Rattle.gtid_sets.specs.Lent.{form, lentSet}
 use Rattle.gtid_sets.specs.TakeIn.{lawful, takeIn}
 use Rattle.gtid_sets.proofs.FormLaws.{lawful-tests}
-use Rattle.gtid_sets.proofs.LimitLaws.{maxEntries-is, maxIntervals-is, limits-says, limits-from}
+use Rattle.gtid_sets.proofs.LimitLaws.{maxIntervals-is, limits-says}
 use Rattle.gtid_sets.proofs.LentLaws.{well-formed, lent-is}
 use Rattle.gtid_sets.proofs.TakeInLaws.{form-lawful, takeIn-self}
 use Rattle.resume_set.specs.Answers.{saved, takenIn}
 use Rattle.resume_set.specs.Find.{entriesOf}
-
--- ---- a set that was made
-
--- within the limits it is written as it is
-module _ (s : List Entry) (bs out d : List ℕ) (w : Wrote) (whole : bodyBytes s ≡ bs) (p : w ≡ answerOf out (bytes bs)) (q : d ≡ outputOf out (bytes bs)) where
-  pub saved-fine : limits s ≡ fine → (w ≡ answerOf out (saved s)) × (d ≡ outputOf out (saved s))
-  saved-fine f = rw (f, whole) (p, q)
+use Rattle.resume_set.proofs.AnswerLaws.{saved-fine}
 
 -- ---- what was read, refused or by the gno rule
 

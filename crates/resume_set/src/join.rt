@@ -24,13 +24,12 @@ ghost use Rattle.misc.specs.Output.{outputOf, answerOf, WhereFits};
 ghost use Rattle.previous_gtids_event.specs.Entry.{Entry};
 ghost use Rattle.previous_gtids_event.specs.Rewrite.{bodyBytes};
 ghost use Rattle.gtid_sets.specs.Set.{join};
-ghost use Rattle.gtid_sets.specs.Limits.{over, crowds, limits};
-ghost use Rattle.gtid_sets.specs.Limits as sets;
+ghost use Rattle.gtid_sets.specs.Limits.{intervals, over, crowds, limits};
 ghost use Rattle.resume_set.specs.Answers.{saved, judgedAs};
 ghost use Rattle.resume_set.specs.Find.{setOf, IsSet, Counted};
 ghost use Rattle.resume_set.specs.Join.{extra, PlanIs, Runs, planRuns};
 
-// How many bytes, if they are wanted.
+// So many, if they are wanted.
 fn gained(wanted: bool, count: usize) -> usize
     ensures { λ r. ⌜ (r ≡ extra wanted count) × (r ≤ count) ⌝ }
 {
@@ -59,7 +58,7 @@ pub(crate) fn plan_join(
     b: u64,
 ) -> Plan
     requires { ⌜ IsSet (now set) tagged count ⌝ }
-    requires { ⌜ sets.intervals (setOf (now set)) ≡ total ⌝ }
+    requires { ⌜ intervals (setOf (now set)) ≡ total ⌝ }
     requires { ⌜ (length (now uuid) ≡ 16) × (length (now tag) ≤ 32) ⌝ }
     requires { ⌜ a < b ⌝ }
     ensures { λ r. ⌜ PlanIs (now (set .entry)) (now (uuid .entry)) (now (tag .entry)) a b r ⌝ }
@@ -113,8 +112,8 @@ pub(crate) fn put_joined(set: &[u8], uuid: &[u8], tag: &[u8], plan: Plan, out: &
 }
 
 // What the limits say of a set: 17 if an entry has too many intervals, else 16 if there are too many entries or intervals, else 0.
-fn judge(crowded: bool, entries: usize, intervals: usize) -> u8
-    ensures { λ r. ⌜ ((s : List Entry) → (crowded ≡ ltb 0 (crowds s)) × (entries ≡ length s) × (intervals ≡ sets.intervals s) → r ≡ judgedAs (limits s)) ⌝ }
+fn judge(crowded: bool, entries: usize, total: usize) -> u8
+    ensures { λ r. ⌜ ((s : List Entry) → (crowded ≡ ltb 0 (crowds s)) × (entries ≡ length s) × (total ≡ intervals s) → r ≡ judgedAs (limits s)) ⌝ }
 {
     if crowded {
         return CROWDED;
@@ -122,7 +121,7 @@ fn judge(crowded: bool, entries: usize, intervals: usize) -> u8
     if MAX_ENTRIES < entries {
         return FULL;
     }
-    if MAX_INTERVALS < intervals {
+    if MAX_INTERVALS < total {
         return FULL;
     }
     0

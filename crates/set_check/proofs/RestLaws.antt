@@ -1,5 +1,5 @@
 -- The entries of a set, one after another: what the check of an entry says of those from it on.
-use Prim.Native.Nat.{ℕ, suc, _+_, _-_, _*_, _^_, _<_, _≤_}
+use Prim.Native.Nat.{ℕ, suc, _+_, _*_, _^_, _<_, _≤_}
 use mathlib.Core.Path.{_≡_, sym, ap, _∙_}
 use mathlib.Core.Logic.{_⊎_, inl, inr}
 use mathlib.Core.Bool.{Bool, true, false, _||_, or-assoc}
@@ -108,7 +108,7 @@ some-more : (is : List Interval) → Some is → 0 < length is
 some-more [] s = absurd s
 some-more (i ∷ is) s = omega arith
 
-more-some : (is : List Interval) → 0 < length is → Some is
+pub more-some : (is : List Interval) → 0 < length is → Some is
 more-some [] h = absurd (omega arith)
 more-some (i ∷ is) h = tt
 

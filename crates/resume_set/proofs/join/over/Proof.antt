@@ -1,6 +1,5 @@
 -- `resume_set::join::over` meets its contract.
 use mathlib.Core.Path.{_∙_}
-use native.Mathlib.Omega.{arith}
 use borrow.Author.Needs.{needs}
 use Rattle.resume_set.proofs.JoinLaws.{extra-over}
 use Rattle.resume_set.proofs.join.over.Statement.{statement}

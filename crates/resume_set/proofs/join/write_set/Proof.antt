@@ -2,7 +2,7 @@
 use denote.Ref.{now}
 use borrow.Author.Needs.{needs}
 use Rattle.resume_set.specs.Find.{setOf}
-use Rattle.resume_set.proofs.AnswerLaws.{counts, saved-refused, saved-copied}
+use Rattle.resume_set.proofs.AnswerLaws.{counts, saved-fine, saved-refused, within}
 use Rattle.resume_set.proofs.join.write_set.Statement.{statement}
 use Rattle.resume_set.proofs.join.write_set.Tie as tie
 
@@ -24,7 +24,8 @@ returns-2 : tie.Need-returns-2
 returns-2 c =
     let s = c .before .before .before .before .before .before .before .before .before in
     let w = c .before .before .write-bytes .ensures in
-    saved-copied (setOf (now (s .args .set))) _ (c .before .before .before .before .before .judge .ensures (setOf (now (s .args .set))) (counts _ _ (s .pre .1))) (now (s .args .out)) (c .before .before .before .before .if1 .left) (now (s .args .set)) _ _ (s .pre .0) (w .0) (w .1)
+    let judged = c .before .before .before .before .before .judge .ensures (setOf (now (s .args .set))) (counts _ _ (s .pre .1)) in
+    saved-fine (setOf (now (s .args .set))) (now (s .args .set)) (now (s .args .out)) _ _ (s .pre .0) (w .0) (w .1) (within _ _ judged (now (s .args .out)) (c .before .before .before .before .if1 .left))
 
 pub write-set-spec : {M : Type 1} → statement M
 write-set-spec = tie.close (tie.spec judge-requires returns write-bytes-requires same-length returns-2)
