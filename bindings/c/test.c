@@ -153,29 +153,61 @@ static void offer_to_longest_set(void)
     EXPECT(kind == GTID_REFUSED && len == 0);
 }
 
-/* One entry, the uuid 00 00 .., with so many intervals, as the body of the input. Returns how many bytes it has. */
-static size_t put_one_entry(uint64_t intervals)
+/* One entry, the uuid 00 00 .., with so many intervals, as the body of the input: the numbers 1, 3, 5 and so on. Returns how many bytes it
+ * has. */
+static size_t put_one_entry(size_t intervals)
 {
+    uint8_t *at = input + 1 + 32;
+
     memset(input + 1, 0, 24);
     put(input + 1, 1);
-    return (size_t)(put_intervals(input + 25, intervals, 1) - (input + 1));
+    put(input + 1 + 24, intervals);
+    for (size_t i = 0; i < intervals; i++, at += 16) {
+        put(at, 2 * i + 1);
+        put(at + 8, 2 * i + 2);
+    }
+    return (size_t)(at - (input + 1));
 }
 
-/* An entry with 1,024 intervals takes an id that lengthens the last one, but none that stands apart. With one more it is in no set. */
+/* Fills both buffers alike: after a refusal the output is compared with the other one. */
+static void fill_alike(void)
+{
+    memset(set, 0xa5, sizeof set);
+    memset(next, 0xa5, sizeof next);
+}
+
+/* An entry with 1,024 intervals takes an id that lengthens the last one, or joins the first two, but none that stands apart: that leaves
+ * the output as it was. */
 static void offer_to_full_entry(void)
 {
     size_t body_len = put_one_entry(1024), len = 9;
     uint64_t entries = 9, intervals = 9;
     uint8_t event[25] = {0}, kind = 9;
 
-    put(event + 17, 1 + 10 * 1023 + 2);
+    put(event + 17, 2048);
     EXPECT(gtid_offer(input + 1, body_len, 33, event, sizeof event, next, sizeof next, &kind, &len) == 0);
     EXPECT(kind == GTID_TAKEN && len == body_len);
-    put(event + 17, 1 + 10 * 1023 + 4);
+    put(event + 17, 2);
+    EXPECT(gtid_offer(input + 1, body_len, 33, event, sizeof event, next, sizeof next, &kind, &len) == 0);
+    EXPECT(kind == GTID_TAKEN && len == body_len - 16);
+    EXPECT(gtid_check_set(next, len, &entries, &intervals) == 0 && entries == 1 && intervals == 1023);
+    put(event + 17, 2049);
+    fill_alike();
     EXPECT(gtid_offer(input + 1, body_len, 33, event, sizeof event, next, sizeof next, &kind, &len) == 17);
-    EXPECT(kind == GTID_REFUSED && len == 0);
-    body_len = put_one_entry(1025);
+    EXPECT(kind == GTID_REFUSED && len == 0 && memcmp(next, set, sizeof next) == 0);
+}
+
+/* An entry with 1,025 intervals is in no set. */
+static void refuse_crowded_entry(void)
+{
+    size_t body_len = put_one_entry(1025), len = 9;
+    uint64_t entries = 9, intervals = 9;
+    uint8_t event[25] = {0}, kind = 9;
+
+    put(event + 17, 1);
+    fill_alike();
     EXPECT(gtid_take_in(input + 1, body_len, next, sizeof next, &len) == 17 && len == 0);
+    EXPECT(memcmp(next, set, sizeof next) == 0);
     EXPECT(gtid_check_set(input + 1, body_len, &entries, &intervals) == 14 && entries == 0 && intervals == 0);
     EXPECT(gtid_offer(input + 1, body_len, 33, event, sizeof event, next, sizeof next, &kind, &len) == 14);
 }
@@ -240,5 +272,6 @@ int main(void)
     take_in_and_list_longest_set();
     offer_to_longest_set();
     offer_to_full_entry();
+    refuse_crowded_entry();
     return faults != 0;
 }

@@ -147,6 +147,9 @@ fn taking_in_says_crowded_before_full() {
     assert_eq!(ResumeSet::take_in(&body(&many)), Err(Refusal::Full));
     many[200].2 = &more;
     assert_eq!(ResumeSet::take_in(&body(&many)), Err(Refusal::Crowded));
+    // beyond all three limits: 3,455 intervals
+    (many[100].2, many[300].2) = (&most, &most);
+    assert_eq!(ResumeSet::take_in(&body(&many)), Err(Refusal::Crowded));
     let mut three: [Listed; 3] = [(1, b"", &most), (2, b"", &most), (3, b"", &rest)];
     assert_eq!(ResumeSet::take_in(&body(&three)), Err(Refusal::Full));
     three[1].2 = &more;
@@ -236,7 +239,10 @@ fn the_first_tag_widens_every_entry() {
     let mut set = set(&entries(383));
     assert_eq!(take_id(&mut set, 383, &TAG, 1), Ok(Offered::Taken));
     assert_eq!(set.counts(), (384, 384));
-    assert!(set.as_bytes().len() <= LONGEST_SET && set.contains(&uuid(383), &TAG, 1));
+    assert!(set.contains(&uuid(383), &TAG, 1));
+    // uuid, tag with its length, count, interval
+    let (without_tag, with_tag) = (16 + 1 + 8 + 16, 16 + 33 + 8 + 16);
+    assert_eq!(set.as_bytes().len(), 8 + 383 * without_tag + with_tag);
 }
 
 // ---- sets that were saved while one entry could have 2,048 intervals
@@ -321,23 +327,77 @@ fn two_sets_have_the_ids_of_an_old_one() {
     assert_eq!(both, all(previous.sids()));
 }
 
-/// The first set stays as it is; what is saved after an offer is the second.
+/// Offers an id of the entry that is cut and commits the offer; no answer where the transaction is passed over.
+fn take_as_two(sets: &mut [ResumeSet; 2], event_type: u8, gno: u64) -> Option<Offered> {
+    let body = event(2, b"", gno).write().unwrap();
+    let offer = offer_to(sets, event_type, &body).unwrap()?;
+    let answer = offer.answer();
+    offer.commit();
+    Some(answer)
+}
+
+/// The answers to an id of the first set, an event without an id, an id of the second set, and two new ones.
+fn answers(sets: &mut [ResumeSet; 2]) -> [Option<Offered>; 5] {
+    [
+        (GTID_EVENT, 1),
+        (ANONYMOUS_GTID_EVENT, 1),
+        (GTID_EVENT, 2999),
+        (GTID_EVENT, 2),
+        (GTID_EVENT, 3000),
+    ]
+    .map(|(event_type, gno)| take_as_two(sets, event_type, gno))
+}
+
+/// The first set stays as it is and is saved once; what is saved after an offer is the second.
 #[test]
 fn an_old_set_goes_on_as_two() {
+    use Offered::{AlreadyThere, NoId, Taken};
+    let (no_id, there, taken) = (Some(NoId), Some(AlreadyThere), Some(Taken));
+    let again = [None, no_id, there, there, there];
+    let folder = Folder::new("two");
+    let files = ["first", "second"].map(|name| folder.file(name));
+
     let mut sets = cut(&old_set()).unwrap();
-    let mut answer = |event_type, gno| {
-        let body = event(2, b"", gno).write().unwrap();
-        let offer = offer_to(&mut sets, event_type, &body).unwrap()?;
-        let answer = offer.answer();
-        offer.commit();
-        Some(answer)
-    };
-    assert_eq!(answer(GTID_EVENT, 1), None); // in the first
-    assert_eq!(answer(ANONYMOUS_GTID_EVENT, 1), Some(Offered::NoId));
-    assert_eq!(answer(GTID_EVENT, 2999), Some(Offered::AlreadyThere));
-    for new in [2, 3000] {
-        assert_eq!(answer(GTID_EVENT, new), Some(Offered::Taken));
-        assert_eq!(answer(GTID_EVENT, new), Some(Offered::AlreadyThere));
-    }
+    let first = sets[0].clone();
+    first.save(&files[0]).unwrap();
+    assert_eq!(answers(&mut sets), [None, no_id, there, taken, taken]);
+    assert_eq!(answers(&mut sets), again);
+    assert_eq!(sets[0], first);
     assert_eq!(sets[1].counts(), (3, 479));
+    sets[1].save(&files[1]).unwrap();
+
+    let mut loaded = [0, 1].map(|set| ResumeSet::load(&files[set]).unwrap());
+    assert_eq!(answers(&mut loaded), again);
+    assert_eq!(loaded, sets);
+    for (file, set) in files.iter().zip(&loaded) {
+        assert_eq!(fs::read(file).unwrap(), set.as_bytes());
+    }
+}
+
+/// The numbers of a Previous-GTIDs event that neither set has. They are asked one by one: an interval may be partly in either.
+fn missing(sets: &[ResumeSet; 2], opening: &[u8]) -> Result<Vec<u64>, Refusal> {
+    let (previous, _) = PreviousGtidsEvent::read(opening)?;
+    let mut missing = Vec::new();
+    for (uuid, tag, (start, end)) in all(previous.sids()) {
+        let in_neither = |gno: &u64| !sets.iter().any(|set| set.contains(uuid, tag, *gno));
+        missing.extend((start..end).filter(in_neither));
+    }
+    Ok(missing)
+}
+
+#[test]
+fn an_opening_event_is_asked_of_both() {
+    let old = old_set();
+    let mut sets = cut(&old).unwrap();
+    assert_eq!(ResumeSet::take_in(&old), Err(Refusal::Crowded));
+    assert_eq!(missing(&sets, &old), Ok(vec![]));
+    // one more: the number between the last of the first set and the next one, which is in the second
+    let mut intervals = odd(1500);
+    intervals.splice(1023..1025, [(2047, 2050)]);
+    let opening = body(&[(2, b"", &intervals)]);
+    assert_eq!(ResumeSet::take_in(&opening), Err(Refusal::Crowded));
+    assert_eq!(missing(&sets, &opening), Ok(vec![2048]));
+    let answer = take_as_two(&mut sets, GTID_EVENT, 2048);
+    assert_eq!(answer, Some(Offered::Taken));
+    assert_eq!(missing(&sets, &opening), Ok(vec![]));
 }

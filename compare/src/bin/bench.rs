@@ -940,6 +940,7 @@ fn longest() -> Vec<Entry> {
     for entry in &mut entries[..256] {
         entry.intervals.push(interval(6));
     }
+    assert_eq!(body(&entries).len(), LONGEST);
     entries
 }
 

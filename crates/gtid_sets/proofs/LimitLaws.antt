@@ -99,7 +99,7 @@ module _ (s : List Entry) where
       (λ t. let (a, b) = and-true (leb (length s) maxEntries) (leb (intervals s) maxIntervals) t in (leb-true _ _ a, leb-true _ _ b))
       (λ t. clash (ap isFine h) (rw (limits-fair h, t)))
 
-  -- 17 just if some entry has too many
+  -- 17 if some entry has too many
   pub limits-crowded : (crowds s ≡ 0 → ⊥) → limits s ≡ breaks crowded
   unfolding limits
   limits-crowded f = rw (ne-eqb (crowds s) 0 f)

@@ -1,5 +1,5 @@
 -- What a set of transaction ids is, and what becomes of it: which ids are members (`has`), the one form in which it is written
--- (`SetForm`), how it takes in the ids of a body (`takeIn`), when it is full (`limits`), what an offer answers (`answer`) and a run of
+-- (`SetForm`), how it takes in the ids of a body (`takeIn`), what its limits say (`limits`), what an offer answers (`answer`) and a run of
 -- offers leaves (`run`), which bytes are a set (`lentSet`), and the same run on saved bytes (`savedRun`).
 pub mod Interval
 pub mod Set

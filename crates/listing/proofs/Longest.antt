@@ -65,7 +65,7 @@ entries-most (entry k is ∷ s) g f =
     let rest = entries-most s (g .1) (f .3) in
     simp length-append (omega arith)
 
-pub set-text-long : (word : List ℕ) (s : List Entry) → GoodKeys s → SetForm s → limits s ≡ fine → length (setText word s) ≤ length word + 28 + 384 * 70 + 2560 * 40
+pub set-text-long : (word : List ℕ) (s : List Entry) → GoodKeys s → SetForm s → limits s ≡ fine → length (setText word s) ≤ length word + 28 + maxEntries * 70 + maxIntervals * 40
 unfolding setText
 set-text-long word s g f h =
     let (few, less) = limits-says s h in
@@ -95,18 +95,18 @@ gtid-text-long type body ok = go (gtid type body) refl
         let (u, n, t) = key-parts type body (gtidRead (parsed v next)) (sym (ap gtidRead e)) refl ok in
         split (eqb type 34) (λ h. rw h (omega arith)) (λ h. rw h (id-most v u n t))
 
-taken-text-long : (body : List ℕ) → length (takenText (takenIn (previous body))) ≤ 129322
+taken-text-long : (body : List ℕ) → length (takenText (takenIn (previous body))) ≤ longestText
 taken-text-long body =
-    taken-cases body (λ r e. rw e (omega (arith, refused-most (number r))))
+    taken-cases body (λ r e. rw e (omega (arith, refused-most (number r), longestText-is)))
     (λ s e lent.
     let is = lent-is (bodyBytes s) s lent in
-    rw (taken-text body s e lent) (omega (arith, set-text-long previousWord s (is .keyed) (is .formed) (is .limited))))
+    rw (taken-text body s e lent) (omega (arith, set-text-long previousWord s (is .keyed) (is .formed) (is .limited), maxEntries-is, maxIntervals-is, longestText-is)))
 
-event-text-long : (type : ℕ) (body : List ℕ) → Bytes body → length (eventText type body) ≤ 129322
+event-text-long : (type : ℕ) (body : List ℕ) → Bytes body → length (eventText type body) ≤ longestText
 unfolding eventText
 event-text-long type body ok =
-    split (eqb type 35) (λ h. rw h (taken-text-long body)) (λ h. rw h (omega (arith, gtid-text-long type body ok)))
+    split (eqb type 35) (λ h. rw h (taken-text-long body)) (λ h. rw h (omega (arith, gtid-text-long type body ok, longestText-is)))
 
 pub longest-text : (input : List ℕ) → Bytes input → length (listing input) ≤ longestText
 longest-text [] ok = omega (arith, refused-most 1, longestText-is)
-longest-text (type ∷ body) ok = omega (arith, event-text-long type body (λ i. ok (suc i)), longestText-is)
+longest-text (type ∷ body) ok = event-text-long type body (λ i. ok (suc i))

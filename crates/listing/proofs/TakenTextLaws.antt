@@ -17,9 +17,10 @@ use Rattle.previous_gtids_event.specs.Entry.{Entry}
 use Rattle.previous_gtids_event.specs.Previous.{previous}
 use Rattle.previous_gtids_event.specs.Rewrite.{bodyBytes}
 use Rattle.gtid_sets.specs.TakeIn.{lawful, takeIn}
+use Rattle.gtid_sets.specs.Limits.{longestSet}
 use Rattle.gtid_sets.specs.Lent.{form, lentSet}
 use Rattle.gtid_sets.proofs.FormLaws.{lawful-holds}
-use Rattle.gtid_sets.proofs.LimitLaws.{limits-cases, longestSet-is}
+use Rattle.gtid_sets.proofs.LimitLaws.{limits-cases}
 use Rattle.gtid_sets.proofs.LentLaws.{lent-takeIn, lent-short}
 use Rattle.resume_set.specs.Answers.{takenIn}
 use Rattle.listing.specs.SetText.{setText, listedSet}
@@ -66,13 +67,13 @@ output-there : (l bs : List ℕ) → length bs ≤ length l → outputOf l (byte
 unfolding outputOf
 output-there l bs h = rw (le-leb (length bs) (length l) h)
 
-module _ (body buffer set : List ℕ) (taken : Wrote) (long : length buffer ≡ 62856) (told : taken ≡ answerOf buffer (takenIn (previous body)))
+module _ (body buffer set : List ℕ) (taken : Wrote) (long : length buffer ≡ longestSet) (told : taken ≡ answerOf buffer (takenIn (previous body)))
     (left : set ≡ outputOf buffer (takenIn (previous body))) where
   number-told : (r : Refusal) → takenIn (previous body) ≡ refused r → taken .refusal ≡ number r
   number-told r e = ap (λ (y : Wrote). y .refusal) (told ∙ ap (answerOf buffer) e ∙ sym (output-refused buffer r .0))
 
   has-room : (s : List Entry) → lentSet (bodyBytes s) ≡ form s → length (bodyBytes s) ≤ length buffer
-  has-room s lent = omega (arith, lent-short (bodyBytes s) s lent, longestSet-is)
+  has-room s lent = omega (arith, lent-short (bodyBytes s) s lent)
 
   wrote-told : (s : List Entry) → takenIn (previous body) ≡ bytes (bodyBytes s) → lentSet (bodyBytes s) ≡ form s
       → taken ≡ record { refusal = 0; len = length (bodyBytes s) }

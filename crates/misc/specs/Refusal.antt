@@ -74,7 +74,7 @@ notASet = numbered 14
 abbrev pub badGno : Refusal
 badGno = numbered 15
 
--- full: the result's set form breaks the set limits
+-- full: the result's set form has too many entries, or too many intervals together
 abbrev pub full : Refusal
 full = numbered 16
 

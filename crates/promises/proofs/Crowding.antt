@@ -1,29 +1,38 @@
--- An offer to an entry that has as many intervals as one may have: 17 is given, and wrong offers are shut out by it.
+-- Offers to an entry that has as many intervals as one may have: an id that stands apart is 17, one that joins two is taken. Wrong offers are
+-- shut out by that.
 use Prim.Native.Nat.{ℕ, zero, suc, _+_, _*_, _≤_, _<_}
 use mathlib.Core.Path.{_≡_, refl, sym, ap, _∙_}
 use mathlib.Core.Bool.{false}
 use mathlib.Core.List.{List, [], _∷_}
 use native.Mathlib.Omega.{arith}
-use lib.ListN.{length, replicate}
+use lib.ListN.{length, replicate, length-replicate}
+use Rattle.misc.specs.Parse.{Bytes, parsed, bytesAt, byteAt}
+use Rattle.misc.specs.Body.{bodyLimit}
+use Rattle.misc.specs.Le.{leOf, leAt}
 use Rattle.packets.specs.Gno.{gnoTop, Interval, interval}
 use Rattle.packets.specs.Key.{Key}
 use Rattle.packets.proofs.GnoLaws.{gnoTop-is}
 use Rattle.previous_gtids_event.specs.Entry.{Entry, entry, uuidOf, tagOf}
 use Rattle.previous_gtids_event.specs.Rewrite.{bodyBytes}
+use Rattle.gtid_event_read.specs.Untagged.{openingAt, untagged}
+use Rattle.gtid_event_read.specs.Read.{gtid}
 use Rattle.gtid_sets.specs.Interval.{Gapped, insert}
 use Rattle.gtid_sets.specs.Set.{has, add, SetForm}
-use Rattle.gtid_sets.specs.Limits.{EntryOver}
+use Rattle.gtid_sets.specs.Limits.{fine, limits, longestSet, EntryOver}
 use Rattle.gtid_sets.specs.Lent.{GoodKeys, SetLaid}
-use Rattle.gtid_sets.proofs.IntervalLaws.{insert-before, gapped-misses}
+use Rattle.gtid_sets.proofs.IntervalLaws.{insert-before, insert-joined, gapped-misses}
 use Rattle.gtid_sets.proofs.SetLaws.{join-into, entry-has}
 use Rattle.gtid_sets.proofs.LimitLaws.{maxEntries-is, maxIntervals-is, maxOfEntry-is, over-none, limits-from}
+use Rattle.gtid_sets.proofs.LentLaws.{longest, good-join}
 use Rattle.set_check.proofs.RestLaws.{more-some}
+use Rattle.resume_set.specs.Answers.{eventOf}
 use Rattle.resume_set.specs.declared.Offered.the-variants.{Refused, Taken}
-use Rattle.resume_set_laws.specs.History.{Offering}
+use Rattle.resume_set_laws.specs.History.{Turn, Offering}
 use Rattle.resume_set_laws.specs.Ours.{ours}
-use Rattle.promises.specs.SetFaults.{Names, OfferFault, OfferAnswer}
+use Rattle.promises.specs.SetFaults.{Names, Accepts, OfferFault, OfferAnswer}
 use Rattle.promises.specs.Exact.{OffersExactly}
-use Rattle.promises.specs.WrongOnes.{asFull, saysFull, asTaken, noEntryLimit}
+use Rattle.promises.specs.WrongOnes.{asFull, saysFull, asTaken, saysTaken, crowdedEarly}
+use Rattle.promises.proofs.Demand2.{records-mean}
 use Rattle.promises.proofs.SetsExact.{offers-exactly}
 use Rattle.promises.proofs.ShutOut.{bodyOf, body-bytes, small-1, named, laid-1, offer}
 
@@ -106,19 +115,80 @@ pub refuses-crowded : (f : Offering) → OffersExactly f → f .answers (bodyByt
 refuses-crowded f exactly =
     exactly (bodyBytes entryFull) (offer 1 48) (Refused 17 0) (offer 1 48 .out) (body-bytes 1 small-1) .1 (OfferAnswer.refused (crowded-fault _)) .0
 
+-- ---- gno 4, between the first two, joins them: it is taken, where there is room
+
+most-joined : (n : ℕ) → length (insert 4 5 (spread (suc (suc n)) 3)) ≡ n + 1
+unfolding spread
+most-joined n =
+    ap length (insert-joined 4 5 3 4 (interval 5 6 ∷ spread n 7) (omega arith) (omega arith) ∙ insert-joined 3 5 5 6 (spread n 7) (omega arith) (omega arith))
+    ∙ spread-before n 7 3 6 (omega arith)
+
+between : has entryFull zeros 4 ≡ false
+unfolding spread
+between = entry-has zeros most [] 4 formed ∙ gapped-misses 4 (spread 1023 5) 4 (spread-gapped 1023 4 5 (omega arith) (omega (arith, gnoTop-is))) (omega arith)
+
+small-4 : Bytes (4 ∷ [])
+small-4 zero = omega arith
+small-4 (suc i) = omega arith
+
+read-4 : gtid 33 (bodyOf 4) ≡ parsed (named 4) 25
+unfolding gtid bodyLimit untagged openingAt byteAt bytesAt leAt leOf
+read-4 = refl
+
+named-4 : Names 33 (bodyOf 4) (named 4)
+named-4 = record { used = 25; laid = records-mean 33 (bodyOf 4) (named 4) 25 (body-bytes 4 small-4) .0 read-4; named = λ is. omega arith }
+
+pub joined : List Entry
+joined = add zeros 4 entryFull
+
+joined-fine : limits joined ≡ fine
+unfolding joined
+joined-fine =
+    let few : length (insert 4 5 most) ≡ 1023 = most-joined 1022 in
+    rw (join-into zeros 4 5 most [])
+    (limits-from (entry zeros (insert 4 5 most) ∷ []) (omega (arith, over-none (length (insert 4 5 most)) (omega (arith, few, maxOfEntry-is))))
+    (omega (arith, maxEntries-is)) (omega (arith, few, maxIntervals-is)))
+
+takes : Accepts entryFull 33 (bodyOf 4) Taken joined
+unfolding gnoTop joined
+takes = Accepts.taken {e = named 4} named-4 refl between joined-fine
+
+abbrev roomy : Turn
+roomy = record { type = 33; body = bodyOf 4; out = replicate longestSet 0 }
+
+joined-keyed : GoodKeys joined
+unfolding joined
+joined-keyed = good-join zeros 4 5 entryFull (keyed .0) keyed
+
+pub takes-joined : (f : Offering) → OffersExactly f → f .answers (bodyBytes entryFull) roomy ≡ Taken (length (bodyBytes joined))
+takes-joined f exactly =
+    let room : length (bodyBytes joined) ≤ length (roomy .out) = omega (arith, longest joined joined-keyed joined-fine, length-replicate {A = ℕ} longestSet 0) in
+    exactly (bodyBytes entryFull) roomy (Taken (length (bodyBytes joined))) _ (body-bytes 4 small-4) .1 (OfferAnswer.accepted laid takes room) .0
+
 -- ---- wrong offers
 
--- one that says 16 there
+-- one that says 16 to gno 1
 pub says-full-out : OffersExactly saysFull → ⊥
 says-full-out exactly =
     let two : Refused 16 0 ≡ Refused 17 0 = sym (ap asFull (refuses-crowded ours offers-exactly)) ∙ refuses-crowded saysFull exactly in
     let clash : _≡_ {A = ℕ} 16 17 = cc in
     omega arith
 
--- one that has no limit for an entry, and takes the id
-pub no-entry-limit-out : OffersExactly noEntryLimit → ⊥
-no-entry-limit-out exactly =
+-- one that says "taken"
+pub says-taken-out : OffersExactly saysTaken → ⊥
+says-taken-out exactly =
     let size : ℕ = length (bodyBytes entryFull) + 16 in
-    let two : Taken size ≡ Refused 17 0 = sym (ap (asTaken size) (refuses-crowded ours offers-exactly)) ∙ refuses-crowded noEntryLimit exactly in
+    let two : Taken size ≡ Refused 17 0 = sym (ap (asTaken size) (refuses-crowded ours offers-exactly)) ∙ refuses-crowded saysTaken exactly in
+    let clash : _≡_ {A = ℕ} 0 1 = cc in
+    omega arith
+
+-- one that says 17 to gno 4
+early-says : crowdedEarly .answers (bodyBytes entryFull) roomy ≡ Refused 17 0
+unfolding eventOf gtid bodyLimit untagged openingAt byteAt bytesAt leAt leOf
+early-says = refl
+
+pub crowded-early-out : OffersExactly crowdedEarly → ⊥
+crowded-early-out exactly =
+    let two : Taken (length (bodyBytes joined)) ≡ Refused 17 0 = sym (takes-joined crowdedEarly exactly) ∙ early-says in
     let clash : _≡_ {A = ℕ} 0 1 = cc in
     omega arith

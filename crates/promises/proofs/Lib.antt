@@ -27,8 +27,9 @@ pub mod EventExact
 -- those of bodies
 pub mod BodyFaults
 pub mod BodyForced
--- every public function
+-- the set limits, in the rules' numbers
 pub mod LimitsExact
+-- every public function
 pub mod IntegersExact
 pub mod SetsExact
 pub mod SetsTold

@@ -24,12 +24,14 @@ use Rattle.gtid_event_read.specs.Read.{gtid}
 use Rattle.gtid_event_read.proofs.TaggedLaws.{payload-small}
 use Rattle.gtid_event_write.specs.Writable.{writable}
 use Rattle.gtid_event_write.specs.Write.{eventOutput, lengthOf}
+use Rattle.gtid_sets.specs.Set.{add}
 use Rattle.gtid_sets.specs.Lent.{unfit, lentSet, SetLaid}
 use Rattle.gtid_sets.proofs.LentLaws.{is-lent}
 use Rattle.resume_set.specs.Answers.{eventOf, offered}
 use Rattle.resume_set.specs.declared.Offered.the-variants.{Refused}
 use Rattle.abi.specs.Flat.{flatIdentity, flatClock, flatRest, flat}
 use Rattle.promises.specs.Faults.{EventFault}
+use Rattle.promises.specs.SetFaults.{keyOf}
 use Rattle.promises.specs.Orders.{LongFirst, Orders, Zeros, Outputs}
 use Rattle.promises.proofs.TaggedRefused.{read-envelope, payload}
 use Rattle.promises.proofs.EventExact.{event-refused}
@@ -98,6 +100,8 @@ orders =
       event-next = event-next;
       gno-next = λ set s type body e room are laid named gno.
           rw (is-lent set s laid, event-named type body are named, no-gno (e .gno) gno);
+      crowded-next = λ set s type body e room are laid named good new over.
+          rw (is-lent set s laid, event-named type body are named, good, new, entry-limit (add (keyOf e) (e .gno) s) .1 over);
     }
 
 -- ---- what else a refusal answers, and what is left in an output

@@ -20,7 +20,7 @@ use Rattle.gtid_sets.specs.Limits.{intervals, crowds, EntryOver}
 use Rattle.gtid_sets.specs.Lent.{form, unfit, GoodKeys, SetLaid}
 use Rattle.gtid_sets.proofs.LimitLaws.{longestSet-is}
 use Rattle.gtid_sets.proofs.LentLaws.{read-back, older-lent, older-unfit, lent-is, is-lent, lent-short}
-use Rattle.listing.proofs.Longest.{longestText-is}
+use Rattle.listing.proofs.Longest.{longestText-is, longest-text}
 use Rattle.promises.specs.Exact.{Exactly}
 use Rattle.promises.specs.SetFaults.{SetFault}
 use Rattle.promises.specs.Rules.{Rules}
@@ -65,6 +65,7 @@ rules = record {
   other-limits = other-limits;
   longest-set = longestSet-is;
   longest-text = longestText-is;
+  texts = longest-text;
   longest-body = bodyLimit-is;
   sets-are-bodies = λ set s laid. (
     lent-short set s (is-lent set s laid),

@@ -13,7 +13,7 @@ use Rattle.misc.specs.Body.{bodyLimit, ofBody, unreadOf}
 use Rattle.misc.specs.Le.{leAt}
 use Rattle.misc.specs.Forms.{Form}
 use Rattle.misc.specs.Output.{refused, bytes, outputOf, answerOf}
-use Rattle.packets.specs.Gno.{gnoTop}
+use Rattle.packets.specs.Gno.{gnoTop, isGno}
 use Rattle.packets.specs.Tag.{isTag}
 use Rattle.previous_gtids_event.specs.Entry.{Entry}
 use Rattle.previous_gtids_event.specs.Previous.{intervalAt, entryAt, previous}
@@ -27,6 +27,7 @@ use Rattle.gtid_event_read.specs.Tagged.{tagged}
 use Rattle.gtid_event_read.specs.Read.{gtid, gtidRead}
 use Rattle.gtid_event_write.specs.Writable.{writable}
 use Rattle.gtid_event_write.specs.Write.{eventOutput, lengthOf}
+use Rattle.gtid_sets.specs.Set.{has, add}
 use Rattle.gtid_sets.specs.TakeIn.{lawful, takeIn}
 use Rattle.gtid_sets.specs.Limits.{EntryOver}
 use Rattle.gtid_sets.specs.Lent.{unfit, lentSet, SetLaid}
@@ -35,7 +36,7 @@ use Rattle.resume_set.specs.Answers.{setRead, contained, saved, takenIn, eventO
 use Rattle.resume_set.specs.declared.Offered.the-variants.{Refused}
 use Rattle.abi.specs.Flat.{flat}
 use Rattle.promises.specs.Faults.{EventFault}
-use Rattle.promises.specs.SetFaults.{SetFault, BodyIs, Names}
+use Rattle.promises.specs.SetFaults.{SetFault, BodyIs, keyOf, Names}
 
 -- ---- which of several faults counts
 
@@ -70,6 +71,10 @@ pub record Orders : Type 0 where
   -- then 15, whatever the set holds and whatever the output: "already there", 17 and 16 are judged after it
   pub gno-next : (set : List ℕ) (s : List Entry) (type : ℕ) (body : List ℕ) (e : GtidEvent) (room : ℕ) → Bytes body → SetLaid set s → Names type body e
       → (e .gno ≡ 0) ⊎ (gnoTop ≤ e .gno) → offered (lentSet set) (eventOf type body) room ≡ Refused 15 0
+  -- then 17, whatever else would be passed and whatever the output
+  pub crowded-next : (set : List ℕ) (s : List Entry) (type : ℕ) (body : List ℕ) (e : GtidEvent) (room : ℕ) → Bytes body → SetLaid set s → Names type body e
+      → isGno (e .gno) ≡ true → has s (keyOf e) (e .gno) ≡ false → EntryOver 1024 (add (keyOf e) (e .gno) s)
+      → offered (lentSet set) (eventOf type body) room ≡ Refused 17 0
 
 -- ---- what else a refusal answers
 

@@ -6,7 +6,7 @@ use mathlib.Core.List.{List, _∷_, _++_}
 use mathlib.Core.Logic.{_⊎_}
 use lib.ListN.{length}
 use Rattle.misc.specs.Refusal.{full, crowded}
-use Rattle.misc.specs.Parse.{parsed}
+use Rattle.misc.specs.Parse.{Bytes, parsed}
 use Rattle.misc.specs.Body.{bodyLimit}
 use Rattle.packets.specs.Gno.{gnoTop, interval, isGno, isInterval}
 use Rattle.packets.specs.Key.{Key, _≺_}
@@ -17,7 +17,7 @@ use Rattle.gtid_event_write.specs.Totals.{Totals}
 use Rattle.gtid_sets.specs.Set.{SetForm}
 use Rattle.gtid_sets.specs.Limits.{fine, breaks, intervals, limits, longestSet, EntryOver}
 use Rattle.gtid_sets.specs.Lent.{GoodKeys, SetLaid}
-use Rattle.listing.specs.EventText.{longestText}
+use Rattle.listing.specs.EventText.{listing, longestText}
 use Rattle.promises.specs.SetFaults.{SetFault}
 use Rattle.promises.specs.Exact.{Exactly}
 
@@ -34,12 +34,13 @@ pub record Rules : Type 0 where
   pub set-limits : (s : List Entry) → Exactly (limits s ≡ fine) ((EntryOver 1024 s → ⊥) × (length s ≤ 384) × (intervals s ≤ 2560))
   pub entry-limit : (s : List Entry) → Exactly (limits s ≡ breaks crowded) (EntryOver 1024 s)
   pub other-limits : (s : List Entry) → Exactly (limits s ≡ breaks full) ((EntryOver 1024 s → ⊥) × ((384 < length s) ⊎ (2560 < intervals s)))
-  -- thus at most 62,856 bytes, and 129,322 of text; a body has at most 65,536 bytes, so that every set is read as one
+  -- thus a set has at most 62,856 bytes, and a listing 129,322; a body has at most 65,536 bytes, so that every set is read as one
   pub longest-set : longestSet ≡ 62856
   pub longest-text : longestText ≡ 129322
+  pub texts : (input : List ℕ) → Bytes input → length (listing input) ≤ longestText
   pub longest-body : bodyLimit ≡ 65536
   pub sets-are-bodies : (set : List ℕ) (s : List Entry) → SetLaid set s → (length set ≤ longestSet) × (previous set ≡ parsed s (length set))
-  -- a set that was saved within 01's limits, 256 entries and 2,048 intervals together, is still a set if no entry has more than 1,024 of them, and
+  -- a set that was saved within the limits before CR 11, 256 entries and 2,048 intervals together, is still a set if no entry has more than 1,024 of them, and
   -- else none
   pub saved-before : (s : List Entry) → SetForm s → GoodKeys s → length s ≤ 256 → intervals s ≤ 2048
       → Exactly (SetLaid (bodyBytes s) s) (EntryOver 1024 s → ⊥) × Exactly (SetFault (bodyBytes s) 14) (EntryOver 1024 s)

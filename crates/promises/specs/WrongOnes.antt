@@ -143,15 +143,19 @@ asFull (Refused n len) = Refused (pick (eqb n 17) 16 n) len
 abbrev pub saysFull : Offering
 saysFull = record { answers = λ set t. asFull (ours .answers set t); leaves = ours .leaves }
 
--- knows no limit for one entry: says "taken" where 17 is due
+-- says "taken" where 17 is due
 abbrev pub asTaken : ℕ → Offered → Offered
 asTaken size (NoId len) = NoId len
 asTaken size (AlreadyThere len) = AlreadyThere len
 asTaken size (Taken len) = Taken len
 asTaken size (Refused n len) = pick (eqb n 17) (Taken size) (Refused n len)
 
-abbrev pub noEntryLimit : Offering
-noEntryLimit = record { answers = λ set t. asTaken (length set + 16) (ours .answers set t); leaves = ours .leaves }
+abbrev pub saysTaken : Offering
+saysTaken = record { answers = λ set t. asTaken (length set + 16) (ours .answers set t); leaves = ours .leaves }
+
+-- says 17 before intervals are joined, at least to gno 4
+abbrev pub crowdedEarly : Offering
+crowdedEarly = onlyFor 4 (record { answers = λ set t. Refused 17 0; leaves = λ set t. t .out })
 
 -- finds no id without a tag
 abbrev pub asksTaggedOnly : Asking

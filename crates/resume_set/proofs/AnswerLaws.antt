@@ -5,7 +5,7 @@ use mathlib.Core.Logic.{_⊎_, inl, inr}
 use mathlib.Core.Bool.{Bool, true, false, _&&_}
 use mathlib.Core.List.{List, _++_}
 use native.Mathlib.Omega.{arith}
-use borrow.Author.Tests.{eq-eqb, ne-eqb, ltb-true, ltb-false, lt-ltb, le-ltb}
+use borrow.Author.Tests.{eq-eqb, ne-eqb, ltb-true, ltb-false}
 use lib.Dec.{leb, ltb}
 use lib.ListN.{length, take, length-append, length-replicate}
 use Rattle.misc.specs.Refusal.{Refusal, refusal, number}
@@ -30,14 +30,14 @@ use Rattle.gtid_sets.specs.Set.{has, join, add}
 use Rattle.gtid_sets.specs.Limits.{Judged, fine, breaks, limits, intervals, over, crowds}
 use Rattle.gtid_sets.specs.Run.{Event, names}
 use Rattle.gtid_sets.specs.Lent.{Lent, form, unfit, lentSet}
-use Rattle.gtid_sets.proofs.LimitLaws.{maxEntries-is, maxIntervals-is, maxOfEntry-is, over-none, over-one, limits-fair, limits-crowded, limits-from, too-many-entries, too-many-intervals}
+use Rattle.gtid_sets.proofs.LimitLaws.{maxEntries-is, maxIntervals-is, limits-fair, limits-crowded, limits-from, too-many-entries, too-many-intervals}
 use Rattle.gtid_sets.proofs.LentLaws.{lent-is}
 use Rattle.set_check.specs.Check.{checkedOf}
 use Rattle.set_check.specs.declared.Checked.{Checked}
 use Rattle.set_check.proofs.PlaceLaws.{Bytes}
 use Rattle.resume_set.specs.Answers.{setRead, contained, eventOf, fitting, offeredOf, outputFor, offered, output, saved, caseOf, judgedAs, acceptedAs}
 use Rattle.resume_set.specs.Find.{setOf, Counted, Fits}
-use Rattle.resume_set.specs.Join.{PlanIs}
+use Rattle.resume_set.specs.Join.{extra, PlanIs}
 use Rattle.resume_set.specs.declared.SetRead.{SetRead}
 use Rattle.resume_set.specs.declared.Contained.{Contained}
 use Rattle.resume_set.specs.declared.Offered.{Offered}
@@ -47,6 +47,7 @@ use Rattle.resume_set.specs.declared.Plan.{Plan}
 use Rattle.resume_set.specs.declared.Kind.{Kind}
 use Rattle.resume_set.specs.declared.Kind.the-variants as kind
 use Rattle.resume_set.proofs.SetOfLaws.{lent-set}
+use Rattle.resume_set.proofs.JoinLaws.{extra-over}
 
 -- ---- what the check told
 
@@ -131,9 +132,13 @@ module _ (s : List Entry) (crowd : Bool) (e i : ℕ) (c : (crowd ≡ ltb 0 (crow
 
 -- an entry with so many intervals is the only one that can have too many
 pub only-crowd : (n held m : ℕ) → n ≡ m + over held → m ≡ 0 → ltb 1024 held ≡ ltb 0 n
-only-crowd n held m is none = split (ltb 1024 held)
-    (λ h. let one = over-one held (omega (arith, maxOfEntry-is, ltb-true 1024 held h)) in rw h (sym (lt-ltb 0 n (omega arith))))
-    (λ h. let zero = over-none held (omega (arith, maxOfEntry-is, ltb-false 1024 held h)) in rw h (sym (le-ltb 0 n (omega arith))))
+only-crowd n held m is none =
+    let alone : n ≡ extra (ltb 1024 held) 1 = omega (arith, extra-over held) in
+    rw alone (some (ltb 1024 held))
+  where
+    some : (b : Bool) → b ≡ ltb 0 (extra b 1)
+    some true = refl
+    some false = refl
 
 -- what is known of a set that was made, and of one that is planned
 pub counts : (s : List Entry) (h : Held) → Counted s h → (ltb 0 (h .crowded) ≡ ltb 0 (crowds s)) × (h .entries ≡ length s) × (h .intervals ≡ intervals s)

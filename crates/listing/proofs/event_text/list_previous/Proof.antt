@@ -1,8 +1,9 @@
 -- `listing::event_text::list_previous` meets its contract.
-use mathlib.Core.Path.{sym}
+use mathlib.Core.Path.{sym, _∙_}
 use lib.Seq.{length-take-le}
 use denote.Ref.{now}
 use borrow.Author.Needs.{needs}
+use Rattle.gtid_sets.proofs.LimitLaws.{longestSet-is}
 use Rattle.listing.proofs.TakenTextLaws.{TakenSet, taken-refused, taken-set, taken-listed}
 use Rattle.listing.proofs.EventTextLaws.{same-output, same-text}
 use Rattle.listing.proofs.event_text.list_previous.Statement.{statement}
@@ -10,7 +11,7 @@ use Rattle.listing.proofs.event_text.list_previous.Tie as tie
 
 -- the set in the buffer, once it is taken in
 set-of : (c : tie.Else1) → TakenSet (now (c .before .before .before .before .before .before .args .body)) (c .before .before .take-in .last .1 .0) (c .before .before .take-in .result .len)
-set-of c = let t = c .before .before .take-in in taken-set (now (c .before .before .before .before .before .before .args .body)) _ _ _ (search needs) (t .ensures .0) (t .ensures .1) (c .if1 .left)
+set-of c = let t = c .before .before .take-in in taken-set (now (c .before .before .before .before .before .before .args .body)) _ _ _ (search needs ∙ sym longestSet-is) (t .ensures .0) (t .ensures .1) (c .if1 .left)
 
 slice-aggregate-take-in : tie.Need-slice-aggregate-take-in
 slice-aggregate-take-in c = search needs
@@ -28,7 +29,7 @@ returns : tie.Need-returns
 returns c =
     let a = c .before .before .before .before .before .before .before .before .before .before .args in
     let t = c .before .before .before .before .before .before .take-in in
-    same-text (now (a .out)) (taken-refused (now (a .body)) _ _ _ (search needs) (t .ensures .0) (t .ensures .1) (c .before .before .before .before .if1 .taken)) (c .before .before .write-refused .ensures)
+    same-text (now (a .out)) (taken-refused (now (a .body)) _ _ _ (search needs ∙ sym longestSet-is) (t .ensures .0) (t .ensures .1) (c .before .before .before .before .if1 .taken)) (c .before .before .write-refused .ensures)
 
 slice-aggregate-list-set : tie.Need-slice-aggregate-list-set
 slice-aggregate-list-set c = search needs
