@@ -86,7 +86,9 @@ laid =
       written = refl;
       formed = formed;
       keyed = keyed;
-      limited = limits-from entryFull (omega (arith, over-none (length most) (omega (arith, few, maxOfEntry-is)))) (omega (arith, maxEntries-is)) (omega (arith, few, maxIntervals-is));
+      limited =
+          limits-from entryFull (omega (arith, over-none (length most) (omega (arith, few, maxOfEntry-is))))
+          (omega (arith, maxEntries-is)) (omega (arith, few, maxIntervals-is));
     }
 
 new : has entryFull zeros 1 ≡ false
