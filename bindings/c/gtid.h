@@ -26,7 +26,8 @@ extern "C" {
 #define GTID_LONGEST_SET 62856
 
 /* The highest transaction number that a set can hold; the lowest is 1. An event of type 33 or 42 may carry others: it is read,
- * written and listed with them, and an offer of it is refused with 15. (Type 34 has no id, and its number isn't judged.) */
+ * written and listed with them, and an offer of it is refused with 15. (Type 34 has no id, and its number isn't judged. One of
+ * type 42 that lacks its number is refused with 21.) */
 #define GTID_HIGHEST_GNO ((uint64_t)INT64_MAX - 1)
 
 /* The longest text of an event, in bytes: that of such a set, with numbers of 19 digits. */
@@ -78,7 +79,8 @@ uint8_t gtid_read_varlen_uint(const uint8_t *s, size_t s_len, uint64_t *value, s
 
 /* Offers a GTID event (type 33, 34 or 42) to a set, and writes the set after it, at most GTID_LONGEST_SET bytes, also where
  * it is the same: the id is taken, or it is already there, or the event has none (type 34). Refuses with 14, with what the
- * event's body is refused for (1 to 11), and with 15, 17, 16 and 13.
+ * event's body is refused for (1 to 11), with 21 (a tagged event, type 42, that lacks its uuid or its number), and with 15, 17,
+ * 16 and 13, in this order.
  * The set after it is the one to save, but only when the tool has committed the transaction: after a crash in between the
  * transaction is offered again, and the tool must know its id, or set and transaction go into one commit. Whoever saves
  * first loses the transaction. */
@@ -86,7 +88,8 @@ uint8_t gtid_offer(const uint8_t *set, size_t set_len, uint8_t event_type, const
                    uint8_t *out, size_t out_len, uint8_t *kind, size_t *len);
 
 /* Writes the text of an event, at most GTID_LONGEST_TEXT bytes: the input is the byte of its type with its body behind it. An
- * event that is refused has a text too, which tells the number. Refuses with 13 only. */
+ * event that is refused has a text too, which tells the number; a tagged one that lacks its uuid or its number is refused
+ * with 21, as in an offer. Refuses with 13 only. */
 uint8_t gtid_list(const uint8_t *input, size_t input_len, uint8_t *out, size_t out_len, size_t *len);
 
 /* A record of a GTID event as bytes. Numbers have their lowest byte first.
@@ -115,6 +118,30 @@ uint8_t gtid_list(const uint8_t *input, size_t input_len, uint8_t *out, size_t o
  * of the body it takes. Refuses with 8, with what the body is refused for (1 to 11; then `*used` is 0), and with 13 if there
  * is no room for the record (then `*used` is GTID_RECORD_LEN). */
 uint8_t gtid_read(uint8_t event_type, const uint8_t *body, size_t body_len, uint8_t *record, size_t record_len, size_t *used);
+
+/* The fields of a tagged event (type 42), by MySQL's names: bit k for the field with id k. Where a gno is present,
+ * `present & GTID_FIELD_GNO` isn't 0. */
+#define GTID_FIELD_GTID_FLAGS 0x001
+#define GTID_FIELD_UUID 0x002
+#define GTID_FIELD_GNO 0x004
+#define GTID_FIELD_TAG 0x008
+#define GTID_FIELD_LAST_COMMITTED 0x010
+#define GTID_FIELD_SEQUENCE_NUMBER 0x020
+#define GTID_FIELD_IMMEDIATE_COMMIT_TIMESTAMP 0x040
+#define GTID_FIELD_ORIGINAL_COMMIT_TIMESTAMP 0x080
+#define GTID_FIELD_TRANSACTION_LENGTH 0x100
+#define GTID_FIELD_IMMEDIATE_SERVER_VERSION 0x200
+#define GTID_FIELD_ORIGINAL_SERVER_VERSION 0x400
+#define GTID_FIELD_COMMIT_GROUP_TICKET 0x800
+
+/* Reads as gtid_read does, with the same answer, and says which fields of a tagged event are present: `*present` has the bits of
+ * those that were read before the fields ended, however often each came. (An unknown field that may be ignored ends them: what
+ * is behind it isn't read.) In the record an absent field is 0, but for a server version, which is
+ * GTID_UNDEFINED_SERVER_VERSION, and for an original timestamp or version, which is the immediate one.
+ * Untagged events (types 33 and 34) have no such fields, and a uuid and a gno in any case: then `*present` is 0. It is 0 with
+ * every refusal, too, also with 13. */
+uint8_t gtid_read_present(uint8_t event_type, const uint8_t *body, size_t body_len, uint8_t *record, size_t record_len,
+                          size_t *used, uint16_t *present);
 
 /* Writes the body of the event that a record describes, of type 42 if it has a tag, else 33: at most GTID_LONGEST_EVENT bytes.
  * A typecode counts only if the byte before it isn't 0. Refuses with 12 if the record hasn't exactly GTID_RECORD_LEN bytes, or

@@ -212,6 +212,228 @@ static void refuse_crowded_entry(void)
     EXPECT(gtid_offer(input + 1, body_len, 33, event, sizeof event, next, sizeof next, &kind, &len) == 14);
 }
 
+/* Fields of a tagged event as they stand in its body: an id and a value. Every integer has its one-byte form, which is twice its value;
+ * a signed one is doubled before. */
+#define FLAGS 2 * 0, 2 * 1
+#define SEVEN 2 * 7, 2 * 7, 2 * 7, 2 * 7
+#define UUID 2 * 1, SEVEN, SEVEN, SEVEN, SEVEN
+#define GNO(number) 2 * 2, 4 * (number)
+#define TAG 2 * 3, 2 * 5, 'd', 'e', 'p', 'o', 't'
+#define LAST_COMMITTED 2 * 4, 4 * 8
+#define SEQUENCE_NUMBER 2 * 5, 4 * 9
+#define IMMEDIATE_TIME 2 * 6, 2 * 10
+#define ORIGINAL_TIME 2 * 7, 2 * 11
+#define LENGTH 2 * 8, 2 * 12
+#define IMMEDIATE_VERSION 2 * 9, 2 * 13
+#define ORIGINAL_VERSION 2 * 10, 2 * 14
+#define TICKET 2 * 11, 2 * 15
+#define UNKNOWN 2 * 12, 99 /* of its value nothing is known */
+#define TIMES_AND_VERSIONS IMMEDIATE_TIME, ORIGINAL_TIME, LENGTH, IMMEDIATE_VERSION, ORIGINAL_VERSION
+#define ALL_FIELDS FLAGS, UUID, GNO(6), TAG, LAST_COMMITTED, SEQUENCE_NUMBER, TIMES_AND_VERSIONS, TICKET
+
+/* Some fields, as the two arguments of a lent piece. */
+#define FIELDS(...) (const uint8_t[]){__VA_ARGS__}, sizeof(const uint8_t[]){__VA_ARGS__}
+
+#define LISTED_ID "gtid 07070707-0707-0707-0707-070707070707:depot:"
+
+/* The tagged event with these fields, as the input; an unknown field ends them if its id is above the last non-ignorable one. Returns how
+ * many bytes the body has. */
+static size_t put_fields(const uint8_t *fields, size_t fields_len, uint8_t last_non_ignorable)
+{
+    const uint8_t front[] = {42, 2, (uint8_t)(2 * (3 + fields_len)), (uint8_t)(2 * last_non_ignorable)};
+
+    memcpy(input, front, sizeof front);
+    memcpy(input + sizeof front, fields, fields_len);
+    return 3 + fields_len;
+}
+
+/* Reads a body by both calls, with so much room for the record: they must answer and write alike. Returns the number. */
+static uint8_t read_by_both(uint8_t event_type, const uint8_t *body, size_t body_len, size_t room, uint16_t *present)
+{
+    uint8_t record[GTID_RECORD_LEN], plain[GTID_RECORD_LEN], number;
+    size_t used = 9, plain_used = 8;
+
+    memset(record, 0xa5, sizeof record);
+    memset(plain, 0xa5, sizeof plain);
+    *present = 0xffff;
+    number = gtid_read_present(event_type, body, body_len, record, room, &used, present);
+    EXPECT(gtid_read(event_type, body, body_len, plain, room, &plain_used) == number);
+    EXPECT(used == plain_used && memcmp(record, plain, sizeof record) == 0);
+    EXPECT(number != 0 || used == body_len);
+    EXPECT(number != 13 || used == GTID_RECORD_LEN);
+    return number;
+}
+
+/* Whether a tagged event with these fields is read, and these are told to be present. */
+static int tells(const uint8_t *fields, size_t fields_len, uint16_t expected)
+{
+    size_t body_len = put_fields(fields, fields_len, 0);
+    uint16_t present;
+
+    return read_by_both(42, input + 1, body_len, GTID_RECORD_LEN, &present) == 0 && present == expected;
+}
+
+/* Whether a tagged event with these fields is refused with this number, and nothing is told to be present. */
+static int refuses(const uint8_t *fields, size_t fields_len, uint8_t last_non_ignorable, uint8_t expected)
+{
+    size_t body_len = put_fields(fields, fields_len, last_non_ignorable);
+    uint16_t present;
+
+    return read_by_both(42, input + 1, body_len, GTID_RECORD_LEN, &present) == expected && present == 0;
+}
+
+/* The number that a tagged event with these fields is answered with, offered to the empty set. After a refusal the output is as it was. */
+static uint8_t offered(const uint8_t *fields, size_t fields_len)
+{
+    size_t body_len = put_fields(fields, fields_len, 0), len = 9;
+    const uint8_t empty[8] = {0};
+    uint8_t kind = 9, number;
+
+    fill_alike();
+    number = gtid_offer(empty, sizeof empty, 42, input + 1, body_len, next, sizeof next, &kind, &len);
+    EXPECT(number == 0 ? kind == GTID_TAKEN : kind == GTID_REFUSED && len == 0 && memcmp(next, set, sizeof next) == 0);
+    return number;
+}
+
+/* Whether a tagged event with these fields has this text. */
+static int lists(const uint8_t *fields, size_t fields_len, const char *expected)
+{
+    size_t body_len = put_fields(fields, fields_len, 0), len = 9;
+
+    EXPECT(gtid_list(input, 1 + body_len, text, sizeof text, &len) == 0);
+    return len == strlen(expected) && memcmp(text, expected, len) == 0;
+}
+
+/* Whether a tagged event with these fields is offered with this answer, and has this text. */
+static int comes_to(const uint8_t *fields, size_t fields_len, uint8_t number, const char *listed)
+{
+    return offered(fields, fields_len) == number && lists(fields, fields_len, listed);
+}
+
+/* Each field has its own bit. */
+static void read_each_field(void)
+{
+    EXPECT(tells(FIELDS(TAG), GTID_FIELD_TAG));
+    EXPECT(tells(FIELDS(TAG, FLAGS), GTID_FIELD_TAG | GTID_FIELD_GTID_FLAGS));
+    EXPECT(tells(FIELDS(TAG, UUID), GTID_FIELD_TAG | GTID_FIELD_UUID));
+    EXPECT(tells(FIELDS(TAG, GNO(6)), GTID_FIELD_TAG | GTID_FIELD_GNO));
+    EXPECT(tells(FIELDS(TAG, GNO(0)), GTID_FIELD_TAG | GTID_FIELD_GNO));
+    EXPECT(tells(FIELDS(TAG, LAST_COMMITTED), GTID_FIELD_TAG | GTID_FIELD_LAST_COMMITTED));
+    EXPECT(tells(FIELDS(TAG, SEQUENCE_NUMBER), GTID_FIELD_TAG | GTID_FIELD_SEQUENCE_NUMBER));
+    EXPECT(tells(FIELDS(TAG, IMMEDIATE_TIME), GTID_FIELD_TAG | GTID_FIELD_IMMEDIATE_COMMIT_TIMESTAMP));
+    EXPECT(tells(FIELDS(TAG, ORIGINAL_TIME), GTID_FIELD_TAG | GTID_FIELD_ORIGINAL_COMMIT_TIMESTAMP));
+    EXPECT(tells(FIELDS(TAG, LENGTH), GTID_FIELD_TAG | GTID_FIELD_TRANSACTION_LENGTH));
+    EXPECT(tells(FIELDS(TAG, IMMEDIATE_VERSION), GTID_FIELD_TAG | GTID_FIELD_IMMEDIATE_SERVER_VERSION));
+    EXPECT(tells(FIELDS(TAG, ORIGINAL_VERSION), GTID_FIELD_TAG | GTID_FIELD_ORIGINAL_SERVER_VERSION));
+    EXPECT(tells(FIELDS(TAG, TICKET), GTID_FIELD_TAG | GTID_FIELD_COMMIT_GROUP_TICKET));
+}
+
+/* All fields, in any order; what is behind an unknown one is not read, and a repeated one counts once. */
+static void read_fields(void)
+{
+    EXPECT(tells(FIELDS(ALL_FIELDS), 0x0fff));
+    EXPECT(tells(FIELDS(TICKET, TIMES_AND_VERSIONS, SEQUENCE_NUMBER, LAST_COMMITTED, TAG, GNO(6), UUID, FLAGS), 0x0fff));
+    EXPECT(tells(FIELDS(ALL_FIELDS, UNKNOWN), 0x0fff));
+    EXPECT(tells(FIELDS(TAG, UNKNOWN), GTID_FIELD_TAG));
+    EXPECT(tells(FIELDS(TAG, UNKNOWN, UUID, GNO(6)), GTID_FIELD_TAG));
+    EXPECT(tells(FIELDS(UUID, TAG, UUID, TAG, TAG), GTID_FIELD_UUID | GTID_FIELD_TAG));
+}
+
+/* An original that wasn't sent is absent, though the record has the immediate one in its place. */
+static void read_originals(void)
+{
+    size_t body_len = put_fields(FIELDS(TAG, IMMEDIATE_TIME, IMMEDIATE_VERSION), 0), used = 9;
+    uint8_t record[GTID_RECORD_LEN];
+    uint16_t present = 9;
+
+    EXPECT(gtid_read_present(42, input + 1, body_len, record, sizeof record, &used, &present) == 0);
+    EXPECT(present == (GTID_FIELD_TAG | GTID_FIELD_IMMEDIATE_COMMIT_TIMESTAMP | GTID_FIELD_IMMEDIATE_SERVER_VERSION));
+    EXPECT(record[76] == 10 && record[84] == 10 && record[100] == 13 && record[104] == 13);
+}
+
+/* An id needs uuid and gno. A gno that was sent as 0 is another fault than one that wasn't sent, and the listing doesn't judge it. A tag
+ * that wasn't sent comes before both. */
+static void offer_and_list_without_id(void)
+{
+    EXPECT(comes_to(FIELDS(ALL_FIELDS), 0, LISTED_ID "6\n"));
+    EXPECT(comes_to(FIELDS(UUID, GNO(6), TAG, UNKNOWN), 0, LISTED_ID "6\n"));
+    EXPECT(comes_to(FIELDS(UUID, GNO(0), TAG), 15, LISTED_ID "0\n"));
+    EXPECT(comes_to(FIELDS(UUID, TAG), 21, "refused 21\n"));
+    EXPECT(comes_to(FIELDS(GNO(6), TAG), 21, "refused 21\n"));
+    EXPECT(comes_to(FIELDS(GNO(0), TAG), 21, "refused 21\n"));
+    EXPECT(comes_to(FIELDS(TAG), 21, "refused 21\n"));
+    EXPECT(comes_to(FIELDS(TAG, UNKNOWN), 21, "refused 21\n"));
+    EXPECT(comes_to(FIELDS(UUID, TAG, UNKNOWN, GNO(6)), 21, "refused 21\n"));
+    EXPECT(comes_to(FIELDS(GNO(6), TAG, UNKNOWN, UUID), 21, "refused 21\n"));
+    EXPECT(comes_to(FIELDS(UUID, GNO(6)), 7, "refused 7\n"));
+    EXPECT(comes_to(FIELDS(FLAGS), 7, "refused 7\n"));
+    EXPECT(comes_to(FIELDS(UNKNOWN, UUID, GNO(6), TAG), 7, "refused 7\n"));
+}
+
+/* Bytes that are no set are refused before an event without its id; and such an event before a lack of room. */
+static void offer_without_id_in_order(void)
+{
+    size_t body_len = put_fields(FIELDS(TAG), 0), len = 9;
+    const uint8_t empty[8] = {0};
+    uint8_t kind = 9;
+
+    EXPECT(gtid_offer(empty, 7, 42, input + 1, body_len, next, sizeof next, &kind, &len) == 14);
+    EXPECT(gtid_offer(empty, 8, 42, input + 1, body_len, next, 0, &kind, &len) == 21 && kind == GTID_REFUSED && len == 0);
+}
+
+/* With a refusal nothing is present, whatever was read before the fault. */
+static void refuse_fields(void)
+{
+    size_t body_len;
+    uint16_t present;
+
+    EXPECT(refuses(FIELDS(UUID, GNO(6)), 0, 7));
+    EXPECT(refuses(FIELDS(UUID, GNO(6), UNKNOWN, TAG), 0, 7));
+    EXPECT(refuses(FIELDS(ALL_FIELDS, UNKNOWN), 12, 5));
+    EXPECT(refuses(FIELDS(UUID, TAG, 2 * 3, 2 * 1, 'A'), 0, 6));
+    EXPECT(refuses(FIELDS(UUID, TAG, 2 * 2), 0, 1));
+    body_len = put_fields(FIELDS(ALL_FIELDS), 0);
+    EXPECT(read_by_both(42, input + 1, body_len - 1, GTID_RECORD_LEN, &present) == 1 && present == 0);
+    EXPECT(read_by_both(35, input + 1, body_len, GTID_RECORD_LEN, &present) == 8 && present == 0);
+    EXPECT(read_by_both(42, input + 1, body_len, GTID_RECORD_LEN - 1, &present) == 13 && present == 0);
+    EXPECT(read_by_both(42, input + 1, body_len, 0, &present) == 13 && present == 0);
+}
+
+/* Of an untagged event no field is told, and none is missed: its uuid and gno have their places. */
+static void read_and_offer_untagged(void)
+{
+    const uint8_t empty[8] = {0}, zeros[25] = {0};
+    uint8_t kind = 9;
+    uint16_t present;
+    size_t len = 9;
+
+    EXPECT(read_by_both(33, zeros, sizeof zeros, GTID_RECORD_LEN, &present) == 0 && present == 0);
+    EXPECT(read_by_both(34, zeros, sizeof zeros, GTID_RECORD_LEN, &present) == 0 && present == 0);
+    EXPECT(read_by_both(33, zeros, sizeof zeros - 1, GTID_RECORD_LEN, &present) == 1 && present == 0);
+    EXPECT(read_by_both(33, zeros, sizeof zeros, GTID_RECORD_LEN - 1, &present) == 13 && present == 0);
+    EXPECT(gtid_offer(empty, sizeof empty, 33, zeros, sizeof zeros, next, sizeof next, &kind, &len) == 15);
+    EXPECT(gtid_offer(empty, sizeof empty, 34, zeros, sizeof zeros, next, sizeof next, &kind, &len) == 0 && kind == GTID_NO_ID);
+    memset(input, 0, 1 + sizeof zeros);
+    input[0] = 33;
+    EXPECT(gtid_list(input, 1 + sizeof zeros, text, sizeof text, &len) == 0 && len == 44);
+    EXPECT(memcmp(text, "gtid 00000000-0000-0000-0000-000000000000:0\n", len) == 0);
+}
+
+/* An event without its id is read and written as before: the writer sends zeros, and these are present then. */
+static void write_without_id(void)
+{
+    uint8_t record[GTID_RECORD_LEN], back[GTID_RECORD_LEN], written[GTID_LONGEST_EVENT];
+    size_t body_len = put_fields(FIELDS(TAG), 0), used = 9, len = 9;
+    uint16_t present = 9;
+
+    EXPECT(gtid_read_present(42, input + 1, body_len, record, sizeof record, &used, &present) == 0 && present == GTID_FIELD_TAG);
+    EXPECT(gtid_write(record, sizeof record, written, sizeof written, &len) == 0);
+    EXPECT(gtid_read_present(42, written, len, back, sizeof back, &used, &present) == 0 && used == len);
+    EXPECT(memcmp(back, record, sizeof record) == 0);
+    /* all but the originals, which are equal to the immediate ones, and the ticket, which is 0 */
+    EXPECT(present == 0x037f);
+}
+
 int main(void)
 {
     size_t len = 9, used = 9, tag_len = 9, first = 9, end = 9;
@@ -273,5 +495,13 @@ int main(void)
     offer_to_longest_set();
     offer_to_full_entry();
     refuse_crowded_entry();
+    read_each_field();
+    read_fields();
+    read_originals();
+    offer_and_list_without_id();
+    offer_without_id_in_order();
+    refuse_fields();
+    read_and_offer_untagged();
+    write_without_id();
     return faults != 0;
 }

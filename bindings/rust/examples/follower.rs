@@ -84,8 +84,8 @@ fn step(
         // copied like any other; but neither set nor tool can know it again, so that another run, as after a crash, copies it again
         Offered::NoId => tool.append("anonymous", rows)?,
         Offered::Taken => {
-            let (event, _) = GtidEvent::read(event_type, body)?;
-            tool.copy_once(event.gtid().to_string(), rows)?;
+            let read = GtidEvent::read(event_type, body)?;
+            tool.copy_once(read.event.gtid().to_string(), rows)?;
             offer.commit();
             set.save(saved).map_err(|error| named(saved, error))?;
         }

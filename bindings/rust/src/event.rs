@@ -1,5 +1,5 @@
 use crate::sys;
-use crate::{Gtid, Refusal, GTID_EVENT, GTID_TAGGED_LOG_EVENT};
+use crate::{Fields, Gtid, Refusal, GTID_EVENT, GTID_TAGGED_LOG_EVENT};
 
 /// The bytes of a record between this crate and the archive.
 const FLAT: usize = 116;
@@ -18,7 +18,7 @@ const LOGICAL_TIMESTAMP_TYPECODE: u8 = 2;
 ///
 /// let event = GtidEvent::new([7; 16], 41).with_last_committed(3).with_sequence_number(4);
 /// let body = event.write()?;
-/// assert_eq!(GtidEvent::read(event.event_type(), &body)?, (event, body.len()));
+/// assert_eq!(GtidEvent::read(event.event_type(), &body)?.event, event);
 /// # Ok::<(), gtid_resume::Refusal>(())
 /// ```
 #[derive(Clone, Debug, PartialEq, Eq, Hash)]
@@ -41,6 +41,31 @@ pub struct GtidEvent {
     pub immediate_server_version: u32,
     pub original_server_version: u32,
     pub commit_group_ticket: u64,
+}
+
+/// What [`GtidEvent::read`] gives.
+///
+/// ```
+/// use gtid_resume::{Field, GtidEvent, Refusal, ResumeSet, GTID_TAGGED_LOG_EVENT};
+///
+/// // version byte, size, last non-ignorable id, and the tag alone
+/// let body = [2, 12, 0, 6, 2, b'a'];
+/// let read = GtidEvent::read(GTID_TAGGED_LOG_EVENT, &body)?;
+/// // a number stands in the record, but there was none
+/// assert_eq!((read.event.gno, read.present.contains(Field::Gno)), (0, false));
+/// let mut set = ResumeSet::empty();
+/// assert_eq!(set.offer(GTID_TAGGED_LOG_EVENT, &body).unwrap_err(), Refusal::AbsentId);
+/// # Ok::<(), Refusal>(())
+/// ```
+#[derive(Clone, Debug, PartialEq, Eq, Hash)]
+pub struct GtidRead {
+    /// The record.
+    pub event: GtidEvent,
+    /// How many bytes of the body were used.
+    pub used: usize,
+    /// Which fields of a tagged event (type 42) are there. An untagged one has no such fields, and a uuid and a number in any case: then there
+    /// are none.
+    pub present: Fields,
 }
 
 /// Steps that set one number.
@@ -66,7 +91,7 @@ impl GtidEvent {
     /// ```
     /// use gtid_resume::{GtidEvent, GTID_EVENT};
     ///
-    /// let (event, _) = GtidEvent::read(GTID_EVENT, &[0; 25])?;
+    /// let event = GtidEvent::read(GTID_EVENT, &[0; 25])?.event;
     /// assert_eq!(event.immediate_server_version, GtidEvent::UNDEFINED_SERVER_VERSION);
     /// # Ok::<(), gtid_resume::Refusal>(())
     /// ```
@@ -121,37 +146,43 @@ impl GtidEvent {
         GtidEvent::new(sid, gno).without_lc_typecode().with_tag(tag)
     }
 
-    /// Reads the body of a GTID event (types 33, 34 and 42), without header and checksum: the record, and how many bytes were used.
+    /// Reads the body of a GTID event (types 33, 34 and 42), without header and checksum: the record, how many bytes were used, and which
+    /// fields of a tagged event are there.
     ///
     /// # Errors
     ///
-    /// What the body is refused for, 1 to 11.
+    /// What the body is refused for, 1 to 11. A tagged event that lacks its uuid or its number is read; an offer refuses it.
     ///
     /// ```
     /// use gtid_resume::{GtidEvent, GTID_EVENT};
     ///
     /// let mut body = vec![0; 17];
     /// body.extend(5u64.to_le_bytes());
-    /// let (event, used) = GtidEvent::read(GTID_EVENT, &body)?;
-    /// assert_eq!((event.gno, used), (5, 25));
-    /// assert_eq!(event.write()?, body);
+    /// let read = GtidEvent::read(GTID_EVENT, &body)?;
+    /// assert_eq!((read.event.gno, read.used), (5, 25));
+    /// assert_eq!(read.event.write()?, body);
     /// # Ok::<(), gtid_resume::Refusal>(())
     /// ```
-    pub fn read(event_type: u8, body: &[u8]) -> Result<(GtidEvent, usize), Refusal> {
+    pub fn read(event_type: u8, body: &[u8]) -> Result<GtidRead, Refusal> {
         let mut flat = [0; FLAT];
-        let mut used = 0;
+        let (mut used, mut present) = (0, 0);
         let number = unsafe {
-            sys::gtid_read(
+            sys::gtid_read_present(
                 event_type,
                 body.as_ptr(),
                 body.len(),
                 flat.as_mut_ptr(),
                 flat.len(),
                 &mut used,
+                &mut present,
             )
         };
         Refusal::unless_zero(number)?;
-        Ok((GtidEvent::from_flat(&flat), used))
+        Ok(GtidRead {
+            event: GtidEvent::from_flat(&flat),
+            used,
+            present: Fields::from_bits(present),
+        })
     }
 
     /// Writes the record as the body of an event of the type that [`event_type`](GtidEvent::event_type) tells.
@@ -176,7 +207,8 @@ impl GtidEvent {
         })
     }
 
-    /// The id. The record of an anonymous event (type 34) has none: what stands in its fields means nothing.
+    /// The id. The record of an anonymous event (type 34) has none: what stands in its fields means nothing. Nor has that of a tagged event
+    /// that lacks its uuid or its number, which [`GtidRead::present`] tells: zeros stand in their place.
     ///
     /// ```
     /// let event = gtid_resume::GtidEvent::new_tagged([7; 16], b"depot", 41)?;

@@ -49,6 +49,7 @@
 #![deny(missing_docs)]
 
 mod event;
+mod fields;
 mod gtid;
 mod previous;
 mod refusal;
@@ -56,7 +57,8 @@ mod saved;
 mod set;
 mod sys;
 
-pub use event::GtidEvent;
+pub use event::{GtidEvent, GtidRead};
+pub use fields::{Field, Fields, FieldsIter};
 pub use gtid::Gtid;
 pub use previous::{Entry, PreviousGtidsEvent};
 pub use refusal::Refusal;
@@ -140,10 +142,13 @@ pub fn read_varlen_uint(bytes: &[u8]) -> Result<(u64, usize), Refusal> {
     Ok((value, used))
 }
 
-/// The text of an event, one line or more; what is refused is said in the text.
+/// The text of an event, one line or more; what is refused is said in the text. A tagged event (type 42) that lacks its uuid or its number is
+/// refused with 21, as in an offer.
 ///
 /// ```
 /// assert_eq!(gtid_resume::list(7, &[]), "refused 8\n");
+/// // version byte, size, last non-ignorable id, and the tag alone
+/// assert_eq!(gtid_resume::list(42, &[2, 12, 0, 6, 2, b'a']), "refused 21\n");
 /// ```
 pub fn list(event_type: u8, body: &[u8]) -> String {
     let mut input = Vec::with_capacity(1 + body.len());

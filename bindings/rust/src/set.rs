@@ -11,7 +11,8 @@ use crate::{Entry, PreviousGtidsEvent, Refusal};
 pub const LONGEST_SET: usize = 62_856;
 
 /// The highest transaction number that a set can hold; the lowest is 1. An event of type 33 or 42 may carry others, and is read, written
-/// and listed with them; offered, it is refused with [`Refusal::BadGno`]. (Type 34 has no id, and its number isn't judged.)
+/// and listed with them; offered, it is refused with [`Refusal::BadGno`]. (Type 34 has no id, and its number isn't judged. One of type 42
+/// that lacks its number is refused with [`Refusal::AbsentId`].)
 ///
 /// ```
 /// use gtid_resume::{GtidEvent, Refusal, ResumeSet, GTID_EVENT, HIGHEST_GNO};
@@ -250,9 +251,10 @@ impl ResumeSet {
     ///
     /// # Errors
     ///
-    /// The event's own refusals, 1 to 11; [`Refusal::BadGno`] for an id (types 33 and 42) whose number is 0 or above [`HIGHEST_GNO`]; and
-    /// [`Refusal::Crowded`] or [`Refusal::Full`], in this order, for an id that stands apart where there is no room for one more interval, or
-    /// one more entry. (An id that lengthens an interval, or joins two, is taken.) The event was not taken and must not be passed over.
+    /// In this order: the event's own refusals, 1 to 11; [`Refusal::AbsentId`] for a tagged event (type 42) that lacks its uuid or its number;
+    /// [`Refusal::BadGno`] for an id (types 33 and 42) whose number is 0 or above [`HIGHEST_GNO`]; and [`Refusal::Crowded`] or
+    /// [`Refusal::Full`] for an id that stands apart where there is no room for one more interval, or one more entry. (An id that lengthens
+    /// an interval, or joins two, is taken.) The event was not taken and must not be passed over.
     ///
     /// ```
     /// use gtid_resume::{GtidEvent, Offered, Refusal, ResumeSet, GTID_EVENT};

@@ -1,4 +1,4 @@
-//! The archive's functions (`bindings/c/gtid.h` says what each does), and lending an output.
+//! Those of the archive's functions that are called (`bindings/c/gtid.h` says what each does), and lending an output.
 use crate::Refusal;
 
 extern "C" {
@@ -71,13 +71,14 @@ extern "C" {
         out_len: usize,
         len: *mut usize,
     ) -> u8;
-    pub fn gtid_read(
+    pub fn gtid_read_present(
         event_type: u8,
         body: *const u8,
         body_len: usize,
         record: *mut u8,
         record_len: usize,
         used: *mut usize,
+        present: *mut u16,
     ) -> u8;
     pub fn gtid_write(
         record: *const u8,

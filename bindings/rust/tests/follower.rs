@@ -112,6 +112,10 @@ fn a_damaged_event_is_not_passed_over() {
     let mut short = with_six();
     short.transaction(GTID_EVENT, &gtid(7)[..24], &row("seven"));
     short.transaction(GTID_EVENT, &gtid(8), &row("eight"));
+    // version byte, size 6, last non-ignorable id, and the tag alone
+    let mut without_id = with_six();
+    without_id.transaction(42, &[2, 12, 0, 6, 2, b'a'], &row("seven"));
+    without_id.transaction(GTID_EVENT, &gtid(8), &row("eight"));
     let mut nameless = with_six();
     nameless.event(30, b"a row of no transaction");
     nameless.event(16, &[0; 8]);
@@ -130,6 +134,7 @@ fn a_damaged_event_is_not_passed_over() {
     anonymous.event(3, b"");
     for (binlog, says) in [
         (short, "refusal 1:"),
+        (without_id, "refusal 21:"),
         (nameless, "refusal 8:"),
         (endless, "without an end"),
         (last, "without an end"),

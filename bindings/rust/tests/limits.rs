@@ -1,7 +1,8 @@
 //! How much a set may hold: 384 entries, 2,560 intervals in all, and 1,024 in any one entry.
 use gtid_resume::{
-    list, rewrite, Entry, GtidEvent, Offer, Offered, PreviousGtidsEvent, Refusal, ResumeSet,
-    ANONYMOUS_GTID_EVENT, GTID_EVENT, LONGEST_SET, PREVIOUS_GTIDS_EVENT,
+    list, rewrite, Entry, Field, GtidEvent, GtidRead, Offer, Offered, PreviousGtidsEvent, Refusal,
+    ResumeSet, ANONYMOUS_GTID_EVENT, GTID_EVENT, GTID_TAGGED_LOG_EVENT, LONGEST_SET,
+    PREVIOUS_GTIDS_EVENT,
 };
 use std::fs;
 use std::path::Path;
@@ -296,8 +297,12 @@ fn offer_to<'a>(
     event_type: u8,
     body: &[u8],
 ) -> Result<Option<Offer<'a>>, Refusal> {
-    let (event, _) = GtidEvent::read(event_type, body)?;
-    let has_id = event_type != ANONYMOUS_GTID_EVENT;
+    let GtidRead { event, present, .. } = GtidEvent::read(event_type, body)?;
+    let has_id = match event_type {
+        ANONYMOUS_GTID_EVENT => false,
+        GTID_TAGGED_LOG_EVENT => present.contains(Field::Uuid) && present.contains(Field::Gno),
+        _ => true,
+    };
     if has_id && first.contains(&event.sid, &event.tag, event.gno) {
         return Ok(None);
     }
@@ -346,6 +351,19 @@ fn answers(sets: &mut [ResumeSet; 2]) -> [Option<Offered>; 5] {
         (GTID_EVENT, 3000),
     ]
     .map(|(event_type, gno)| take_as_two(sets, event_type, gno))
+}
+
+/// Zeros stand in a record for a uuid that wasn't sent, and the first set isn't asked for them.
+#[test]
+fn an_event_without_its_id_is_not_passed_over() {
+    let zeros = GtidEvent::new_tagged([0; 16], b"a", 1).unwrap();
+    let mut sets = [ResumeSet::empty(), ResumeSet::empty()];
+    let answer = take(&mut sets[0], GTID_TAGGED_LOG_EVENT, &zeros.write().unwrap());
+    assert_eq!(answer, Ok(Offered::Taken));
+    // version byte, size, last non-ignorable id, the gno 1, and the tag
+    let body = [2, 16, 0, 4, 4, 6, 2, b'a'];
+    let offer = offer_to(&mut sets, GTID_TAGGED_LOG_EVENT, &body);
+    assert_eq!(offer.unwrap_err(), Refusal::AbsentId);
 }
 
 /// The first set stays as it is and is saved once; what is saved after an offer is the second.

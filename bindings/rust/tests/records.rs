@@ -12,7 +12,8 @@ fn example(name: &str) -> Vec<u8> {
 #[test]
 fn records_come_back() {
     let tagged = example("tagged.bin");
-    let (event, used) = GtidEvent::read(GTID_TAGGED_LOG_EVENT, &tagged[1..]).unwrap();
+    let read = GtidEvent::read(GTID_TAGGED_LOG_EVENT, &tagged[1..]).unwrap();
+    let (event, used) = (read.event, read.used);
     assert_eq!(
         (event.tag.as_slice(), event.gno, used),
         (&b"depot_7"[..], 41, tagged.len() - 1)
@@ -23,8 +24,8 @@ fn records_come_back() {
 #[test]
 fn a_checksum_that_was_left_in_reads_as_a_server_version() {
     let trap = example("checksum-left-in.bin");
-    let (event, _) = GtidEvent::read(GTID_EVENT, &trap[1..]).unwrap();
-    assert_eq!(event.immediate_server_version, 1_630_334_338);
+    let read = GtidEvent::read(GTID_EVENT, &trap[1..]).unwrap();
+    assert_eq!(read.event.immediate_server_version, 1_630_334_338);
 }
 
 #[test]
@@ -74,7 +75,7 @@ fn new_records_are_as_the_rules_say() {
         assert_eq!((event.tx_length, event.commit_group_ticket), (0, 0));
         assert_eq!(versions(&event), (999_999, 999_999));
         let read = GtidEvent::read(event.event_type(), &event.write().unwrap()).unwrap();
-        assert_eq!(read.0, event);
+        assert_eq!(read.event, event);
     }
 }
 
@@ -90,20 +91,21 @@ fn a_new_record_without_its_typecode_is_25_bytes() {
     let event = GtidEvent::new([7; 16], 5).without_lc_typecode();
     let body = event.write().unwrap();
     assert_eq!(body, [&[0][..], &[7; 16], &5u64.to_le_bytes()].concat());
-    assert_eq!(GtidEvent::read(GTID_EVENT, &body), Ok((event, 25)));
+    let read = GtidEvent::read(GTID_EVENT, &body).unwrap();
+    assert_eq!((read.event, read.used), (event, 25));
 }
 
 #[test]
 fn a_record_of_which_no_version_was_sent_has_those_of_a_new_one() {
     let new = versions(&GtidEvent::new([7; 16], 5));
-    let (short, _) = GtidEvent::read(GTID_EVENT, &[0; 25]).unwrap();
-    assert_eq!(versions(&short), new);
+    let read = |event_type, body: &[u8]| GtidEvent::read(event_type, body).unwrap().event;
+    assert_eq!(versions(&read(GTID_EVENT, &[0; 25])), new);
     let whole = GtidEvent::new([7; 16], 5).write().unwrap();
-    let (cut, _) = GtidEvent::read(GTID_EVENT, &whole[..whole.len() - 4]).unwrap();
-    assert_eq!(versions(&cut), new);
+    let cut = &whole[..whole.len() - 4];
+    assert_eq!(versions(&read(GTID_EVENT, cut)), new);
     // version byte, size 6, last non-ignorable id, and the tag alone
-    let (tagged, _) = GtidEvent::read(GTID_TAGGED_LOG_EVENT, &[2, 12, 0, 6, 2, b'a']).unwrap();
-    assert_eq!(versions(&tagged), new);
+    let tagged = [2, 12, 0, 6, 2, b'a'];
+    assert_eq!(versions(&read(GTID_TAGGED_LOG_EVENT, &tagged)), new);
 }
 
 #[test]
@@ -200,6 +202,7 @@ fn refusals_tell_name_number_and_words() {
         (Refusal::NotASet, 14),
         (Refusal::Full, 16),
         (Refusal::Crowded, 17),
+        (Refusal::AbsentId, 21),
         (Refusal::Unknown(200), 200),
     ] {
         assert_eq!(refusal.number(), number);
@@ -232,6 +235,7 @@ fn refusals_have_the_names_and_numbers_of_the_source() {
         Refusal::BadGno,
         Refusal::Full,
         Refusal::Crowded,
+        Refusal::AbsentId,
     ];
     for refusal in all {
         let shown = format!("{refusal:?}");
@@ -257,6 +261,7 @@ fn refusals_become_errors_of_io() {
         (Refusal::NotASet, io::ErrorKind::InvalidData),
         (Refusal::Full, io::ErrorKind::Other),
         (Refusal::Crowded, io::ErrorKind::Other),
+        (Refusal::AbsentId, io::ErrorKind::InvalidData),
     ] {
         let error = io::Error::from(refusal);
         assert_eq!(error.kind(), kind);

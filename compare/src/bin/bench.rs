@@ -100,6 +100,15 @@ mod linked {
             record_len: usize,
             used: *mut usize,
         ) -> u8;
+        pub fn gtid_read_present(
+            event_type: u8,
+            body: *const u8,
+            body_len: usize,
+            record: *mut u8,
+            record_len: usize,
+            used: *mut usize,
+            present: *mut u16,
+        ) -> u8;
         pub fn gtid_write(
             record: *const u8,
             record_len: usize,
@@ -167,6 +176,24 @@ mod ours {
             number,
             kind: 0,
         }
+    }
+
+    /// The refusal, the bytes used, and the fields that are there.
+    #[inline(always)]
+    pub fn read_present(event_type: u8, body: &[u8], record: &mut [u8]) -> (u8, usize, u16) {
+        let (mut used, mut present) = (0, 0);
+        let refusal = unsafe {
+            linked::gtid_read_present(
+                event_type,
+                body.as_ptr(),
+                body.len(),
+                record.as_mut_ptr(),
+                record.len(),
+                &raw mut used,
+                &raw mut present,
+            )
+        };
+        (refusal, used, present)
     }
 
     /// The refusal, the value, and the bytes used.
@@ -272,7 +299,7 @@ mod ours {
 
 /// A word for it, what it is, and the smaller number of turns; the other is twice that.
 #[rustfmt::skip]
-const TABLE: [(&str, &str, u64); 58] = [
+const TABLE: [(&str, &str, u64); 59] = [
     ("varint-1", "read 64 variable-length integers of 1 byte", 1000),
     ("varint-2", "read 64 variable-length integers of 2 bytes", 1000),
     ("varint-3", "read 64 variable-length integers of 3 bytes", 1000),
@@ -289,6 +316,7 @@ const TABLE: [(&str, &str, u64); 58] = [
     ("read-short", "read an untagged record of 25 bytes", 1000),
     ("read-tagged", "read a tagged record (type 42), all fields, tag of 10 bytes", 1000),
     ("read-tagged-32", "the same, tag of 32 bytes", 1000),
+    ("read-present", "the same, tag of 10 bytes; ours also tells which fields are there", 1000),
     ("write-untagged", "write the untagged record", 1000),
     ("write-short", "write the untagged record of 25 bytes", 1000),
     ("write-tagged", "write the tagged record, tag of 10 bytes", 1000),
@@ -369,6 +397,8 @@ fn made(what: &str) -> Option<Made> {
         "read-short" => reading(33, short()),
         "read-tagged" => reading(42, tagged(b"billing_eu")),
         "read-tagged-32" => reading(42, tagged(&long_tag(7))),
+        "read-present" => reading_present(tagged(b"billing_eu")),
+        "read-present-32" => reading_present(tagged(&long_tag(7))),
         "write-untagged" => writing(33, untagged()),
         "write-short" => writing(33, short()),
         "write-tagged" => writing(42, tagged(b"billing_eu")),
@@ -551,6 +581,23 @@ fn reading(event_type: u8, body: Vec<u8>) -> Made {
             let event = GtidEvent::deserialize(BinlogCtx::new(black_box(event_type)), &mut buf);
             black_box(&event);
         })),
+    }
+}
+
+/// Reading a tagged record, and which fields are there: all of them. The Rust doesn't tell.
+fn reading_present(body: Vec<u8>) -> Made {
+    let read = reading(42, body.clone());
+    let (mut record, mut same) = ([0; 116], [0; 116]);
+    ours::read(42, &body, &mut same);
+    let answer = ours::read_present(42, &body, &mut record);
+    assert_eq!((answer, record), ((0, body.len(), 0x0fff), same));
+
+    Made {
+        ours: turns(move || {
+            let (body, record) = (black_box(&body), black_box(&mut record));
+            black_box(ours::read_present(42, body, record));
+        }),
+        ..read
     }
 }
 
@@ -1188,9 +1235,10 @@ impl Sent {
 
 #[rustfmt::skip]
 fn stack() {
-    let rows: [(&str, &[&str]); 11] = [
+    let rows: [(&str, &[&str]); 12] = [
         ("gtid_read_varlen_uint", &["varint-1", "varint-7", "varint-9"]),
         ("gtid_read", &["read-untagged", "read-short", "read-tagged", "read-tagged-32"]),
+        ("gtid_read_present", &["read-present", "read-present-32"]),
         ("gtid_write", &["write-untagged", "write-short", "write-tagged", "write-tagged-32"]),
         ("gtid_read_previous", &["body-2048", "body-uuids", "body-tags"]),
         ("gtid_read_entry", &["entry-2048", "entry-tags"]),

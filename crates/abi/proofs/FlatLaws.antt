@@ -8,7 +8,7 @@ use lib.ListN.{length, getD, drop, length-append, length-drop}
 use lib.Seq.{take-all}
 use borrow.Author.Tests.{eq-eqb, ne-eqb, le-leb, lt-leb}
 use Rattle.misc.specs.Refusal.{number, noRoom, notWritable}
-use Rattle.misc.specs.Parse.{Bytes, part}
+use Rattle.misc.specs.Parse.{Bytes, Parse, refuse, parsed, part}
 use Rattle.misc.specs.Output.{outputOf, answerOf, WhereFits}
 use Rattle.misc.specs.declared.Wrote.{Wrote}
 use Rattle.misc.proofs.LeLaws.{length-leBytes}
@@ -16,12 +16,15 @@ use Rattle.misc.proofs.ParseLaws.{part-length}
 use Rattle.misc.proofs.OutputLaws.{fromOn, output-fits, output-short, output-refused}
 use Rattle.packets.specs.Kept.{padded, kept}
 use Rattle.gtid_event.specs.declared.GtidEvent.{GtidEvent}
-use Rattle.gtid_event_read.specs.Read.{gtid, gtidRead}
+use Rattle.gtid_event_read.specs.Seen.{Seen}
+use Rattle.gtid_event_read.specs.Read.{seen, gtid, gtidRead}
 use Rattle.gtid_event_read.specs.declared.GtidRead.{GtidRead}
+use Rattle.gtid_event_read.proofs.Telling.{refused-by}
+use Rattle.gtid_event_read.proofs.ReadLaws.{gtid-said, gtid-refused}
 use Rattle.gtid_event_write.specs.Write.{eventOutput}
 use Rattle.set_check.specs.Places.{numberAt}
-use Rattle.resume_set.proofs.AnswerLaws.{read-refused, read-told, key-parts}
-use Rattle.abi.specs.Flat.{flat, flatIdentity, flatClock, flatRest, versionAt, typecodeIf, flatRead, readOutput, readUsed, writeOutput}
+use Rattle.resume_set.proofs.AnswerLaws.{key-parts}
+use Rattle.abi.specs.Flat.{flat, flatIdentity, flatClock, flatRest, versionAt, typecodeIf, flatRead, readOutput, readUsed, readPresent, writeOutput}
 use Rattle.abi.proofs.NumberLaws.{wrote-parts}
 
 pub length-flat : (e : GtidEvent) → length (e .sid) ≡ 16 → length (e .tag) ≡ 32 → length (flat e) ≡ 116
@@ -77,33 +80,48 @@ record-is s sid tag gno typecode last sequence immediate original len version or
 
 -- ---- `gtid_read`
 
-module _ (type : ℕ) (body : List ℕ) (said : GtidRead) (is : said ≡ gtidRead (gtid type body)) (out : List ℕ) where
+-- which fields were there
+present-short : (p : Parse Seen) (room : ℕ) → room < 116 → 0 ≡ readPresent p room
+present-short (refuse r) room h = refl
+present-short (parsed x next) room h = rw (lt-leb 116 room h)
+
+present-told : (p : Parse Seen) (said : GtidRead) → said ≡ gtidRead p → (room : ℕ) → 116 ≤ room → said .present ≡ readPresent p room
+present-told (refuse r) said is room h = ap (λ (y : GtidRead). y .present) is
+present-told (parsed x next) said is room h = ap (λ (y : GtidRead). y .present) is ∙ rw (le-leb 116 room h)
+
+module _ (type : ℕ) (body : List ℕ) (said : GtidRead) (is : said ≡ gtidRead (seen type body)) (out : List ℕ) where
   pub told-refused : (said .refusal ≡ 0 → ⊥)
       → (said .refusal ≡ answerOf out (readOutput (gtid type body)) .refusal)
-      × ((0 ≡ readUsed (gtid type body) (length out)) × (out ≡ outputOf out (readOutput (gtid type body))))
+      × ((0 ≡ readUsed (gtid type body) (length out)) × ((out ≡ outputOf out (readOutput (gtid type body))) × (0 ≡ readPresent (seen type body) (length out))))
   told-refused h =
-      let (x, e, n) = read-refused type body said is h in
+      let (x, e, n) = refused-by (gtid-said type body is) h in
       let (a, b) = output-refused out x in
-      rw e (n ∙ ap (λ (w : Wrote). w .refusal) a, (refl, b))
+      rw (e, gtid-refused type body e) (n ∙ ap (λ (w : Wrote). w .refusal) a, (refl, (b, refl)))
 
   module _ (read : said .refusal ≡ 0) (ok : Bytes body) where
+    told : gtid type body ≡ parsed (said .event) (said .used)
+    told = gtid-said type body is .found read
+
     size : length (flat (said .event)) ≡ 116
-    size = let p = key-parts type body said is read ok in length-flat (said .event) (p .0) (p .2)
+    size = let p = key-parts type body ok told in length-flat (said .event) (p .0) (p .2)
 
     pub told-short : length out < 116
         → (number noRoom ≡ answerOf out (readOutput (gtid type body)) .refusal)
-        × ((116 ≡ readUsed (gtid type body) (length out)) × (out ≡ outputOf out (readOutput (gtid type body))))
+        × ((116 ≡ readUsed (gtid type body) (length out)) × ((out ≡ outputOf out (readOutput (gtid type body))) × (0 ≡ readPresent (seen type body) (length out))))
     told-short h =
         let (a, b) = output-short out (flat (said .event)) 116 (sym size) h in
-        rw (read-told type body said is read, lt-leb 116 (length out) h) (ap (λ (w : Wrote). w .refusal) a, (refl, b))
+        let none = present-short (seen type body) (length out) h in
+        rw (told, lt-leb 116 (length out) h) (ap (λ (w : Wrote). w .refusal) a, (refl, (b, none)))
 
     pub told-record : {after : List ℕ} {n : ℕ} → 116 ≤ length out → WhereFits out 0 (flat (said .event)) after n
         → (0 ≡ answerOf out (readOutput (gtid type body)) .refusal)
-        × ((said .used ≡ readUsed (gtid type body) (length out)) × (after ≡ outputOf out (readOutput (gtid type body))))
+        × ((said .used ≡ readUsed (gtid type body) (length out)) × ((after ≡ outputOf out (readOutput (gtid type body)))
+        × (said .present ≡ readPresent (seen type body) (length out))))
     told-record h p =
         let room : length (flat (said .event)) ≤ length out = omega (arith, size) in
         let (a, b) = output-fits room (p .placed (omega arith)) in
-        rw (read-told type body said is read, le-leb 116 (length out) h) (ap (λ (w : Wrote). w .refusal) a, (refl, b))
+        let which = present-told (seen type body) said is (length out) h in
+        rw (told, le-leb 116 (length out) h) (ap (λ (w : Wrote). w .refusal) a, (refl, (b, which)))
 
 -- ---- `gtid_write`
 

@@ -9,6 +9,7 @@ use Rattle.misc.specs.Parse.{Parse, refuse, parsed, part, uintRead}
 use Rattle.misc.specs.Le.{leBytes, leAt}
 use Rattle.misc.specs.Output.{Output, refused, bytes}
 use Rattle.gtid_event.specs.declared.GtidEvent.{GtidEvent}
+use Rattle.gtid_event_read.specs.Seen.{Seen, bitsOf}
 use Rattle.gtid_event_write.specs.Write.{eventOutput}
 use Rattle.set_check.specs.Places.{numberAt}
 use Rattle.abi.specs.Answers.{bit}
@@ -80,6 +81,11 @@ readOutput (parsed e next) = bytes (flat e)
 abbrev pub readUsed : Parse GtidEvent → ℕ → ℕ
 readUsed (refuse r) room = 0
 readUsed (parsed e next) room = pick (leb 116 room) next 116
+
+-- which fields were there, where there is room for the record
+abbrev pub readPresent : Parse Seen → ℕ → ℕ
+readPresent (refuse r) room = 0
+readPresent (parsed x next) room = pick (leb 116 room) (bitsOf (x .present)) 0
 
 -- the event that a record is written as
 unfoldable pub writeOutput : List ℕ → Output

@@ -19,12 +19,12 @@ ghost use Rattle.misc.specs.Output.{bytes, outputOf, answerOf};
 ghost use Rattle.previous_gtids_event.specs.Previous.{previous};
 ghost use Rattle.previous_gtids_event.specs.Answers.{previousRead, entryRead};
 ghost use Rattle.previous_gtids_event.specs.Rewrite.{rewritten};
-ghost use Rattle.gtid_event_read.specs.Read.{gtid};
+ghost use Rattle.gtid_event_read.specs.Read.{seen, gtid};
 ghost use Rattle.gtid_sets.specs.Lent.{lentSet};
 ghost use Rattle.resume_set.specs.Answers.{setRead, contained, takeInAnswers, takeInLeaves, offerAnswers, offerLeaves};
 ghost use Rattle.listing.specs.EventText.{listing};
 ghost use Rattle.abi.specs.Answers.{numbersOf, bit, entryIn};
-ghost use Rattle.abi.specs.Flat.{readOutput, readUsed, writeOutput};
+ghost use Rattle.abi.specs.Flat.{readOutput, readUsed, readPresent, writeOutput};
 
 mod flat;
 
@@ -204,13 +204,22 @@ pub extern "C" fn gtid_offer(
     said.refusal
 }
 
-// Reads a GTID event of this type: its record is written, as 116 bytes, and `used` is how many bytes of the body the event has.
+// Reads a GTID event of this type: its record is written, as 116 bytes, `used` is how many bytes of the body the event has, and `present`
+// tells which fields a tagged event was sent with: bit k is the field with the id k.
 #[no_mangle]
-pub extern "C" fn gtid_read(event_type: u8, body: &[u8], out: &mut [u8], used: &mut usize) -> u8
+pub extern "C" fn gtid_read_present(
+    event_type: u8,
+    body: &[u8],
+    out: &mut [u8],
+    used: &mut usize,
+    present: &mut u16,
+) -> u8
     ensures { λ r. ⌜ r ≡ answerOf (now (out .entry)) (readOutput (gtid «event_type» (now (body .entry)))) .refusal ⌝ }
     ensures { λ _. ⌜ now (used .exit) ≡ readUsed (gtid «event_type» (now (body .entry))) (length (now (out .entry))) ⌝ }
     ensures { λ _. ⌜ now (out .exit) ≡ outputOf (now (out .entry)) (readOutput (gtid «event_type» (now (body .entry)))) ⌝ }
+    ensures { λ _. ⌜ now (present .exit) ≡ readPresent (seen «event_type» (now (body .entry))) (length (now (out .entry))) ⌝ }
 {
+    *present = 0;
     let said = read(event_type, body);
     let refusal = said.refusal;
     if refusal != 0 {
@@ -222,9 +231,21 @@ pub extern "C" fn gtid_read(event_type: u8, body: &[u8], out: &mut [u8], used: &
         return NO_ROOM;
     }
     *used = said.used;
+    *present = said.present;
     let event = said.event;
     put_record(event, out, 0);
     0
+}
+
+// The same without the fields.
+#[no_mangle]
+pub extern "C" fn gtid_read(event_type: u8, body: &[u8], out: &mut [u8], used: &mut usize) -> u8
+    ensures { λ r. ⌜ r ≡ answerOf (now (out .entry)) (readOutput (gtid «event_type» (now (body .entry)))) .refusal ⌝ }
+    ensures { λ _. ⌜ now (used .exit) ≡ readUsed (gtid «event_type» (now (body .entry))) (length (now (out .entry))) ⌝ }
+    ensures { λ _. ⌜ now (out .exit) ≡ outputOf (now (out .entry)) (readOutput (gtid «event_type» (now (body .entry)))) ⌝ }
+{
+    let mut present = 0u16;
+    gtid_read_present(event_type, body, out, used, &mut present)
 }
 
 // Writes the event of a record, which is 116 bytes.

@@ -17,6 +17,7 @@ use Rattle.gtid_event.specs.Event as event
 use Rattle.gtid_event.specs.declared.GtidEvent.{GtidEvent}
 use Rattle.gtid_event.proofs.BuiltLaws.{same-event}
 use Rattle.gtid_event_read.specs.declared.Fields.{Fields}
+use Rattle.gtid_event_read.specs.Seen.{Seen}
 use Rattle.gtid_event_read.specs.Fields.{noFields, withNumber, withUuid, withTagBytes, fieldsOf}
 use Rattle.gtid_event_read.specs.Tagged.{recordOf, tagged}
 use Rattle.gtid_event_write.specs.Writable.{tagOf, writable}
@@ -49,6 +50,10 @@ closed e f =
 -- all of a record's fields
 abbrev allRead : GtidEvent → Fields
 allRead e = closed e (timed e (identified e noFields))
+
+-- what is seen of it then
+abbrev pub allSeen : GtidEvent → Seen
+allSeen e = record { event = e; present = allRead e .present }
 
 -- an original that is left out where it equals the immediate
 original-back : (original immediate : ℕ) → pick (not (eqb original immediate)) (pick (eqb original immediate) 0 original) immediate ≡ original
@@ -108,7 +113,7 @@ module _ (e : GtidEvent) (fits : Fits e) (facts : TaggedFacts e) where
 -- ---- the whole
 
 module _ (e : GtidEvent) (fits : Fits e) (facts : TaggedFacts e) where
-  tagged-stands : {s : List ℕ} → Stands (taggedBytes e) s 0 → tagged s ≡ parsed e (length (taggedBytes e))
+  tagged-stands : {s : List ℕ} → Stands (taggedBytes e) s 0 → tagged s ≡ parsed (allSeen e) (length (taggedBytes e))
   unfolding tagged
   tagged-stands {s} st =
       let size = payloadSize (length (fieldBytes e)) in
@@ -133,5 +138,5 @@ module _ (e : GtidEvent) (fits : Fits e) (facts : TaggedFacts e) where
 
 -- Written, it reads back equal, and its bytes are those used, whatever follows them.
 pub tagged-back : (e : GtidEvent) → Fits e → writable e ≡ true → event.tagged e ≡ true → (rest : List ℕ)
-    → tagged (taggedBytes e ++ rest) ≡ parsed e (length (taggedBytes e))
+    → tagged (taggedBytes e ++ rest) ≡ parsed (allSeen e) (length (taggedBytes e))
 tagged-back e fits w is rest = tagged-stands e fits (tagged-facts e fits w is) (at-front (taggedBytes e) rest)

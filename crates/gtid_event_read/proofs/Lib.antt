@@ -6,4 +6,5 @@ pub mod FieldLaws
 pub mod FieldRanges
 pub mod TaggedLaws
 pub mod ReadLaws
+pub mod PresentLaws
 pub mod Ranges

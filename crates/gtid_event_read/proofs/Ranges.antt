@@ -1,25 +1,24 @@
 -- What every record that is read from bytes has: its numbers within their fields, its uuid whole, its tag kept as a record keeps one.
 use mathlib.Core.Path.{_≡_, refl}
 use mathlib.Core.Logic.{_⊎_, inl, inr}
-use mathlib.Core.Bool.{Bool, true, false, _||_}
+use mathlib.Core.Bool.{Bool, true, false}
 use mathlib.Core.List.{List}
 use Prim.Native.Nat.{ℕ, _+_, _-_, _*_, _^_, _<_}
 use native.Mathlib.Omega.{arith}
-use lib.Dec.{leb, eqb}
+use lib.Dec.{leb}
 use lib.ListN.{length, getD, replicate}
 use Rattle.misc.specs.Pick.{pick}
-use Rattle.misc.specs.Refusal.{tooLong}
 use Rattle.misc.specs.Parse.{Bytes, parsed, part, bytesAt}
-use Rattle.misc.specs.Body.{bodyLimit}
 use Rattle.misc.specs.Le.{leAt}
 use Rattle.misc.specs.Mark.{hasBit, clearBit}
-use Rattle.misc.proofs.ParseLaws.{never, then-parsed, mapped-parsed, pick-either, pick-parsed, bytes-parsed, part-length}
+use Rattle.misc.proofs.ParseLaws.{then-parsed, mapped-parsed, pick-either, bytes-parsed, part-length}
 use Rattle.misc.proofs.LeLaws.{pow-bytes}
 use Rattle.misc.proofs.Bounds.{part-bytes, byte-below, le-below, lenenc-below, cleared-below, unmarked-below}
 use Rattle.packets.specs.Kept.{padded}
 use Rattle.packets.specs.Tag.{isTag}
 use Rattle.gtid_event.specs.Event.{undefinedVersion}
 use Rattle.gtid_event.specs.declared.GtidEvent.{GtidEvent}
+use Rattle.gtid_event_read.specs.Seen.{Seen}
 use Rattle.gtid_event_read.specs.Untagged.{Pair, pair, originalAfter, pairAt, timestampsAt, lengthAt, versionsAt, opened, openingAt, clocked, typecodeAt, untagged}
 use Rattle.gtid_event_read.specs.Tagged.{recordOf, tagged}
 use Rattle.gtid_event_read.specs.Range.{InRange}
@@ -28,6 +27,7 @@ use Rattle.gtid_event_read.specs.declared.Fields.{Fields}
 use Rattle.gtid_event_read.proofs.FieldRanges.{Shaped, fields-in-range, fields-shaped}
 use Rattle.gtid_event_read.proofs.UntaggedLaws.{OpeningParts, opening-parsed, clock-parsed}
 use Rattle.gtid_event_read.proofs.TaggedLaws.{tagged-parsed}
+use Rattle.gtid_event_read.proofs.ReadLaws.{seen-parsed, gtid-parsed}
 
 -- ---- tagged records
 pub record TaggedRange (e : GtidEvent) : Type 0 where
@@ -74,7 +74,7 @@ record-range f n h there = record {
   ticket = omega (arith, n .limited 11);
 }
 
-pub tagged-range : (s : List ℕ) → Bytes s → {e : GtidEvent} {next : ℕ} → tagged s ≡ parsed e next → TaggedRange e
+pub tagged-range : (s : List ℕ) → Bytes s → {x : Seen} {next : ℕ} → tagged s ≡ parsed x next → TaggedRange (x .event)
 tagged-range s bytes q =
     let t = tagged-parsed s q in
     let size = t .size - t .start in
@@ -198,8 +198,6 @@ module _ (s : List ℕ) (bytes : Bytes s) where
 
 -- ---- either, by the event's type
 pub gtid-range : (type : ℕ) (s : List ℕ) → Bytes s → {e : GtidEvent} {next : ℕ} → gtid type s ≡ parsed e next → UntaggedRange e ⊎ TaggedRange e
-unfolding gtid
-gtid-range type s bytes {e} {next} p =
-    let (_, q) = pick-parsed (leb (length s) bodyLimit) _ tooLong e next p in
-    pick-either (eqb type 33 || eqb type 34) q (λ _ r. inl (untagged-range s bytes r)) (λ _ r.
-    pick-either (eqb type 42) r (λ _ u. inr (tagged-range s bytes u)) (λ _. never))
+gtid-range type s bytes p =
+    let (x, q, is) = gtid-parsed type s p in
+    rw is (seen-parsed type s q (λ _ _ e u same. rw same (inl (untagged-range s bytes u))) (λ _ _ u. inr (tagged-range s bytes u)))

@@ -11,9 +11,9 @@ use Rattle.misc.specs.Refusal.{ended, wrongVersion, noTag, smallPayload}
 use Rattle.misc.specs.Parse.{Parse, refuse, parsed, judged, part, byteAt}
 use Rattle.misc.specs.Varlen.{varlenAt}
 use Rattle.misc.proofs.ParseLaws.{never, then-parsed, judged-parsed, pick-parsed, byte-here, byte-gone, byte-parsed}
-use Rattle.gtid_event.specs.declared.GtidEvent.{GtidEvent}
+use Rattle.gtid_event_read.specs.Seen.{Seen}
 use Rattle.gtid_event_read.specs.Fields.{fieldsOf}
-use Rattle.gtid_event_read.specs.Tagged.{recordOf, finished, payloadAt, tagged}
+use Rattle.gtid_event_read.specs.Tagged.{seenOf, finished, payloadAt, tagged}
 use Rattle.gtid_event_read.specs.Read.{refusedRead, gtidRead}
 use Rattle.gtid_event_read.specs.Told.{Told}
 use Rattle.gtid_event_read.specs.declared.Fields.{Fields}
@@ -59,7 +59,7 @@ module _ (s : List ℕ) (size last start : ℕ) where
       payload-read z = ap (λ (q : Parse Fields). gtidRead (finished size q)) (sym (told .found z)) ∙ ap gtidRead (sym payload-here)
 
 -- ---- what a success says of the parts
-pub record TaggedParts (s : List ℕ) (e : GtidEvent) (next : ℕ) : Type 0 where
+pub record TaggedParts (s : List ℕ) (e : Seen) (next : ℕ) : Type 0 where
   pub size : ℕ
   pub size-end : ℕ
   pub last : ℕ
@@ -73,17 +73,17 @@ pub record TaggedParts (s : List ℕ) (e : GtidEvent) (next : ℕ) : Type 0 wher
   pub fields-end : ℕ
   pub fields-read : fieldsOf last (part s start (size - start)) ≡ parsed fields fields-end
   pub tag-there : getD (fields .present) 3 false ≡ true
-  pub is : e ≡ recordOf fields
+  pub is : e ≡ seenOf fields
   pub ends : next ≡ size
 
-finished-parsed : (end : ℕ) (p : Parse Fields) {e : GtidEvent} {next : ℕ} → finished end p ≡ parsed e next
-    → (f : Fields) × (at : ℕ) × (p ≡ parsed f at) × (getD (f .present) 3 false ≡ true) × (e ≡ recordOf f) × (next ≡ end)
+finished-parsed : (end : ℕ) (p : Parse Fields) {e : Seen} {next : ℕ} → finished end p ≡ parsed e next
+    → (f : Fields) × (at : ℕ) × (p ≡ parsed f at) × (getD (f .present) 3 false ≡ true) × (e ≡ seenOf f) × (next ≡ end)
 finished-parsed end (refuse x) q = never q
 finished-parsed end (parsed f at) {e} {next} q =
-    let (there, r) = pick-parsed (getD (f .present) 3 false) (parsed (recordOf f) end) noTag e next q in
+    let (there, r) = pick-parsed (getD (f .present) 3 false) (parsed (seenOf f) end) noTag e next q in
     (f, at, refl, there, cc, cc)
 
-pub tagged-parsed : (s : List ℕ) {e : GtidEvent} {next : ℕ} → tagged s ≡ parsed e next → TaggedParts s e next
+pub tagged-parsed : (s : List ℕ) {e : Seen} {next : ℕ} → tagged s ≡ parsed e next → TaggedParts s e next
 unfolding tagged
 tagged-parsed s {e} {next} q =
     let (version, at₁, p₁, e₁) = then-parsed (judged (λ (v : ℕ). eqb v 2) wrongVersion (byteAt s 0)) _ e next q in

@@ -10,7 +10,8 @@ use Rattle.misc.specs.declared.ReadUint.{ReadUint}
 use Rattle.misc.proofs.ParseLaws.{no-zero, was-refused, uint-told}
 use Rattle.gtid_event.specs.Event.{noEvent}
 use Rattle.gtid_event.specs.declared.GtidEvent.{GtidEvent}
-use Rattle.gtid_event_read.specs.Read.{refusedRead, gtidRead}
+use Rattle.gtid_event_read.specs.Seen.{Seen, untaggedSeen, bitsOf}
+use Rattle.gtid_event_read.specs.Read.{recordIn, refusedRead, gtidRead, untaggedRead}
 use Rattle.gtid_event_read.specs.Told.{Told}
 use Rattle.gtid_event_read.specs.declared.GtidRead.{GtidRead}
 
@@ -79,15 +80,20 @@ module _ {A : Type 0} (good : A → Bool) (x : Refusal) {p : Parse A} {refusal :
   fails z isnt n = stopped x n (rw (told .found z, isnt))
 
 -- ---- the answers of the public calls
-pub refused-so : {p : Parse GtidEvent} {refusal : ℕ} → Told p refusal noEvent 0 → (refusal ≡ 0 → ⊥) → refusedRead refusal ≡ gtidRead p
+pub refused-so : {p : Parse Seen} {refusal : ℕ} → Told p refusal (untaggedSeen noEvent) 0 → (refusal ≡ 0 → ⊥) → refusedRead refusal ≡ gtidRead p
 refused-so told ne =
     let (x, e, n) = refused-by told ne in
     ap refusedRead n ∙ ap gtidRead (sym e)
 
-pub read-so : {p : Parse GtidEvent} {refusal : ℕ} {e : GtidEvent} {next : ℕ} → Told p refusal e next → refusal ≡ 0
-    → record { refusal = 0; used = next; event = e } ≡ gtidRead p
-read-so told z = rw (told .found z)
+pub untagged-refused : {p : Parse GtidEvent} {refusal : ℕ} → Told p refusal noEvent 0 → (refusal ≡ 0 → ⊥) → refusedRead refusal ≡ untaggedRead p
+untagged-refused told ne = refused-so (maps told untaggedSeen) ne
 
-pub gtid-told : (p : Parse GtidEvent) {r : GtidRead} → r ≡ gtidRead p → Told p (r .refusal) (r .event) (r .used)
+pub untagged-told : {p : Parse GtidEvent} {refusal : ℕ} {e : GtidEvent} {next : ℕ} → Told p refusal e next → refusal ≡ 0
+    → record { refusal = 0; used = next; event = e; present = 0 } ≡ untaggedRead p
+unfolding bitsOf
+untagged-told told z = rw (told .found z)
+
+-- the record that reading tells
+pub gtid-told : (p : Parse Seen) {r : GtidRead} → r ≡ gtidRead p → Told (recordIn p) (r .refusal) (r .event) (r .used)
 gtid-told (refuse x) {r} is = rw is (stopped x refl refl)
-gtid-told (parsed e next) {r} is = rw is (got refl)
+gtid-told (parsed x next) {r} is = rw is (got refl)

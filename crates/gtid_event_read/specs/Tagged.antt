@@ -9,6 +9,7 @@ use Rattle.misc.specs.Refusal.{ended, wrongVersion, noTag, smallPayload}
 use Rattle.misc.specs.Parse.{Parse, refuse, parsed, andThen, judged, provided, part, byteAt}
 use Rattle.misc.specs.Varlen.{varlenAt}
 use Rattle.gtid_event.specs.declared.GtidEvent.{GtidEvent}
+use Rattle.gtid_event_read.specs.Seen.{Seen}
 use Rattle.gtid_event_read.specs.Fields.{fieldsOf}
 use Rattle.gtid_event_read.specs.declared.Fields.{Fields}
 
@@ -32,19 +33,22 @@ recordOf f =
       «commit_group_ticket» = getD (f .numbers) 11 0;
     }
 
+abbrev pub seenOf : Fields → Seen
+seenOf f = record { event = recordOf f; present = f .present }
+
 -- the fields have ended, and the payload ends at a place of the body: a tag must have been sent
-abbrev pub finished : ℕ → Parse Fields → Parse GtidEvent
+abbrev pub finished : ℕ → Parse Fields → Parse Seen
 finished end (refuse r) = refuse r
-finished end (parsed f at) = provided (getD (f .present) 3 false) noTag (parsed (recordOf f) end)
+finished end (parsed f at) = provided (getD (f .present) 3 false) noTag (parsed (seenOf f) end)
 
 -- the payload, whose size counts everything from the version byte on; its fields begin at a place
-abbrev pub payloadAt : List ℕ → ℕ → ℕ → ℕ → Parse GtidEvent
+abbrev pub payloadAt : List ℕ → ℕ → ℕ → ℕ → Parse Seen
 payloadAt s size last start =
     provided (leb start size) smallPayload
     (provided (leb size (length s)) ended
     (finished size (fieldsOf last (part s start (size - start)))))
 
-unfoldable pub tagged : List ℕ → Parse GtidEvent
+unfoldable pub tagged : List ℕ → Parse Seen
 tagged s =
     andThen (judged (λ version. eqb version 2) wrongVersion (byteAt s 0)) (λ version at₁.
     andThen (varlenAt s at₁) (λ size at₂.

@@ -1,13 +1,18 @@
 // Reading a GTID event: types 33 and 34 untagged, 42 tagged.
 ghost use mathlib.Core.Path.{_≡_};
 ghost use denote.Ref.{ptr};
+ghost use lib.Dec.{eqb};
+ghost use mathlib.Core.Bool.{true, _&&_};
+ghost use Rattle.misc.specs.Pick.{pick};
+ghost use Rattle.misc.specs.Mark.{hasBit};
 ghost use Rattle.misc.specs.Body.{usedOf, unreadOf, onward};
-ghost use Rattle.gtid_event_read.specs.Read.{gtid, refusedRead, gtidRead};
+ghost use Rattle.gtid_event_read.specs.Read.{seen, gtid, named, refusedRead, gtidRead};
 use gtid_event::ANONYMOUS_GTID_EVENT;
 use gtid_event::GTID_EVENT;
 use gtid_event::GTID_TAGGED_LOG_EVENT;
 use gtid_event::GtidEvent;
 use misc::MAX_BODY;
+use misc::refusal::ABSENT_ID;
 use misc::refusal::TOO_LONG;
 use misc::refusal::WRONG_TYPE;
 
@@ -15,11 +20,13 @@ mod field;
 mod tagged;
 mod untagged;
 
-// A record that was read and the bytes used, or a refusal and zeros.
+// A record that was read and the bytes used, and of a tagged event which of the twelve fields were there: bit k tells of the field with
+// the id k. Or a refusal and zeros.
 pub struct GtidRead {
     pub refusal: u8,
     pub used: usize,
     pub event: GtidEvent,
+    pub present: u16,
 }
 
 // The fields of a tagged event that were read so far: the numbers by the ids of their fields, the uuid and the tag, and which
@@ -40,13 +47,14 @@ impl GtidRead {
             refusal,
             used: 0,
             event: GtidEvent::none(),
+            present: 0,
         }
     }
 }
 
-// The record in a body of this event type, and the bytes used; or a refusal.
+// The record in a body of this event type, the bytes used, and the fields that were there; or a refusal.
 pub fn read(event_type: u8, body: &[u8]) -> GtidRead
-    ensures { λ r. ⌜ r ≡ gtidRead (gtid «event_type» (now (body .entry))) ⌝ }
+    ensures { λ r. ⌜ r ≡ gtidRead (seen «event_type» (now (body .entry))) ⌝ }
 {
     if MAX_BODY < body.len() {
         return GtidRead::refused(TOO_LONG);
@@ -56,6 +64,31 @@ pub fn read(event_type: u8, body: &[u8]) -> GtidRead
         GTID_TAGGED_LOG_EVENT => tagged::deserialize_tagged(body),
         _ => GtidRead::refused(WRONG_TYPE),
     }
+}
+
+// Whether the uuid and the gno, fields 1 and 2, were sent, where an event of this type sends fields.
+fn sends_id(event_type: u8, present: u16) -> bool
+    ensures { λ r. ⌜ r ≡ pick (eqb «event_type» 42) (hasBit 1 present && hasBit 2 present) true ⌝ }
+{
+    if event_type == GTID_TAGGED_LOG_EVENT {
+        return (present / 2 % 2 == 1) & (present / 4 % 2 == 1);
+    }
+    true
+}
+
+// The same where the event's id is asked for, by an offer or a listing: after all else a tagged event is refused whose uuid or gno was
+// not sent (21).
+pub fn read_named(event_type: u8, body: &[u8]) -> GtidRead
+    ensures { λ r. ⌜ r ≡ gtidRead (named «event_type» (now (body .entry))) ⌝ }
+{
+    let said = read(event_type, body);
+    if said.refusal != 0 {
+        return said;
+    }
+    if sends_id(event_type, said.present) {
+        return said;
+    }
+    GtidRead::refused(ABSENT_ID)
 }
 
 // The caller's own bytes after those that were used; none where the body is refused.

@@ -3,6 +3,7 @@ ghost use mathlib.Core.Path.{_≡_};
 ghost use Rattle.misc.specs.Pick.{pick};
 ghost use Rattle.misc.specs.Parse.{parsed};
 ghost use Rattle.gtid_event_read.specs.Tagged.{recordOf, finished, payloadAt, tagged};
+ghost use Rattle.gtid_event_read.specs.Seen.{bitsOf};
 ghost use Rattle.gtid_event_read.specs.Read.{gtidRead};
 ghost use Rattle.gtid_event_read.specs.Range.{InRange};
 use crate::Fields;
@@ -51,6 +52,19 @@ fn record_of(f: Fields) -> GtidEvent
     }
 }
 
+// Which fields were there, from the last on: bit k tells of the field with the id k.
+fn bits_of(present: [bool; 12]) -> u16
+    ensures { λ r. ⌜ r ≡ bitsOf present ⌝ }
+{
+    let mut bits: u16 = 0;
+    let mut left = 12;
+    while 0 < left {
+        left -= 1;
+        bits = 2 * bits + present[left] as u16;
+    }
+    bits
+}
+
 // The fields have ended: a tag must have been sent.
 fn finished(f: Fields, used: usize) -> GtidRead
     requires { ⌜ InRange (f .numbers) ⌝ }
@@ -62,6 +76,7 @@ fn finished(f: Fields, used: usize) -> GtidRead
             refusal: 0,
             used,
             event: record_of(f),
+            present: bits_of(present),
         };
     }
     GtidRead::refused(NO_TAG)

@@ -3,7 +3,7 @@ ghost use mathlib.Core.Path.{_≡_};
 ghost use Prim.Native.Nat.{_≤_};
 ghost use lib.ListN.{length};
 ghost use Rattle.gtid_event_read.specs.Untagged.{pair, timestampsAt, lengthAt, versionsAt, clocked, clockAt, untagged};
-ghost use Rattle.gtid_event_read.specs.Read.{gtidRead};
+ghost use Rattle.gtid_event_read.specs.Read.{untaggedRead};
 ghost use Rattle.gtid_event_read.specs.Told.{Told, openedIn, laterAt};
 use crate::GtidRead;
 use gtid_event::GtidEvent;
@@ -158,7 +158,7 @@ fn clocked(
 // together: it isn't carried along.
 fn read_later(s: &[u8], last_committed: u64, sequence_number: u64, at: usize) -> GtidRead
     requires { ⌜ 25 ≤ length (now s) ⌝ }
-    ensures { λ r. ⌜ r ≡ gtidRead (laterAt (now (s .entry)) (openedIn (now (s .entry))) «last_committed» «sequence_number» at) ⌝ }
+    ensures { λ r. ⌜ r ≡ untaggedRead (laterAt (now (s .entry)) (openedIn (now (s .entry))) «last_committed» «sequence_number» at) ⌝ }
 {
     let timestamps = read_timestamps(s, at);
     if timestamps.refusal != 0 {
@@ -183,13 +183,14 @@ fn read_later(s: &[u8], last_committed: u64, sequence_number: u64, at: usize) ->
             tx_length.value,
             versions,
         ),
+        present: 0,
     }
 }
 
 // What follows the typecode.
 fn read_clock(s: &[u8], at: usize) -> GtidRead
     requires { ⌜ 25 ≤ length (now s) ⌝ }
-    ensures { λ r. ⌜ r ≡ gtidRead (clockAt (now (s .entry)) (openedIn (now (s .entry))) at) ⌝ }
+    ensures { λ r. ⌜ r ≡ untaggedRead (clockAt (now (s .entry)) (openedIn (now (s .entry))) at) ⌝ }
 {
     let last_committed = read_u64_le(s, at);
     if last_committed.refusal != 0 {
@@ -209,7 +210,7 @@ fn read_clock(s: &[u8], at: usize) -> GtidRead
 
 // The body ends behind the gno up to MySQL 5.6, and the byte 2 doesn't follow it up to 5.7.4.
 pub(crate) fn deserialize_untagged(s: &[u8]) -> GtidRead
-    ensures { λ r. ⌜ r ≡ gtidRead (untagged (now (s .entry))) ⌝ }
+    ensures { λ r. ⌜ r ≡ untaggedRead (untagged (now (s .entry))) ⌝ }
 {
     if s.len() < OPENING_LENGTH {
         return GtidRead::refused(ENDED);
@@ -223,5 +224,6 @@ pub(crate) fn deserialize_untagged(s: &[u8]) -> GtidRead
         refusal: 0,
         used: OPENING_LENGTH,
         event: read_opening(s),
+        present: 0,
     }
 }

@@ -7,18 +7,22 @@ use lib.ListN.{length, getD, take, drop, length-append}
 use lib.Seq.{take-all}
 use borrow.Author.Tests.{eq-eqb, ne-eqb}
 use Rattle.misc.specs.Refusal.{number, ended}
+use Rattle.misc.specs.Parse.{Parse}
 use Rattle.misc.specs.Output.{Output, bytes, outputOf, answerOf, WhereFits}
 use Rattle.misc.specs.declared.Wrote.{Wrote}
 use Rattle.misc.proofs.OutputLaws.{_also_, output-fits}
 use Rattle.previous_gtids_event.specs.Previous.{previous}
+use Rattle.previous_gtids_event.proofs.Reading.{uuid-of, tag-of}
 use Rattle.gtid_event.specs.declared.GtidEvent.{GtidEvent}
-use Rattle.gtid_event_read.specs.Read.{gtid, gtidRead}
+use Rattle.gtid_event_read.specs.Read.{named, gtidRead}
 use Rattle.gtid_event_read.specs.declared.GtidRead.{GtidRead}
-use Rattle.resume_set.specs.Answers.{takenIn}
-use Rattle.resume_set.proofs.AnswerLaws.{read-refused, read-told}
+use Rattle.gtid_sets.specs.Run.{names}
+use Rattle.set_check.proofs.PlaceLaws.{Bytes}
+use Rattle.resume_set.specs.Answers.{takenIn, says, eventOf}
+use Rattle.resume_set.proofs.AnswerLaws.{named-stopped, named-told, named-parts}
 use Rattle.listing.specs.Digits.{decimal}
 use Rattle.listing.specs.SetText.{newline, colon, keyText}
-use Rattle.listing.specs.EventText.{refusedWord, anonymousWord, gtidWord, refusedText, idText, gtidText, takenText, eventText, listing}
+use Rattle.listing.specs.EventText.{refusedWord, anonymousWord, gtidWord, refusedText, idText, recordText, gtidText, takenText, eventText, listing}
 
 -- ---- a text that is written whole
 
@@ -51,32 +55,37 @@ refused-put n p q r = p also q also r
 
 -- ---- an id
 
-module _ (e : GtidEvent) where
-  abbrev key : List ℕ
-  key = keyText (e .sid) (take (e .«tag_len») (e .tag))
-
-  pub id-long : 7 + length key + length (decimal (e .gno)) ≡ length (idText e)
+module _ (uuid tag : List ℕ) (gno : ℕ) where
+  pub id-long : 7 + length (keyText uuid tag) + length (decimal gno) ≡ length (idText uuid tag gno)
   unfolding idText
   id-long = simp length-append (omega arith)
 
   pub id-put : {l l₁ l₂ l₃ l₄ l₅ : List ℕ} {at at₁ at₂ at₃ at₄ at₅ : ℕ}
-      → WhereFits l at gtidWord l₁ at₁ → WhereFits l₁ at₁ key l₂ at₂ → WhereFits l₂ at₂ (colon ∷ []) l₃ at₃
-      → WhereFits l₃ at₃ (decimal (e .gno)) l₄ at₄ → WhereFits l₄ at₄ (newline ∷ []) l₅ at₅ → WhereFits l at (idText e) l₅ at₅
+      → WhereFits l at gtidWord l₁ at₁ → WhereFits l₁ at₁ (keyText uuid tag) l₂ at₂ → WhereFits l₂ at₂ (colon ∷ []) l₃ at₃
+      → WhereFits l₃ at₃ (decimal gno) l₄ at₄ → WhereFits l₄ at₄ (newline ∷ []) l₅ at₅ → WhereFits l at (idText uuid tag gno) l₅ at₅
   unfolding idText
   id-put p₁ p₂ p₃ p₄ p₅ = p₁ also p₂ also (p₃ also p₄) also p₅
 
 -- ---- the text of a GTID event
 
-module _ (type : ℕ) (body : List ℕ) (said : GtidRead) (is : said ≡ gtidRead (gtid type body)) where
-  pub text-refused : (said .refusal ≡ 0 → ⊥) → refusedText (said .refusal) ≡ gtidText type (gtid type body)
-  text-refused h = let (x, e, n) = read-refused type body said is h in ap refusedText n ∙ sym (ap (gtidText type) e)
+-- a record's id by its key
+pub id-named : (e : GtidEvent) → length (e .sid) ≡ 16
+    → recordText e ≡ gtidText (names (e .sid ++ take (e .«tag_len») (e .tag)) (e .gno))
+id-named e whole = rw (uuid-of (e .sid) (take (e .«tag_len») (e .tag)) whole, tag-of (e .sid) (take (e .«tag_len») (e .tag)) whole)
+
+module _ (type : ℕ) (body : List ℕ) (said : GtidRead) (is : said ≡ gtidRead (named type body)) where
+  pub text-refused : (said .refusal ≡ 0 → ⊥) → refusedText (said .refusal) ≡ gtidText (eventOf type body)
+  unfolding eventOf
+  text-refused h = let (x, e, n) = named-stopped type body said is h in ap refusedText n ∙ sym (ap (λ (p : Parse GtidEvent). gtidText (says type p)) e)
 
   module _ (told : said .refusal ≡ 0) where
-    pub text-anonymous : type ≡ 34 → anonymousWord ++ (newline ∷ []) ≡ gtidText type (gtid type body)
-    text-anonymous t = rw (read-told type body said is told, eq-eqb type 34 t)
+    pub text-anonymous : type ≡ 34 → anonymousWord ++ (newline ∷ []) ≡ gtidText (eventOf type body)
+    unfolding eventOf
+    text-anonymous t = rw (named-told type body said is told, eq-eqb type 34 t)
 
-    pub text-id : (type ≡ 34 → ⊥) → idText (said .event) ≡ gtidText type (gtid type body)
-    text-id t = rw (read-told type body said is told, ne-eqb type 34 t)
+    pub text-id : (type ≡ 34 → ⊥) → Bytes body → recordText (said .event) ≡ gtidText (eventOf type body)
+    unfolding eventOf
+    text-id t ok = rw (named-told type body said is told, ne-eqb type 34 t) (id-named (said .event) (named-parts type body said is told ok .0))
 
 -- ---- the text of an event, and of an input
 
@@ -85,7 +94,7 @@ module _ (type : ℕ) (body : List ℕ) where
   unfolding eventText
   event-previous t = rw (eq-eqb type 35 t)
 
-  pub event-gtid : (type ≡ 35 → ⊥) → gtidText type (gtid type body) ≡ eventText type body
+  pub event-gtid : (type ≡ 35 → ⊥) → gtidText (eventOf type body) ≡ eventText type body
   unfolding eventText
   event-gtid t = rw (ne-eqb type 35 t)
 

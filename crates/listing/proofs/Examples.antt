@@ -10,9 +10,10 @@ use Rattle.previous_gtids_event.specs.Entry.{uuidOf, tagOf}
 use Rattle.previous_gtids_event.specs.Previous.{tagAt, keyAt, headAt, intervalAt, entryAt, saysTagged, saysCount, previous}
 use Rattle.previous_gtids_event.specs.Rewrite.{intervalsBytes, entryBytes, entriesBytes, anyTag, headerBytes, bodyBytes}
 use Rattle.gtid_event_read.specs.Untagged.{openingAt, untagged}
-use Rattle.gtid_event_read.specs.Read.{gtid}
+use Rattle.gtid_event_read.specs.Read.{seen, named}
 use Rattle.gtid_sets.specs.Limits.{maxEntries, maxIntervals, maxOfEntry, limits}
 use Rattle.gtid_sets.specs.Lent.{lentSet}
+use Rattle.resume_set.specs.Answers.{eventOf}
 use Rattle.listing.specs.Digits.{decimalIn, decimal, hexDigit, hex}
 use Rattle.listing.specs.SetText.{uuidText, keyText, intervalsText, entryText, entriesText, setText}
 use Rattle.listing.specs.EventText.{refusedText, idText, eventText, listing}
@@ -72,14 +73,14 @@ abbrev idBody : List ℕ
 idBody = (0 ∷ uuid) ++ eight 6
 
 -- `gtid 00112233-4455-6677-8899-aabbccddeeff:6`
-named : listing (33 ∷ idBody) ≡ (103 ∷ 116 ∷ 105 ∷ 100 ∷ 32 ∷ []) ++ name ++ (58 ∷ 54 ∷ 10 ∷ [])
-unfolding eventText gtid untagged openingAt byteAt bytesAt leAt leOf bodyLimit idText keyText uuidText hex hexDigit decimal decimalIn
-named = refl
+an-id : listing (33 ∷ idBody) ≡ (103 ∷ 116 ∷ 105 ∷ 100 ∷ 32 ∷ []) ++ name ++ (58 ∷ 54 ∷ 10 ∷ [])
+unfolding eventText eventOf named seen untagged openingAt byteAt bytesAt leAt leOf bodyLimit uuidOf tagOf idText keyText uuidText hex hexDigit decimal decimalIn
+an-id = refl
 
 -- `anonymous`
-unnamed : listing (34 ∷ idBody) ≡ 97 ∷ 110 ∷ 111 ∷ 110 ∷ 121 ∷ 109 ∷ 111 ∷ 117 ∷ 115 ∷ 10 ∷ []
-unfolding eventText gtid untagged openingAt byteAt bytesAt leAt leOf bodyLimit
-unnamed = refl
+no-id : listing (34 ∷ idBody) ≡ 97 ∷ 110 ∷ 111 ∷ 110 ∷ 121 ∷ 109 ∷ 111 ∷ 117 ∷ 115 ∷ 10 ∷ []
+unfolding eventText eventOf named seen untagged openingAt byteAt bytesAt leAt leOf bodyLimit
+no-id = refl
 
 -- ---- refusals
 
@@ -99,5 +100,5 @@ from-zero = refl
 
 -- type 7: 8
 unserved : listing (7 ∷ []) ≡ refusing (56 ∷ [])
-unfolding eventText gtid bodyLimit refusedText decimal decimalIn
+unfolding eventText eventOf named seen bodyLimit refusedText decimal decimalIn
 unserved = refl

@@ -1,6 +1,6 @@
 -- How long a listed text is at most.
 use mathlib.Core.Path.{_≡_, refl, sym, ap}
-use mathlib.Core.List.{List, [], _∷_}
+use mathlib.Core.List.{List, [], _∷_, _++_}
 use Prim.Native.Nat.{ℕ, suc, _+_, _-_, _*_, _≤_}
 use native.Mathlib.Omega.{arith}
 use lib.ListN.{length, take, length-append}
@@ -16,21 +16,23 @@ use Rattle.previous_gtids_event.specs.Previous.{previous}
 use Rattle.previous_gtids_event.specs.Rewrite.{bodyBytes}
 use Rattle.previous_gtids_event.proofs.Reading.{none-or-tag-short}
 use Rattle.gtid_event.specs.declared.GtidEvent.{GtidEvent}
-use Rattle.gtid_event_read.specs.Read.{gtid, gtidRead}
+use Rattle.gtid_event_read.specs.Read.{recordIn, named}
+use Rattle.gtid_event_read.proofs.PresentLaws.{named-record}
 use Rattle.gtid_sets.specs.Interval.{Gapped}
 use Rattle.gtid_sets.specs.Set.{SetForm}
 use Rattle.gtid_sets.specs.Limits.{maxEntries, maxIntervals, intervals, fine, limits}
+use Rattle.gtid_sets.specs.Run.{names}
 use Rattle.gtid_sets.specs.Lent.{GoodKeys}
 use Rattle.gtid_sets.proofs.LimitLaws.{maxEntries-is, maxIntervals-is, limits-says}
 use Rattle.gtid_sets.proofs.LentLaws.{lent-is}
 use Rattle.set_check.proofs.PlaceLaws.{Bytes}
-use Rattle.resume_set.specs.Answers.{takenIn}
-use Rattle.resume_set.proofs.AnswerLaws.{key-parts}
+use Rattle.resume_set.specs.Answers.{takenIn, says, eventOf}
+use Rattle.resume_set.proofs.AnswerLaws.{KeyParts, key-parts}
 use Rattle.listing.specs.SetText.{lastText, intervalsText, entryText, entriesText, setText}
-use Rattle.listing.specs.EventText.{previousWord, refusedText, idText, gtidText, takenText, eventText, listing, longestText}
+use Rattle.listing.specs.EventText.{previousWord, refusedText, gtidText, takenText, eventText, listing, longestText}
 use Rattle.listing.proofs.DigitLaws.{decimal-most, decimal-short}
 use Rattle.listing.proofs.KeyTextLaws.{key-most}
-use Rattle.listing.proofs.EventTextLaws.{refused-long, id-long}
+use Rattle.listing.proofs.EventTextLaws.{refused-long, id-long, id-named}
 use Rattle.listing.proofs.TakenTextLaws.{taken-cases, taken-text}
 
 pub longestText-is : longestText ≡ 129322
@@ -81,19 +83,20 @@ set-text-long word s g f h =
 refused-most : (n : ℕ) → length (refusedText n) ≤ 29
 refused-most n = omega (arith, refused-long n, decimal-most n)
 
-id-most : (e : GtidEvent) → length (e .sid) ≡ 16 → e .«tag_len» ≤ 32 → length (e .tag) ≡ 32 → length (idText e) ≤ 96
-id-most e u n t =
-    let tag = length-take-le (e .«tag_len») (e .tag) (omega arith) in
-    omega (arith, id-long e, decimal-most (e .gno), key-most (e .sid) (take (e .«tag_len») (e .tag)) u (omega arith))
+id-most : (e : GtidEvent) → KeyParts e → length (gtidText (names (e .sid ++ take (e .«tag_len») (e .tag)) (e .gno))) ≤ 96
+id-most e (u, n, t) =
+    let tag = take (e .«tag_len») (e .tag) in
+    let few = length-take-le (e .«tag_len») (e .tag) (omega arith) in
+    rw (← id-named e u) (omega (arith, id-long (e .sid) tag (e .gno), decimal-most (e .gno), key-most (e .sid) tag u (omega arith)))
 
-gtid-text-long : (type : ℕ) (body : List ℕ) → Bytes body → length (gtidText type (gtid type body)) ≤ 96
-gtid-text-long type body ok = go (gtid type body) refl
+gtid-text-long : (type : ℕ) (body : List ℕ) → Bytes body → length (gtidText (eventOf type body)) ≤ 96
+unfolding eventOf
+gtid-text-long type body ok = go (recordIn (named type body)) refl
   where
-    go : (p : Parse GtidEvent) → gtid type body ≡ p → length (gtidText type p) ≤ 96
+    go : (p : Parse GtidEvent) → recordIn (named type body) ≡ p → length (gtidText (says type p)) ≤ 96
     go (refuse r) e = omega (arith, refused-most (number r))
     go (parsed v next) e =
-        let (u, n, t) = key-parts type body (gtidRead (parsed v next)) (sym (ap gtidRead e)) refl ok in
-        split (eqb type 34) (λ h. rw h (omega arith)) (λ h. rw h (id-most v u n t))
+        split (eqb type 34) (λ h. rw h (omega arith)) (λ h. rw h (id-most v (key-parts type body ok (named-record type body e))))
 
 taken-text-long : (body : List ℕ) → length (takenText (takenIn (previous body))) ≤ longestText
 taken-text-long body =

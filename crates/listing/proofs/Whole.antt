@@ -17,7 +17,10 @@ use Rattle.misc.proofs.BodyLaws.{body-too-long}
 use Rattle.misc.proofs.ParseLaws.{split as below}
 use Rattle.packets.proofs.Tests.{split}
 use Rattle.previous_gtids_event.specs.Previous.{previous, entriesIn}
-use Rattle.gtid_event_read.specs.Read.{gtid}
+use Rattle.gtid_event_read.specs.Read.{named}
+use Rattle.gtid_event_read.proofs.ReadLaws.{seen-too-long}
+use Rattle.gtid_sets.specs.Run.{broken}
+use Rattle.resume_set.specs.Answers.{eventOf}
 use Rattle.listing.specs.EventText.{refusedText, eventText, listing, enoughInput, longestText}
 use Rattle.listing.proofs.Longest.{longest-text}
 
@@ -28,9 +31,9 @@ enoughInput-is = refl
 -- ---- the front of an input
 
 module _ (type : ℕ) (body : List ℕ) (over : 65536 < length body) where
-  gtid-too-long : gtid type body ≡ refuse tooLong
-  unfolding gtid
-  gtid-too-long = body-too-long body _ over
+  event-too-long : eventOf type body ≡ broken tooLong
+  unfolding eventOf named
+  event-too-long = rw (seen-too-long type body over)
 
   previous-too-long : previous body ≡ refuse tooLong
   unfolding previous
@@ -38,7 +41,7 @@ module _ (type : ℕ) (body : List ℕ) (over : 65536 < length body) where
 
   too-long-text : eventText type body ≡ refusedText (number tooLong)
   unfolding eventText
-  too-long-text = split (eqb type 35) (λ h. rw (h, previous-too-long)) (λ h. rw (h, gtid-too-long))
+  too-long-text = split (eqb type 35) (λ h. rw (h, previous-too-long)) (λ h. rw (h, event-too-long))
 
 -- what stands behind it changes nothing
 pub front-lists : (n : ℕ) (input : List ℕ) → enoughInput ≤ n → listing (take n input) ≡ listing input

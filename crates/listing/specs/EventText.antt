@@ -5,15 +5,15 @@ use lib.ListN.{take}
 use lib.Dec.{eqb}
 use Rattle.misc.specs.Pick.{pick}
 use Rattle.misc.specs.Refusal.{number, ended, notASet}
-use Rattle.misc.specs.Parse.{Parse, refuse, parsed}
 use Rattle.misc.specs.Body.{bodyLimit}
 use Rattle.misc.specs.Output.{Output, refused, bytes}
+use Rattle.previous_gtids_event.specs.Entry.{uuidOf, tagOf}
 use Rattle.previous_gtids_event.specs.Previous.{previous}
 use Rattle.gtid_event.specs.declared.GtidEvent.{GtidEvent}
-use Rattle.gtid_event_read.specs.Read.{gtid}
 use Rattle.gtid_sets.specs.Limits.{maxEntries, maxIntervals}
+use Rattle.gtid_sets.specs.Run.{Event, anonymous, broken, names}
 use Rattle.gtid_sets.specs.Lent.{Lent, form, unfit, lentSet}
-use Rattle.resume_set.specs.Answers.{takenIn}
+use Rattle.resume_set.specs.Answers.{takenIn, eventOf}
 use Rattle.listing.specs.Digits.{decimal}
 use Rattle.listing.specs.SetText.{newline, colon, keyText, setText}
 
@@ -37,14 +37,20 @@ previousWord = 112 ∷ 114 ∷ 101 ∷ 118 ∷ 105 ∷ 111 ∷ 117 ∷ 115 ∷ 4
 unfoldable pub refusedText : ℕ → List ℕ
 refusedText n = refusedWord ++ decimal n ++ (newline ∷ [])
 
--- ---- types 33, 34 and 42
+-- ---- types 33, 34 and 42: what an offer sees of them
 
-unfoldable pub idText : GtidEvent → List ℕ
-idText e = gtidWord ++ keyText (e .sid) (take (e .«tag_len») (e .tag)) ++ (colon ∷ decimal (e .gno)) ++ (newline ∷ [])
+-- a uuid, a tag and a gno
+unfoldable pub idText : List ℕ → List ℕ → ℕ → List ℕ
+idText uuid tag gno = gtidWord ++ keyText uuid tag ++ (colon ∷ decimal gno) ++ (newline ∷ [])
 
-abbrev pub gtidText : ℕ → Parse GtidEvent → List ℕ
-gtidText type (refuse r) = refusedText (number r)
-gtidText type (parsed e next) = pick (eqb type 34) (anonymousWord ++ (newline ∷ [])) (idText e)
+-- those of a record
+abbrev pub recordText : GtidEvent → List ℕ
+recordText e = idText (e .sid) (take (e .«tag_len») (e .tag)) (e .gno)
+
+abbrev pub gtidText : Event → List ℕ
+gtidText (broken r) = refusedText (number r)
+gtidText anonymous = anonymousWord ++ (newline ∷ [])
+gtidText (names k gno) = idText (uuidOf k) (tagOf k) gno
 
 -- ---- type 35: the set that is taken in
 
@@ -59,7 +65,7 @@ takenText (bytes set) = lentText (lentSet set)
 -- ---- an event, and the program's input
 
 unfoldable pub eventText : ℕ → List ℕ → List ℕ
-eventText type body = pick (eqb type 35) (takenText (takenIn (previous body))) (gtidText type (gtid type body))
+eventText type body = pick (eqb type 35) (takenText (takenIn (previous body))) (gtidText (eventOf type body))
 
 -- a type byte and a body; no input at all ends before the type
 abbrev pub listing : List ℕ → List ℕ

@@ -6,7 +6,7 @@ use crate::keys::put_key;
 use crate::set_text::list_set;
 use gtid_event::ANONYMOUS_GTID_EVENT;
 use gtid_event::GtidEvent;
-use gtid_event_read::read;
+use gtid_event_read::read_named;
 use misc::Wrote;
 use misc::bytes::write_bytes;
 use misc::put::put_bytes;
@@ -19,9 +19,8 @@ ghost use Prim.Native.Nat.{_≤_};
 ghost use lib.ListN.{length};
 ghost use Rattle.misc.specs.Output.{bytes, outputOf, answerOf};
 ghost use Rattle.previous_gtids_event.specs.Previous.{previous};
-ghost use Rattle.gtid_event_read.specs.Read.{gtid};
-ghost use Rattle.resume_set.specs.Answers.{takenIn};
-ghost use Rattle.listing.specs.EventText.{refusedText, idText, gtidText, takenText, eventText, listing};
+ghost use Rattle.resume_set.specs.Answers.{takenIn, eventOf};
+ghost use Rattle.listing.specs.EventText.{refusedText, recordText, gtidText, takenText, eventText, listing};
 
 // The type of a Previous-GTIDs event.
 pub const PREVIOUS_GTIDS_EVENT: u8 = 35;
@@ -47,8 +46,8 @@ fn write_refused(refusal: u8, out: &mut [u8]) -> Wrote
 // Writes the id of an event.
 fn write_id(event: GtidEvent, out: &mut [u8]) -> Wrote
     requires { ⌜ (length (event .sid) ≡ 16) × (event .«tag_len» ≤ 32) × (length (event .tag) ≡ 32) ⌝ }
-    ensures { λ r. ⌜ r ≡ answerOf (now (out .entry)) (bytes (idText event)) ⌝ }
-    ensures { λ _. ⌜ now (out .exit) ≡ outputOf (now (out .entry)) (bytes (idText event)) ⌝ }
+    ensures { λ r. ⌜ r ≡ answerOf (now (out .entry)) (bytes (recordText event)) ⌝ }
+    ensures { λ _. ⌜ now (out .exit) ≡ outputOf (now (out .entry)) (bytes (recordText event)) ⌝ }
 {
     let uuid = event.sid;
     let tag = event.tag;
@@ -71,10 +70,10 @@ fn write_id(event: GtidEvent, out: &mut [u8]) -> Wrote
 
 // Writes the text of a GTID event, or that it is refused.
 fn list_gtid(event_type: u8, body: &[u8], out: &mut [u8]) -> Wrote
-    ensures { λ r. ⌜ r ≡ answerOf (now (out .entry)) (bytes (gtidText «event_type» (gtid «event_type» (now (body .entry))))) ⌝ }
-    ensures { λ _. ⌜ now (out .exit) ≡ outputOf (now (out .entry)) (bytes (gtidText «event_type» (gtid «event_type» (now (body .entry))))) ⌝ }
+    ensures { λ r. ⌜ r ≡ answerOf (now (out .entry)) (bytes (gtidText (eventOf «event_type» (now (body .entry))))) ⌝ }
+    ensures { λ _. ⌜ now (out .exit) ≡ outputOf (now (out .entry)) (bytes (gtidText (eventOf «event_type» (now (body .entry))))) ⌝ }
 {
-    let said = read(event_type, body);
+    let said = read_named(event_type, body);
     let refusal = said.refusal;
     if refusal != 0 {
         return write_refused(refusal, out);

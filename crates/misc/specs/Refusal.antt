@@ -81,3 +81,7 @@ full = numbered 16
 -- crowded: an entry of the result's set form has more intervals than one may have (CR 11); judged just before `full`
 abbrev pub crowded : Refusal
 crowded = numbered 17
+
+-- a tagged event was sent without its uuid or its gno, and its id is asked for (CR 6)
+abbrev pub absentId : Refusal
+absentId = numbered 21

@@ -32,3 +32,5 @@ pub const BAD_GNO: u8 = 15;
 pub const FULL: u8 = 16;
 
 pub const CROWDED: u8 = 17;
+
+pub const ABSENT_ID: u8 = 21;

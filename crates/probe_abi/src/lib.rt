@@ -41,7 +41,7 @@ fn asked(
 ) -> bool {
     match call {
         1 => uint(a),
-        16 => records::read(event_type, a),
+        16 | 22 => records::read(event_type, a),
         17 => records::reread(event_type, a, out, twin),
         19 => records::write(a, out, twin),
         32 => bodies::previous(a),

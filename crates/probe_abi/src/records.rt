@@ -41,6 +41,22 @@ fn read_into(event_type: u8, body: &[u8], dump: &mut [u8], twin: &mut [u8]) -> b
     differs(wanted, refusal, used, dump, twin)
 }
 
+// And tells the fields.
+fn present_into(event_type: u8, body: &[u8], dump: &mut [u8], twin: &mut [u8]) -> bool {
+    fill(dump);
+    fill(twin);
+    let said = gtid_event_read::read(event_type, body);
+    let mut told = said.present;
+    let wanted = laid_out(said, dump);
+    if wanted.refusal != 0 {
+        told = 0;
+    }
+    let mut used = UNSET;
+    let mut present = !0u16;
+    let refusal = abi::gtid_read_present(event_type, body, twin, &mut used, &mut present);
+    differs(wanted, refusal, used, dump, twin) | (present != told)
+}
+
 // One byte more than a record has, and one less.
 pub(crate) fn read(event_type: u8, body: &[u8]) -> bool {
     let mut long = [0u8; 117];
@@ -49,6 +65,8 @@ pub(crate) fn read(event_type: u8, body: &[u8]) -> bool {
     let mut short_twin = [0u8; 115];
     read_into(event_type, body, &mut long, &mut long_twin)
         | read_into(event_type, body, &mut short, &mut short_twin)
+        | present_into(event_type, body, &mut long, &mut long_twin)
+        | present_into(event_type, body, &mut short, &mut short_twin)
 }
 
 // The archive writes the record whose bytes these are.

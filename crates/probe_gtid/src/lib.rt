@@ -1,4 +1,4 @@
-// Call 9 and calls 16 to 21 of the test program: the GTID record.
+// Call 9 and calls 16 to 22 of the test program: the GTID record.
 mod build;
 pub mod record;
 
@@ -22,9 +22,14 @@ fn paysize(number: u64, line: &mut [u8]) -> usize {
 fn refused_read(line: &mut [u8], read: GtidRead, rest: usize) -> usize {
     let refusal = read.refusal;
     let used = read.used;
+    let present = read.present;
     let event = read.event;
     let nonzero = record::nonzero(event);
-    answers::refused(line, refusal, nonzero || used != 0 || rest != 0)
+    answers::refused(
+        line,
+        refusal,
+        nonzero || used != 0 || rest != 0 || present != 0,
+    )
 }
 
 fn gtid(event_type: u8, a: &[u8], line: &mut [u8]) -> usize {
@@ -72,6 +77,17 @@ fn gtidlen(event_type: u8, a: &[u8], line: &mut [u8]) -> usize {
     length_line(line, gtid_event_write::write::length(event))
 }
 
+// Which fields were there, as a number.
+fn present(event_type: u8, a: &[u8], line: &mut [u8]) -> usize {
+    let read = gtid_event_read::read(event_type, a);
+    if read.refusal != 0 {
+        return refused_read(line, read, 0);
+    }
+    let bits = read.present;
+    let bits_at = answers::ok(line);
+    push_decimal(line, bits_at, bits as u64)
+}
+
 fn record_write(a: &[u8], out: &mut [u8], line: &mut [u8]) -> usize {
     checks::fill(out);
     let wrote = gtid_event_write::write::write(record::from_dump(a), out);
@@ -109,6 +125,7 @@ pub fn answer(
         19 => record_write(a, out, line),
         20 => record_len(a, line),
         21 => build_record(a, line),
+        22 => present(event_type, a, line),
         _ => answers::none(line),
     }
 }

@@ -1,12 +1,14 @@
 -- The statements of `specs/Answers.antt`.
 use Prim.Native.Nat.{ℕ, _+_, _*_, _/_, _%_, _≤_}
-use mathlib.Core.Path.{_≡_, ap}
+use mathlib.Core.Path.{_≡_, refl, sym, ap}
 use mathlib.Core.Bool.{Bool}
 use mathlib.Core.List.{List, _++_}
 use mathlib.Core.Logic.{inl, inr}
 use native.Mathlib.Omega.{arith}
 use lib.ListN.{length, drop, length-append, length-drop}
 use borrow.Author.Tests.{le-leb, ne-eqb}
+use Rattle.misc.specs.Refusal.{number}
+use Rattle.misc.specs.Parse.{Bytes, Parse, refuse, parsed}
 use Rattle.misc.specs.Signed.{meantBy, signedAt, naturalAt}
 use Rattle.misc.specs.Body.{bodyLimit}
 use Rattle.misc.proofs.Places.{From}
@@ -16,15 +18,20 @@ use Rattle.previous_gtids_event.specs.Layout.{EntryLaid}
 use Rattle.previous_gtids_event.proofs.Reading.{uuid-of, tag-of}
 use Rattle.previous_gtids_event.proofs.Laying.{entry-reads, interval-reads}
 use Rattle.previous_gtids_event.proofs.RoundTrip.{header-told}
-use Rattle.gtid_event.specs.declared.GtidEvent.{GtidEvent}
+use Rattle.gtid_event_read.specs.Seen.{Seen}
+use Rattle.gtid_event_read.specs.Read.{seen, gtid, named, gtidRead}
+use Rattle.gtid_event_read.proofs.PresentLaws.{named-parsed}
 use Rattle.gtid_event_write.specs.Write.{lengthOf}
 use Rattle.resume_set.specs.Answers.{eventOf}
+use Rattle.resume_set.proofs.AnswerLaws.{key-parts}
 use Rattle.listing.specs.EventText.{eventText}
+use Rattle.listing.proofs.EventTextLaws.{id-named}
 use Rattle.promises.specs.Meaning.{RecordLaid}
+use Rattle.promises.specs.SetFaults.{NamingFault}
 use Rattle.promises.specs.Answers.{IntegersTold, EventsTold, BodiesTold, ListingTold}
 use Rattle.promises.proofs.Demand2.{laid-record-read, entries-mean}
 use Rattle.promises.proofs.IntegersExact.{write-writes}
-use Rattle.promises.proofs.EventExact.{event-refused}
+use Rattle.promises.proofs.Naming.{naming-refused, naming-faulty, event-named, event-anonymous}
 use Rattle.promises.proofs.SetsExact.{take-in-forced}
 
 -- a place where some bytes stand is inside
@@ -55,14 +62,23 @@ integers-told = record {
   lenenc = λ v s at item rest form is. rw (lenenc-reads s at v item rest form (stands s at item rest (lenenc-some v item form) is));
 }
 
+-- what is not refused where the id is asked for is read alike
+asked-alike : (type : ℕ) (body : List ℕ) → ((n : ℕ) → NamingFault type body n → ⊥) → Bytes body → gtidRead (named type body) ≡ gtidRead (seen type body)
+asked-alike type body none are = go (named type body) refl
+  where
+    go : (p : Parse Seen) → named type body ≡ p → gtidRead (named type body) ≡ gtidRead (seen type body)
+    go (refuse r) e = absurd (none (number r) (naming-faulty type body are r e))
+    go (parsed x used) e = rw (e, named-parsed type body e .0)
+
 pub events-told : EventsTold
-unfolding lengthOf eventOf
+unfolding lengthOf gtid
 events-told = record {
-  read = λ type body e used laid. rw (laid-record-read type body e used laid);
-  unread = λ type body e used laid. rw (laid-record-read type body e used laid);
+  read = λ type body x used laid. rw (laid-record-read type body x used laid);
+  asked = asked-alike;
+  unread = λ type body x used laid. rw (laid-record-read type body x used laid);
   length-of = λ e bs w. let (can, is) = write-writes e bs w in rw (can, is);
-  named = λ type body e n. rw (laid-record-read type body e (n .used) (n .laid), ne-eqb type 34 (n .named));
-  unnamed = λ body e used laid. rw (laid-record-read 34 body e used laid);
+  named = λ type body e n. event-named type body n;
+  unnamed = λ body x used laid. event-anonymous 34 body laid refl;
 }
 
 -- ---- Previous-GTIDs
@@ -93,17 +109,20 @@ bodies-told = record {
 
 -- ---- the listing
 
-not-35 : (type : ℕ) {body : List ℕ} {e : GtidEvent} {used : ℕ} → RecordLaid type body e used → type ≡ 35 → ⊥
-not-35 type (RecordLaid.untagged _ (inl is) _) other = omega arith
-not-35 type (RecordLaid.untagged _ (inr is) _) other = omega arith
+not-35 : (type : ℕ) {body : List ℕ} {x : Seen} {used : ℕ} → RecordLaid type body x used → type ≡ 35 → ⊥
+not-35 type (RecordLaid.untagged _ (inl is) _ _) other = omega arith
+not-35 type (RecordLaid.untagged _ (inr is) _ _) other = omega arith
 not-35 type (RecordLaid.tagged _ is _) other = omega arith
 
 pub listing-told : ListingTold
 unfolding eventText
 listing-told = record {
-  refused-event = λ type body n other fault. let (r, e, is) = event-refused type body n fault in rw (ne-eqb type 35 other, e, is);
+  refused-event = λ type body n other fault.
+      let (r, e, is) = naming-refused type body n fault in
+      rw (ne-eqb type 35 other) (unfold eventOf in rw (e, is));
   refused-body = λ body n are fault. let (r, e, is) = take-in-forced body are n fault in rw (e, is);
-  named = λ type body e n.
-      rw (ne-eqb type 35 (not-35 type (n .laid)), laid-record-read type body e (n .used) (n .laid), ne-eqb type 34 (n .named));
-  anonymous = λ body e used laid. rw (laid-record-read 34 body e used laid);
+  named = λ type body e are n.
+      let read : gtid type body ≡ parsed e (n .used) = unfold gtid in rw (laid-record-read type body _ (n .used) (n .laid)) in
+      rw (ne-eqb type 35 (not-35 type (n .laid)), event-named type body n) (sym (id-named e (key-parts type body are read .0)));
+  anonymous = λ body x used laid. rw (event-anonymous 34 body laid refl);
 }

@@ -14,7 +14,9 @@ use Rattle.packets.proofs.Tests.{split}
 use Rattle.previous_gtids_event.specs.Entry.{Entry}
 use Rattle.previous_gtids_event.specs.Answers.{entryRead}
 use Rattle.gtid_event.specs.declared.GtidEvent.{GtidEvent}
+use Rattle.gtid_event_read.specs.Seen.{Seen}
 use Rattle.gtid_event_read.specs.Read.{gtid}
+use Rattle.gtid_event_read.proofs.ReadLaws.{gtid-parsed, gtid-refused}
 use Rattle.gtid_event_write.specs.Writable.{writable}
 use Rattle.gtid_event_write.specs.Write.{eventBytes, eventOutput}
 use Rattle.gtid_event_laws.proofs.ReadWritable.{read-fits}
@@ -34,7 +36,7 @@ use Rattle.promises.specs.SetFaults.{SetFault}
 use Rattle.promises.specs.Exact.{RefusesExactly, WritesExactly, ListingExact, FlatFault, ArchiveExact}
 use Rattle.promises.proofs.Forces.{WriterRefuses}
 use Rattle.promises.proofs.Exactly.{short-exactly, writes-exactly}
-use Rattle.promises.proofs.Demand2.{records-mean}
+use Rattle.promises.proofs.Demand2.{laid-record-read, records-mean}
 use Rattle.promises.proofs.EventExact.{event-refused, event-faulty}
 use Rattle.promises.proofs.IntegersExact.{write-given, write-forced, write-writes, write-written, integers-exact}
 use Rattle.promises.proofs.SetsExact.{apart, unfit-fault, fault-unfit, sets-exact, offers-exactly}
@@ -93,27 +95,30 @@ same-numbers a b e = sym (rw e at (answer-in a)) ∙ answer-in b
 
 module _ (type : ℕ) (body out : List ℕ) (are : Bytes body) where
   abbrev Flat : List ℕ → Type 0
-  Flat bs = (e : GtidEvent) × (used : ℕ) × RecordLaid type body e used × (bs ≡ flat e)
+  Flat bs = (x : Seen) × (used : ℕ) × RecordLaid type body x used × (bs ≡ flat (x .event))
 
   read-given : (r : Refusal) → readOutput (gtid type body) ≡ refused r → EventFault type body (number r)
   read-given r = go (gtid type body) refl
     where
       go : (p : Parse GtidEvent) → gtid type body ≡ p → readOutput p ≡ refused r → EventFault type body (number r)
-      go (refuse x) read e = let same : x ≡ r = cc in event-faulty type body are r (rw same at read)
+      go (refuse x) read e = let same : x ≡ r = cc in event-faulty type body are r (gtid-refused type body (rw same at read))
       go (parsed event used) read e = apart cc
 
   read-forced : (n : ℕ) → EventFault type body n → WriterRefuses (readOutput (gtid type body)) n
-  read-forced n fault = let (r, e, is) = event-refused type body n fault in (r, rw e, is)
+  read-forced n fault = let (r, e, is) = event-refused type body n fault in (r, unfold gtid in rw e, is)
 
   read-writes : (bs : List ℕ) → readOutput (gtid type body) ≡ bytes bs → Flat bs
   read-writes bs = go (gtid type body) refl
     where
       go : (p : Parse GtidEvent) → gtid type body ≡ p → readOutput p ≡ bytes bs → Flat bs
       go (refuse x) read e = apart cc
-      go (parsed event used) read e = (event, used, records-mean type body event used are .0 read, cc)
+      go (parsed event used) read e =
+          let (x, told, same) = gtid-parsed type body read in
+          (x, used, records-mean type body x used are .0 told, rw same at (let is : bs ≡ flat event = cc in is))
 
   read-written : (bs : List ℕ) → Flat bs → readOutput (gtid type body) ≡ bytes bs
-  read-written bs (e, used, laid, is) = rw (records-mean type body e used are .1 laid, is)
+  unfolding gtid
+  read-written bs (x, used, laid, is) = rw (laid-record-read type body x used laid, is)
 
   -- where it refuses, it answers 0 or the needed length in the place of the bytes used
   used-is : (p : Parse GtidEvent) → gtid type body ≡ p → (answerOf out (readOutput p) .refusal ≡ 0 → ⊥)

@@ -23,8 +23,8 @@ use Rattle.gtid_event.specs.Fits.{Fits}
 use Rattle.gtid_event_laws.proofs.EventBack.{event-alone}
 use Rattle.gtid_sets.proofs.Bools.{or-false-parts}
 use Rattle.promises.specs.UntaggedLayout.{PairLaid, PairIfLeft}
-use Rattle.promises.specs.TaggedLayout.{Sent, number, the-uuid, the-tag, lastNumber}
-use Rattle.promises.specs.Building.{serverVersions, sends, Unversioned, KeepsVersions, bare, bareBytes, Building}
+use Rattle.promises.specs.TaggedLayout.{Sent, number, the-uuid, the-tag, sends, lastNumber}
+use Rattle.promises.specs.Building.{serverVersions, Unversioned, KeepsVersions, bare, bareBytes, Building}
 
 -- ---- what a reader gives where no version was sent
 
@@ -40,16 +40,16 @@ unsent id [] absent none = refl
 unsent id (number k v ∷ told) absent none =
     let (other, rest) = or-false-parts (eqb k id) (sends id told) none in
     rw other (unsent id told absent rest)
-unsent id (the-uuid us ∷ told) absent none = unsent id told absent none
-unsent id (the-tag t ∷ told) absent none = unsent id told absent none
+unsent id (the-uuid us ∷ told) absent none = unsent id told absent (or-false-parts (eqb 1 id) (sends id told) none .1)
+unsent id (the-tag t ∷ told) absent none = unsent id told absent (or-false-parts (eqb 3 id) (sends id told) none .1)
 
 absent-versions : {s : List ℕ} {e : GtidEvent} {used : ℕ} → Unversioned s e used → serverVersions e ≡ 999999 ∷ 999999 ∷ []
 absent-versions (Unversioned.short laid) = rw (laid .is)
 absent-versions (Unversioned.long laid none) =
     let (immediate, original) = none-left (laid .versions-are) none in
     rw (laid .is, immediate, original)
-absent-versions (Unversioned.tagged laid immediate original) =
-    rw (laid .is, unsent 9 (laid .told) 999999 immediate, unsent 10 (laid .told) 999999 original)
+absent-versions (Unversioned.tagged laid is immediate original) =
+    rw (is, laid .is, unsent 9 (laid .told) 999999 immediate, unsent 10 (laid .told) 999999 original)
 
 -- ---- a new record can be written
 

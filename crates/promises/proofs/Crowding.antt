@@ -15,7 +15,9 @@ use Rattle.packets.proofs.GnoLaws.{gnoTop-is}
 use Rattle.previous_gtids_event.specs.Entry.{Entry, entry, uuidOf, tagOf}
 use Rattle.previous_gtids_event.specs.Rewrite.{bodyBytes}
 use Rattle.gtid_event_read.specs.Untagged.{openingAt, untagged}
-use Rattle.gtid_event_read.specs.Read.{gtid}
+use Rattle.gtid_event_read.specs.Seen.{untaggedSeen}
+use Rattle.gtid_event_read.specs.Read as read
+use Rattle.gtid_event_read.specs.Read.{seen}
 use Rattle.gtid_sets.specs.Interval.{Gapped, insert}
 use Rattle.gtid_sets.specs.Set.{has, add, SetForm}
 use Rattle.gtid_sets.specs.Limits.{fine, limits, longestSet, EntryOver}
@@ -31,7 +33,7 @@ use Rattle.resume_set_laws.specs.History.{Turn, Offering}
 use Rattle.resume_set_laws.specs.Ours.{ours}
 use Rattle.promises.specs.SetFaults.{Names, Accepts, OfferFault, OfferAnswer}
 use Rattle.promises.specs.Exact.{OffersExactly}
-use Rattle.promises.specs.WrongOnes.{asFull, saysFull, asTaken, saysTaken, crowdedEarly}
+use Rattle.promises.specs.WrongOnes.{renumbered, saysFull, asTaken, saysTaken, crowdedEarly}
 use Rattle.promises.proofs.Demand2.{records-mean}
 use Rattle.promises.proofs.SetsExact.{offers-exactly}
 use Rattle.promises.proofs.ShutOut.{bodyOf, body-bytes, small-1, named, laid-1, offer}
@@ -106,7 +108,7 @@ over-one-entry =
     }
 
 named-1 : Names 33 (bodyOf 1) (named 1)
-named-1 = record { used = 25; laid = laid-1; named = λ is. omega arith }
+named-1 = record { present = replicate 12 false; used = 25; laid = laid-1; named = λ is. omega arith; sent = λ is. absurd (omega arith) }
 
 -- gno 1, which stands apart, is 17 there, whatever the output
 crowded-fault : (room : ℕ) → OfferFault (bodyBytes entryFull) 33 (bodyOf 1) room 17 0
@@ -133,12 +135,18 @@ small-4 : Bytes (4 ∷ [])
 small-4 zero = omega arith
 small-4 (suc i) = omega arith
 
-read-4 : gtid 33 (bodyOf 4) ≡ parsed (named 4) 25
-unfolding gtid bodyLimit untagged openingAt byteAt bytesAt leAt leOf
+read-4 : seen 33 (bodyOf 4) ≡ parsed (untaggedSeen (named 4)) 25
+unfolding seen bodyLimit untagged openingAt byteAt bytesAt leAt leOf
 read-4 = refl
 
 named-4 : Names 33 (bodyOf 4) (named 4)
-named-4 = record { used = 25; laid = records-mean 33 (bodyOf 4) (named 4) 25 (body-bytes 4 small-4) .0 read-4; named = λ is. omega arith }
+named-4 = record {
+  present = replicate 12 false;
+  used = 25;
+  laid = records-mean 33 (bodyOf 4) (untaggedSeen (named 4)) 25 (body-bytes 4 small-4) .0 read-4;
+  named = λ is. omega arith;
+  sent = λ is. absurd (omega arith);
+}
 
 pub joined : List Entry
 joined = add zeros 4 entryFull
@@ -172,7 +180,7 @@ takes-joined f exactly =
 -- one that says 16 to gno 1
 pub says-full-out : OffersExactly saysFull → ⊥
 says-full-out exactly =
-    let two : Refused 16 0 ≡ Refused 17 0 = sym (ap asFull (refuses-crowded ours offers-exactly)) ∙ refuses-crowded saysFull exactly in
+    let two : Refused 16 0 ≡ Refused 17 0 = sym (ap (renumbered 17 16) (refuses-crowded ours offers-exactly)) ∙ refuses-crowded saysFull exactly in
     let clash : _≡_ {A = ℕ} 16 17 = cc in
     omega arith
 
@@ -186,7 +194,7 @@ says-taken-out exactly =
 
 -- one that says 17 to gno 4
 early-says : crowdedEarly .answers (bodyBytes entryFull) roomy ≡ Refused 17 0
-unfolding eventOf gtid bodyLimit untagged openingAt byteAt bytesAt leAt leOf
+unfolding eventOf read.named seen bodyLimit untagged openingAt byteAt bytesAt leAt leOf
 early-says = refl
 
 pub crowded-early-out : OffersExactly crowdedEarly → ⊥

@@ -12,10 +12,12 @@ use Rattle.misc.specs.Parse.{Bytes}
 use Rattle.misc.specs.Body.{bodyLimit}
 use Rattle.packets.proofs.Tests.{split}
 use Rattle.gtid_sets.proofs.Bools.{or-false-parts}
-use Rattle.gtid_event_read.specs.Read.{gtid, gtidRead}
+use Rattle.gtid_event_read.specs.Seen.{untaggedSeen}
+use Rattle.gtid_event_read.specs.Untagged.{untagged}
+use Rattle.gtid_event_read.specs.Read.{seen, gtidRead}
 use Rattle.promises.specs.Faults.{EventFault}
 use Rattle.promises.specs.Exact.{RefusesExactly}
-use Rattle.promises.proofs.Gives.{Gives, refuse-gives, pick-gives}
+use Rattle.promises.proofs.Gives.{Gives, refuse-gives, pick-gives, mapped-gives}
 use Rattle.promises.proofs.Forces.{Refuses, is-refused, same-refused}
 use Rattle.promises.proofs.StopsGiven.{untagged-stops, tagged-stops}
 use Rattle.promises.proofs.UntaggedForced.{untagged-forced}
@@ -24,26 +26,26 @@ use Rattle.promises.proofs.TaggedRefused.{tagged-refused}
 use Rattle.promises.proofs.TaggedFaulty.{tagged-faulty}
 use Rattle.promises.proofs.Exactly.{reads-exactly}
 
-pub event-refused : (type : ℕ) (s : List ℕ) (n : ℕ) → EventFault type s n → Refuses (gtid type s) n
-unfolding gtid
+pub event-refused : (type : ℕ) (s : List ℕ) (n : ℕ) → EventFault type s n → Refuses (seen type s) n
+unfolding seen
 event-refused type s n (EventFault.tooLong h) = is-refused tooLong (rw (lt-leb (length s) bodyLimit h))
 event-refused type s n (EventFault.wrongType short a b c) =
     is-refused wrongType (rw (le-leb (length s) bodyLimit short, ne-eqb type 33 a, ne-eqb type 34 b, ne-eqb type 42 c))
 event-refused type s n (EventFault.untagged short (inl is) fault) =
-    same-refused (untagged-forced s (untagged-stop s n fault)) (λ r e. rw (le-leb (length s) bodyLimit short, is) e)
+    same-refused (untagged-forced s (untagged-stop s n fault)) (λ r e. rw (le-leb (length s) bodyLimit short, is, e))
 event-refused type s n (EventFault.untagged short (inr is) fault) =
-    same-refused (untagged-forced s (untagged-stop s n fault)) (λ r e. rw (le-leb (length s) bodyLimit short, is) e)
+    same-refused (untagged-forced s (untagged-stop s n fault)) (λ r e. rw (le-leb (length s) bodyLimit short, is, e))
 event-refused type s n (EventFault.tagged short is fault) =
     same-refused (tagged-refused s n fault) (λ r e. rw (le-leb (length s) bodyLimit short, is) e)
 
-pub event-faulty : (type : ℕ) (s : List ℕ) → Bytes s → Gives (EventFault type s) (gtid type s)
-unfolding gtid
+pub event-faulty : (type : ℕ) (s : List ℕ) → Bytes s → Gives (EventFault type s) (seen type s)
+unfolding seen
 event-faulty type s are =
     pick-gives (EventFault type s) (leb (length s) bodyLimit) _ _
     (λ short.
     let fits : length s ≤ bodyLimit = leb-true (length s) bodyLimit short in
     pick-gives (EventFault type s) (eqb type 33 || eqb type 34) _ _
-    (λ either r e. EventFault.untagged fits (one-of either) (untagged-faulty s are (untagged-stops s are r e)))
+    (λ either. mapped-gives (EventFault type s) untaggedSeen (untagged s) (λ r e. EventFault.untagged fits (one-of either) (untagged-faulty s are (untagged-stops s are r e))))
     (λ neither.
     let (not-33, not-34) = or-false-parts (eqb type 33) (eqb type 34) neither in
     pick-gives (EventFault type s) (eqb type 42) _ _
@@ -55,6 +57,6 @@ event-faulty type s are =
     one-of : eqb type 33 || eqb type 34 ≡ true → (type ≡ 33) ⊎ (type ≡ 34)
     one-of h = split (eqb type 33) (λ is. inl (eqb-true type 33 is)) (λ isnt. inr (eqb-true type 34 (rw isnt at h)))
 
-pub event-exact : (type : ℕ) (s : List ℕ) → Bytes s → RefusesExactly (gtidRead (gtid type s) .refusal) (EventFault type s)
+pub event-exact : (type : ℕ) (s : List ℕ) → Bytes s → RefusesExactly (gtidRead (seen type s) .refusal) (EventFault type s)
 event-exact type s are =
-    reads-exactly (λ p. gtidRead p .refusal) (EventFault type s) (gtid type s) (λ r. refl) (λ e used. refl) (event-faulty type s are) (event-refused type s)
+    reads-exactly (λ p. gtidRead p .refusal) (EventFault type s) (seen type s) (λ r. refl) (λ e used. refl) (event-faulty type s are) (event-refused type s)

@@ -1,6 +1,6 @@
 -- The statements of `specs/Highest.antt` hold.
 use Prim.Native.Nat.{ℕ, _≤_, _<_}
-use mathlib.Core.Path.{_≡_, refl, ap, _∙_}
+use mathlib.Core.Path.{_≡_, refl, sym, ap, _∙_}
 use mathlib.Core.Bool.{true, false}
 use mathlib.Core.List.{List, [], _∷_, _++_}
 use mathlib.Core.Logic.{inl, inr}
@@ -14,7 +14,7 @@ use Rattle.packets.proofs.GnoLaws.{gnoTop-is}
 use Rattle.packets.proofs.Tests.{split, clash}
 use Rattle.previous_gtids_event.specs.Entry.{Entry, entry}
 use Rattle.previous_gtids_event.specs.Previous.{previous}
-use Rattle.gtid_event.specs.Event.{tagged, setNumber}
+use Rattle.gtid_event.specs.Event.{tagged, typeOf, setNumber}
 use Rattle.gtid_event.specs.declared.GtidEvent.{GtidEvent}
 use Rattle.gtid_event_write.specs.Writable.{signedTop, writable}
 use Rattle.gtid_event_write.specs.Write.{eventBytes, eventOutput}
@@ -26,13 +26,15 @@ use Rattle.gtid_sets.specs.Lent.{Lent, form, unfit, lentSet}
 use Rattle.gtid_sets.proofs.FormLaws.{lawful-holds}
 use Rattle.gtid_sets.proofs.TakeInLaws.{form-lawful}
 use Rattle.gtid_sets.proofs.LentLaws.{lent-is, is-lent, read-back}
-use Rattle.resume_set.specs.Answers.{eventOf, takeInAnswers}
-use Rattle.listing.specs.EventText.{refusedText, eventText}
+use Rattle.resume_set.specs.Answers.{takeInAnswers}
+use Rattle.listing.specs.EventText.{refusedText, gtidText, eventText}
+use Rattle.listing.proofs.EventTextLaws.{id-named, event-gtid}
 use Rattle.resume_set_laws.specs.History.{Turn, Offering, kept, keptAll, lentHas, member}
 use Rattle.resume_set_laws.specs.Ours.{ours}
 use Rattle.promises.specs.SetFaults.{SetFault, BodyIs, TakeInFault, Names}
 use Rattle.promises.specs.Highest.{EndsAt, HasEnd, CarriedOnly, Highest}
-use Rattle.promises.proofs.SetsExact.{body-read, event-named, has-gno}
+use Rattle.promises.proofs.SetsExact.{body-read, has-gno}
+use Rattle.promises.proofs.Naming.{event-named, written-named}
 use Rattle.promises.proofs.AnswersTold.{listing-told}
 use Rattle.promises.proofs.OrdersHold.{no-gno, zeros}
 
@@ -98,20 +100,23 @@ fits-top e fits = record {
 top-none : isGno gnoTop ≡ false
 top-none = no-gno gnoTop (inr (omega arith))
 
+-- what is written is no Previous-GTIDs event
+not-35 : (e : GtidEvent) → typeOf e ≡ 35 → ⊥
+not-35 e = split (tagged e) (λ is h. omega (arith, rw is at h)) (λ is h. omega (arith, rw is at h))
+
 carried : (e : GtidEvent) → Fits e → writable e ≡ true → CarriedOnly (setNumber 2 gnoTop e)
-unfolding eventOutput eventText eventOf
+unfolding eventOutput
 carried e fits can =
     let high = setNumber 2 gnoTop e in
     let able = with-top e can in
-    let read = event-alone high (fits-top e fits) able in
+    let fits = fits-top e fits in
+    let said = written-named high fits able in
     record {
       body = eventBytes high;
       written = rw able;
-      read = read;
-      listed = split (tagged e) (λ is. rw (read, is)) (λ is. rw (read, is));
-      offered = λ set s out laid. split (tagged e)
-          (λ is. rw (is-lent set s laid, read, is, top-none))
-          (λ is. rw (is-lent set s laid, read, is, top-none));
+      read = event-alone high fits able;
+      listed = sym (event-gtid (typeOf high) (eventBytes high) (not-35 high)) ∙ ap gtidText said ∙ sym (id-named high (fits .sid-size));
+      offered = λ set s out laid. rw (is-lent set s laid, said, top-none);
     }
 
 -- ---- demand 3
@@ -134,7 +139,7 @@ stays t e are named over set = go (lentSet set) refl
   where
     go : (l : Lent) → lentSet set ≡ l → kept ours set t ≡ set
     go unfit lent = rw lent
-    go (form s) lent = rw (lent, event-named (t .type) (t .body) are named, no-gno (e .gno) (inr over))
+    go (form s) lent = rw (lent, event-named (t .type) (t .body) named, no-gno (e .gno) (inr over))
 
 pub highest : Highest
 highest = record {

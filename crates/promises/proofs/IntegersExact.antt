@@ -30,15 +30,14 @@ use Rattle.gtid_event_write.specs.Writable.{writable}
 use Rattle.gtid_event_write.specs.Write.{eventBytes, eventOutput, lengthOf}
 use Rattle.promises.specs.Faults.{CutForm}
 use Rattle.promises.specs.PlainFaults.{FixedFault, VarlenFault, NaturalFault, LenencFault, TagFault, RecordFault}
-use Rattle.promises.specs.Exact.{RefusesExactly, IntegersExact, EventsExact}
+use Rattle.promises.specs.Exact.{RefusesExactly, IntegersExact}
 use Rattle.promises.proofs.Stops.{lenenc, Ends}
 use Rattle.promises.proofs.Gives.{Gives, le-gives, varlen-gives, lenenc-gives, then-gives, mapped-gives, parsed-gives, refuse-gives}
 use Rattle.promises.proofs.Forces.{Refuses, WriterRefuses, is-refused, lenenc-ends, lead-refused}
-use Rattle.promises.proofs.Exactly.{reads-exactly, judges-exactly, short-exactly, writes-exactly}
+use Rattle.promises.proofs.Exactly.{reads-exactly, judges-exactly, short-exactly}
 use Rattle.promises.proofs.TaggedRefused.{cut-ends}
 use Rattle.promises.proofs.TaggedFaulty.{gone, cut-form, signed-sent}
 use Rattle.promises.proofs.UntaggedFaulty.{lenenc-cut, cut-lenenc}
-use Rattle.promises.proofs.EventExact.{event-exact}
 
 -- ---- so many bytes
 
@@ -153,21 +152,21 @@ integers-exact = record {
 
 -- ---- records
 
-tag-exact : (tag : List ℕ) (e : GtidEvent) → RefusesExactly (withTag tag e .refusal) (TagFault tag)
+pub tag-exact : (tag : List ℕ) (e : GtidEvent) → RefusesExactly (withTag tag e .refusal) (TagFault tag)
 unfolding withTag
 tag-exact tag e = judges-exactly _ 6 (TagFault tag) (isTag tag) (λ good. rw good) (λ bad. rw bad) TagFault.tagRule only (λ zero. omega arith)
   where
     only : (n : ℕ) → TagFault tag n → (n ≡ 6) × (isTag tag ≡ false)
     only n (TagFault.tagRule bad) = (refl, bad)
 
-new-exact : (sid tag : List ℕ) (gno : ℕ) → RefusesExactly (newTagged sid tag gno .refusal) (TagFault tag)
+pub new-exact : (sid tag : List ℕ) (gno : ℕ) → RefusesExactly (newTagged sid tag gno .refusal) (TagFault tag)
 unfolding newTagged
 new-exact sid tag gno = tag-exact tag _
 
 record-only : (e : GtidEvent) (n : ℕ) → RecordFault e n → (n ≡ 12) × (writable e ≡ false)
 record-only e n (RecordFault.notWritable cannot) = (refl, cannot)
 
-length-exact : (e : GtidEvent) → RefusesExactly (lengthOf e .refusal) (RecordFault e)
+pub length-exact : (e : GtidEvent) → RefusesExactly (lengthOf e .refusal) (RecordFault e)
 unfolding lengthOf
 length-exact e =
     judges-exactly _ 12 (RecordFault e) (writable e) (λ can. rw can) (λ cannot. rw cannot) RecordFault.notWritable (record-only e) (λ zero. omega arith)
@@ -196,12 +195,3 @@ module _ (e : GtidEvent) where
   pub write-written : (bs : List ℕ) → (writable e ≡ true) × (bs ≡ eventBytes e) → eventOutput e ≡ bytes bs
   unfolding eventOutput
   write-written bs (can, is) = rw (can, is)
-
-pub events-exact : EventsExact
-events-exact = record {
-  «with_tag» = tag-exact;
-  «new_tagged» = new-exact;
-  read = event-exact;
-  write = λ e out. writes-exactly (eventOutput e) out (RecordFault e) _ (write-given e) (write-forced e) (write-writes e) (write-written e);
-  length = length-exact;
-}

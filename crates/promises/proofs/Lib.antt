@@ -1,8 +1,8 @@
 -- The demands hold of what our functions promise. Demand 1: `integers-exact`, `events-exact`, `bodies-exact`, `reader-exact`, `sets-exact`,
 -- `listing-exact`, `archive-exact`, `offers-exactly`, `asks-exactly`, `sets-told`; `integers-told`, `events-told`, `bodies-told`, `listing-told`;
--- `orders`, `zeros`, `outputs`, `rules` and `highest`. Demand 2: `records-mean`, `records-back`, `records-again`, `least-size`, `entries-back`, `entries-mean`,
+-- `presence`, `orders`, `zeros`, `outputs`, `rules` and `highest`. Demand 2: `records-mean`, `records-back`, `records-again`, `least-size`, `entries-back`, `entries-mean`,
 -- `building`. Demand 3: `tells-history`, `replays`, `refusals-keep`. No two cases hold at once, and what is laid out has no fault (`OneOutcome`).
--- Wrong programs don't meet the demands (`ShutOut`, `Crowding`).
+-- Wrong programs don't meet the demands (`ShutOut`, `Crowding`, `Absent`).
 pub mod EdgesAgree
 -- the language: what is refused has its case, and a case forces its number
 pub mod Gives
@@ -24,6 +24,7 @@ pub mod TaggedRefused
 pub mod TaggedFaulty
 pub mod UntaggedFaulty
 pub mod EventExact
+pub mod Naming
 -- those of bodies
 pub mod BodyFaults
 pub mod BodyForced
@@ -31,12 +32,14 @@ pub mod BodyForced
 pub mod LimitsExact
 -- every public function
 pub mod IntegersExact
+pub mod RecordsExact
 pub mod SetsExact
 pub mod SetsTold
 pub mod BodiesExact
 pub mod ReaderExact
 pub mod ArchiveExact
 pub mod AnswersTold
+pub mod PresenceHolds
 pub mod OrdersHold
 pub mod RulesHold
 pub mod HighestHolds
@@ -44,3 +47,4 @@ pub mod BuildingHolds
 pub mod OneOutcome
 pub mod ShutOut
 pub mod Crowding
+pub mod Absent

@@ -19,8 +19,8 @@ use Rattle.previous_gtids_event.specs.Entry.{Entry}
 use Rattle.previous_gtids_event.specs.Previous.{previous}
 use Rattle.previous_gtids_event.specs.Layout.{BodyLaid}
 use Rattle.previous_gtids_event.proofs.RoundTrip.{read-laid, laid-read}
-use Rattle.gtid_event.specs.declared.GtidEvent.{GtidEvent}
-use Rattle.gtid_event_read.specs.Read.{gtid}
+use Rattle.gtid_event_read.specs.Seen.{Seen}
+use Rattle.gtid_event_read.specs.Read.{seen}
 use Rattle.resume_set_laws.specs.History.{Turn, Offering}
 use Rattle.promises.specs.Faults.{EventFault}
 use Rattle.promises.specs.BodyFaults.{BodyFault}
@@ -67,15 +67,15 @@ same-offers {f} {g} first second set t are =
 
 -- ---- of events
 
-pub laid-or-faulty : (type : ℕ) (s : List ℕ) → Bytes s → ((e : GtidEvent) × (used : ℕ) × RecordLaid type s e used) ⊎ ((n : ℕ) × EventFault type s n)
-laid-or-faulty type s are = go (gtid type s) refl
+pub laid-or-faulty : (type : ℕ) (s : List ℕ) → Bytes s → ((x : Seen) × (used : ℕ) × RecordLaid type s x used) ⊎ ((n : ℕ) × EventFault type s n)
+laid-or-faulty type s are = go (seen type s) refl
   where
-    go : (p : Parse GtidEvent) → gtid type s ≡ p → ((e : GtidEvent) × (used : ℕ) × RecordLaid type s e used) ⊎ ((n : ℕ) × EventFault type s n)
+    go : (p : Parse Seen) → seen type s ≡ p → ((x : Seen) × (used : ℕ) × RecordLaid type s x used) ⊎ ((n : ℕ) × EventFault type s n)
     go (refuse r) read = inr (number r, event-faulty type s are r read)
-    go (parsed e used) read = inl (e, used, records-mean type s e used are .0 read)
+    go (parsed x used) read = inl (x, used, records-mean type s x used are .0 read)
 
-pub not-both : (type : ℕ) (s : List ℕ) (e : GtidEvent) (used n : ℕ) → Bytes s → RecordLaid type s e used → EventFault type s n → ⊥
-not-both type s e used n are laid fault = refused-not-read (event-refused type s n fault) (records-mean type s e used are .1 laid)
+pub not-both : (type : ℕ) (s : List ℕ) (x : Seen) (used n : ℕ) → Bytes s → RecordLaid type s x used → EventFault type s n → ⊥
+not-both type s x used n are laid fault = refused-not-read (event-refused type s n fault) (records-mean type s x used are .1 laid)
 
 -- ---- of Previous-GTIDs bodies
 

@@ -19,8 +19,9 @@ use Rattle.previous_gtids_event.specs.Entry.{Entry}
 use Rattle.previous_gtids_event.specs.Previous.{previous}
 use Rattle.gtid_event.specs.Event.{withTag, newTagged}
 use Rattle.gtid_event.specs.declared.GtidEvent.{GtidEvent}
+use Rattle.gtid_event_read.specs.Seen.{Seen}
 use Rattle.gtid_event_read.specs.Tagged.{tagged}
-use Rattle.gtid_event_read.specs.Read.{gtid}
+use Rattle.gtid_event_read.specs.Read.{seen}
 use Rattle.gtid_event_read.proofs.TaggedLaws.{payload-small}
 use Rattle.gtid_event_write.specs.Writable.{writable}
 use Rattle.gtid_event_write.specs.Write.{eventOutput, lengthOf}
@@ -30,19 +31,20 @@ use Rattle.gtid_sets.proofs.LentLaws.{is-lent}
 use Rattle.resume_set.specs.Answers.{eventOf, offered}
 use Rattle.resume_set.specs.declared.Offered.the-variants.{Refused}
 use Rattle.abi.specs.Flat.{flatIdentity, flatClock, flatRest, flat}
-use Rattle.promises.specs.Faults.{EventFault}
-use Rattle.promises.specs.SetFaults.{keyOf}
+use Rattle.promises.specs.Faults.{ValueFault, FieldFault, TaggedFault, UntaggedFault, EventFault}
+use Rattle.promises.specs.Meaning.{RecordLaid}
+use Rattle.promises.specs.SetFaults.{keyOf, sentUuid, sentGno, NamingFault}
 use Rattle.promises.specs.Orders.{LongFirst, Orders, Zeros, Outputs}
 use Rattle.promises.proofs.TaggedRefused.{read-envelope, payload}
-use Rattle.promises.proofs.EventExact.{event-refused}
+use Rattle.promises.proofs.Naming.{naming-refused, event-named}
 use Rattle.promises.proofs.LimitsExact.{entry-limit}
-use Rattle.promises.proofs.SetsExact.{fault-unfit, body-read, event-named}
+use Rattle.promises.proofs.SetsExact.{fault-unfit, body-read}
 
 -- ---- which of several faults counts
 
 module _ (s : List ℕ) (long : bodyLimit < length s) where
-  long-event : (type : ℕ) → gtid type s ≡ refuse tooLong
-  unfolding gtid
+  long-event : (type : ℕ) → seen type s ≡ refuse tooLong
+  unfolding seen
   long-event type = rw (lt-leb (length s) bodyLimit long)
 
   long-body : previous s ≡ refuse tooLong
@@ -82,11 +84,65 @@ pub no-gno : (n : ℕ) → (n ≡ 0) ⊎ (gnoTop ≤ n) → isGno n ≡ false
 no-gno n (inl zero) = rw zero
 no-gno n (inr over) = rw (le-ltb n gnoTop over) (and-false (leb 1 n))
 
+naming-next : (set : List ℕ) (s : List Entry) (type : ℕ) (body : List ℕ) (n room : ℕ) → SetLaid set s → NamingFault type body n
+    → offered (lentSet set) (eventOf type body) room ≡ Refused n 0
+naming-next set s type body n room laid fault =
+    let (r, e, is) = naming-refused type body n fault in
+    rw (is-lent set s laid, ← is) (unfold eventOf in rw e)
+
 event-next : (set : List ℕ) (s : List Entry) (type : ℕ) (body : List ℕ) (n room : ℕ) → SetLaid set s → EventFault type body n
     → offered (lentSet set) (eventOf type body) room ≡ Refused n 0
-event-next set s type body n room laid fault =
-    let (r, e, is) = event-refused type body n fault in
-    rw (is-lent set s laid, ← is) (unfold eventOf in rw e)
+event-next set s type body n room laid fault = naming-next set s type body n room laid (NamingFault.own fault)
+
+id-next : (set : List ℕ) (s : List Entry) (body : List ℕ) (x : Seen) (used room : ℕ) → SetLaid set s → RecordLaid 42 body x used
+    → (sentUuid x ≡ false) ⊎ (sentGno x ≡ false) → offered (lentSet set) (eventOf 42 body) room ≡ Refused 21 0
+id-next set s body x used room laid event (inl none) = naming-next set s 42 body 21 room laid (NamingFault.noUuid event refl none)
+id-next set s body x used room laid event (inr none) = naming-next set s 42 body 21 room laid (NamingFault.noGno event refl none)
+
+-- 21 is no number of a fault of the event itself
+small-value : {last id n : ℕ} {rest : List ℕ} → ValueFault last id rest n → n ≤ 6
+small-value (ValueFault.cutNumber _ _ _) = omega arith
+small-value (ValueFault.cutItem _ _ _) = omega arith
+small-value (ValueFault.cutTag _ _ _) = omega arith
+small-value (ValueFault.largeFlags _ _ _) = omega arith
+small-value (ValueFault.largeItem _ _ _ _ _) = omega arith
+small-value (ValueFault.largeVersion _ _ _ _) = omega arith
+small-value (ValueFault.negative _ _ _ _) = omega arith
+small-value (ValueFault.unknownId _ _) = omega arith
+small-value (ValueFault.tagRule _ _ _ _) = omega arith
+
+small-field : {last n : ℕ} {s : List ℕ} → FieldFault last s n → n ≤ 6
+small-field (FieldFault.cutId _ _ _) = omega arith
+small-field (FieldFault.badValue _ _ value) = small-value value
+
+small-tagged : {n : ℕ} {s : List ℕ} → TaggedFault s n → n ≤ 9
+small-tagged TaggedFault.cutVersion = omega arith
+small-tagged (TaggedFault.cutSize _) = omega arith
+small-tagged (TaggedFault.cutLast _ _) = omega arith
+small-tagged (TaggedFault.cutPayload _ _ _ _ _) = omega arith
+small-tagged (TaggedFault.wrongVersion _) = omega arith
+small-tagged (TaggedFault.smallPayload _ _ _ _) = omega arith
+small-tagged (TaggedFault.inFields _ _ _ _ fields) = omega (arith, small-field fields)
+small-tagged (TaggedFault.noTag _ _ _ _ _ _) = omega arith
+
+small-untagged : {n : ℕ} {s : List ℕ} → UntaggedFault s n → n ≤ 10
+small-untagged (UntaggedFault.cutOpening _ _) = omega arith
+small-untagged (UntaggedFault.cutClock _ _ _ _) = omega arith
+small-untagged (UntaggedFault.cutTimestamp _ _ _ _ _ _ _ _ _ _) = omega arith
+small-untagged (UntaggedFault.cutLength _ _ _ _ _ _ _ _) = omega arith
+small-untagged (UntaggedFault.cutVersion _ _ _ _ _ _ _ _ _ _ _ _ _ _) = omega arith
+small-untagged (UntaggedFault.badLead _ _ _ _ _ _ _ _ _) = omega arith
+
+small-event : {type n : ℕ} {s : List ℕ} → EventFault type s n → n ≤ 11
+small-event (EventFault.tooLong _) = omega arith
+small-event (EventFault.wrongType _ _ _ _) = omega arith
+small-event (EventFault.untagged _ _ fault) = omega (arith, small-untagged fault)
+small-event (EventFault.tagged _ _ fault) = omega (arith, small-tagged fault)
+
+tagged-alone : (type : ℕ) (body : List ℕ) → NamingFault type body 21 → type ≡ 42
+tagged-alone type body (NamingFault.own fault) = absurd (omega (arith, small-event fault))
+tagged-alone type body (NamingFault.noUuid laid is none) = is
+tagged-alone type body (NamingFault.noGno laid is none) = is
 
 pub orders : Orders
 orders =
@@ -98,10 +154,12 @@ orders =
       crowded-first = λ s over. rw (entry-limit s .1 over);
       set-first = λ set fault type body room. let (_, lent) = fault-unfit set 14 fault in rw lent (refl, refl);
       event-next = event-next;
+      id-next = id-next;
+      tagged-alone = tagged-alone;
       gno-next = λ set s type body e room are laid named gno.
-          rw (is-lent set s laid, event-named type body are named, no-gno (e .gno) gno);
+          rw (is-lent set s laid, event-named type body named, no-gno (e .gno) gno);
       crowded-next = λ set s type body e room are laid named good new over.
-          rw (is-lent set s laid, event-named type body are named, good, new, entry-limit (add (keyOf e) (e .gno) s) .1 over);
+          rw (is-lent set s laid, event-named type body named, good, new, entry-limit (add (keyOf e) (e .gno) s) .1 over);
     }
 
 -- ---- what else a refusal answers, and what is left in an output

@@ -19,12 +19,13 @@ use Rattle.previous_gtids_event.specs.Entry.{Entry, entry}
 use Rattle.previous_gtids_event.specs.Previous.{noneOrTag, previous}
 use Rattle.previous_gtids_event.specs.Rewrite.{bodyBytes}
 use Rattle.gtid_event.specs.declared.GtidEvent.{GtidEvent}
-use Rattle.gtid_event_read.specs.Read.{gtid}
+use Rattle.gtid_event_read.specs.Seen.{Seen}
+use Rattle.gtid_event_read.specs.Read.{recordIn, named}
 use Rattle.gtid_sets.specs.Interval.{within, covers, Gapped}
 use Rattle.gtid_sets.specs.Set.{has, add, SetForm}
 use Rattle.gtid_sets.specs.TakeIn.{lawful, takeIn}
 use Rattle.gtid_sets.specs.Limits.{Judged, fine, breaks, limits}
-use Rattle.gtid_sets.specs.Run.{anonymous, broken, names, after}
+use Rattle.gtid_sets.specs.Run.{broken, names, after}
 use Rattle.gtid_sets.specs.Lent.{Lent, form, unfit, lentSet, SetLaid}
 use Rattle.gtid_sets.proofs.LentLaws.{lent-is, is-lent, lent-none}
 use Rattle.gtid_sets.proofs.RunLaws.{answer-cases}
@@ -34,17 +35,16 @@ use Rattle.resume_set.specs.declared.Offered.{Offered}
 use Rattle.resume_set.specs.declared.Offered.the-variants.{Refused}
 use Rattle.resume_set_laws.specs.History.{lentHas, member}
 use Rattle.resume_set_laws.specs.Ours.{ours}
-use Rattle.promises.specs.Meaning.{RecordLaid}
 use Rattle.promises.specs.PlainFaults.{ShortFault}
 use Rattle.promises.specs.SetFaults.{SetFault, BodyIs, TakeInFault, TakenInAs, keyOf, Names, Accepts, OfferFault, OfferAnswer}
 use Rattle.promises.specs.Exact.{RefusesExactly, SetsExact, OffersExactly, AsksExactly, asks}
 use Rattle.promises.proofs.Forces.{WriterRefuses}
 use Rattle.promises.proofs.LimitsExact.{entry-limit, limits-refuse}
 use Rattle.promises.proofs.Exactly.{writes-exactly}
-use Rattle.promises.proofs.EventExact.{event-refused, event-faulty}
+use Rattle.promises.proofs.Naming.{naming-refused, naming-faulty, named-laid, event-named, event-anonymous}
 use Rattle.promises.proofs.BodyFaults.{body-faults}
 use Rattle.promises.proofs.BodyForced.{body-forced}
-use Rattle.promises.proofs.Demand2.{records-mean, entries-mean}
+use Rattle.promises.proofs.Demand2.{entries-mean}
 
 -- what two constructors make is not the same: `apart cc`
 pub apart : {X : Type 0} → _≡_ {A = ℕ} 0 1 → X
@@ -154,16 +154,6 @@ out-refused : (out : List ℕ) (r : Refusal) → outputOf out (refused r) ≡ ou
 unfolding outputOf
 out-refused out r = refl
 
--- an event that names an id, or none
-module _ (type : ℕ) (body : List ℕ) (are : Bytes body) where
-  pub event-named : {e : GtidEvent} → Names type body e → eventOf type body ≡ names (keyOf e) (e .gno)
-  unfolding eventOf
-  event-named {e} n = rw (records-mean type body e (n .used) are .1 (n .laid), ne-eqb type 34 (n .named))
-
-  event-anonymous : {e : GtidEvent} {used : ℕ} → RecordLaid type body e used → type ≡ 34 → eventOf type body ≡ anonymous
-  unfolding eventOf
-  event-anonymous {e} {used} laid is = let read = records-mean type body e used are .1 laid in rw (read, is)
-
 module _ (set : List ℕ) (type : ℕ) (body : List ℕ) (out : List ℕ) (are : Bytes body) where
   -- ---- a case forces its answer, and what is left in the output
 
@@ -174,24 +164,24 @@ module _ (set : List ℕ) (type : ℕ) (body : List ℕ) (out : List ℕ) (are :
     accepts : {after : List Entry} {case : ℕ → Offered} → Accepts s type body case after
         → (offered (lentSet set) (eventOf type body) (length out) ≡ fitting case (length (bodyBytes after)) (length out))
         × (output (lentSet set) (eventOf type body) ≡ bytes (bodyBytes after))
-    accepts (Accepts.noId event is) = rw (is-lent set s laid, event-anonymous type body are event is) (refl, refl)
-    accepts (Accepts.already n good there) = rw (is-lent set s laid, event-named type body are n, good, there) (refl, refl)
-    accepts (Accepts.taken n good new within) = rw (is-lent set s laid, event-named type body are n, good, new, within) (refl, refl)
+    accepts (Accepts.noId event is) = rw (is-lent set s laid, event-anonymous type body event is) (refl, refl)
+    accepts (Accepts.already n good there) = rw (is-lent set s laid, event-named type body n, good, there) (refl, refl)
+    accepts (Accepts.taken n good new within) = rw (is-lent set s laid, event-named type body n, good, new, within) (refl, refl)
 
   fault-forced : (n len : ℕ) → OfferFault set type body (length out) n len → Ours (Refused n len) out
   fault-forced n len (OfferFault.badSet fault) =
       let (this, lent) = fault-unfit set n fault in
       rw (lent, this) (refl, out-refused out notASet)
   fault-forced n len (OfferFault.badEvent {s = s} laid fault) =
-      let (r, e, is) = event-refused type body n fault in
+      let (r, e, is) = naming-refused type body n fault in
       let said : eventOf type body ≡ broken r = unfold eventOf in rw e in
       rw (is-lent set s laid, said, is) (refl, out-refused out r)
-  fault-forced n len (OfferFault.gnoRule {s = s} laid named bad) = rw (is-lent set s laid, event-named type body are named, bad) (refl, out-refused out badGno)
+  fault-forced n len (OfferFault.gnoRule {s = s} laid named bad) = rw (is-lent set s laid, event-named type body named, bad) (refl, out-refused out badGno)
   fault-forced n len (OfferFault.crowdedEntry {s = s} {e = e} laid named good new over) =
       let judged = entry-limit (add (keyOf e) (e .gno) s) .1 over in
-      rw (is-lent set s laid, event-named type body are named, good, new, judged) (refl, out-refused out crowded)
+      rw (is-lent set s laid, event-named type body named, good, new, judged) (refl, out-refused out crowded)
   fault-forced n len (OfferFault.overLimits {s = s} laid named good new over) =
-      rw (is-lent set s laid, event-named type body are named, good, new, over) (refl, out-refused out full)
+      rw (is-lent set s laid, event-named type body named, good, new, over) (refl, out-refused out full)
   fault-forced n len (OfferFault.noRoom {after = after} laid ok (ShortFault.short over)) =
       let (answered, left) = accepts laid ok in
       let no : leb (length (bodyBytes after)) (length out) ≡ false = lt-leb _ _ over in
@@ -222,20 +212,21 @@ module _ (set : List ℕ) (type : ℕ) (body : List ℕ) (out : List ℕ) (are :
         (λ over this. rw (is, this, out-refused out crowded) (OfferAnswer.refused (OfferFault.crowdedEntry laid n good new over)))
         (λ over this. rw (is, this, out-refused out full) (OfferAnswer.refused (OfferFault.overLimits laid n good new over))))
 
-    event-found : (p : Parse GtidEvent) → gtid type body ≡ p
-        → OfferAnswer set type body out (offeredOf s (says type p) (length out)) (outputOf out (outputFor s (says type p)))
-    event-found (refuse r) read = rw (out-refused out r) (OfferAnswer.refused (OfferFault.badEvent laid (event-faulty type body are r read)))
-    event-found (parsed e used) read =
-        let laid-out : RecordLaid type body e used = records-mean type body e used are .0 read in
+    event-found : (p : Parse Seen) → named type body ≡ p
+        → OfferAnswer set type body out (offeredOf s (says type (recordIn p)) (length out)) (outputOf out (outputFor s (says type (recordIn p))))
+    event-found (refuse r) read = rw (out-refused out r) (OfferAnswer.refused (OfferFault.badEvent laid (naming-faulty type body are r read)))
+    event-found (parsed x used) read =
+        let (laid-out, sent) = named-laid type body are x used read in
         split (eqb type 34)
         (λ is. rw is (fits-or-not (Accepts.noId laid-out (eqb-true type 34 is))))
-        (λ other. rw other (named-found (record { used = used; laid = laid-out; named = eqb-false type 34 other })))
+        (λ other. rw other
+        (named-found {e = x .event} (record { present = x .present; used = used; laid = laid-out; named = eqb-false type 34 other; sent = sent })))
 
   answer-found : (l : Lent) → lentSet set ≡ l
       → OfferAnswer set type body out (offered l (eventOf type body) (length out)) (outputOf out (output l (eventOf type body)))
   unfolding eventOf
   answer-found unfit lent = rw (out-refused out notASet) (OfferAnswer.refused (OfferFault.badSet (unfit-fault set lent)))
-  answer-found (form s) lent = event-found (lent-is set s lent) (gtid type body) refl
+  answer-found (form s) lent = event-found (lent-is set s lent) (named type body) refl
 
 pub offers-exactly : OffersExactly ours
 offers-exactly set t a l are = (

@@ -7,7 +7,7 @@ use borrow.Author.Tests.{ltb-true}
 use mathlib.Core.List.{List, [], _∷_, _++_}
 use native.Mathlib.Omega.{arith}
 use lib.ListN.{length, replicate, length-append}
-use Rattle.misc.specs.Parse.{Bytes, refuse, parsed, many, bytesAt, byteAt}
+use Rattle.misc.specs.Parse.{Bytes, Parse, refuse, parsed, many, bytesAt, byteAt}
 use Rattle.misc.specs.Output.{bytes, outputOf, answerOf}
 use Rattle.misc.specs.Body.{bodyLimit}
 use Rattle.misc.specs.Le.{leOf, leBytes, leAt}
@@ -28,11 +28,13 @@ use Rattle.previous_gtids_event.specs.Previous as previous-specs
 use Rattle.previous_gtids_event.specs.Previous.{keyAt, headAt, intervalAt, entryAt, saysTagged, saysCount, previous}
 use Rattle.previous_gtids_event.specs.Rewrite.{intervalsBytes, entryBytes, entriesBytes, anyTag, headerBytes, bodyBytes}
 use Rattle.gtid_event.specs.declared.GtidEvent.{GtidEvent}
-use Rattle.gtid_event.specs.Event.{newUntagged, typeOf, setNumber, withTag}
+use Rattle.gtid_event.specs.Event.{newUntagged, typeOf, withTag}
 use Rattle.gtid_event_read.specs.Untagged.{openingAt, untagged}
 use Rattle.gtid_event_read.specs.Fields.{tagAt, fieldAt, fieldsFrom}
 use Rattle.gtid_event_read.specs.Tagged.{tagged}
-use Rattle.gtid_event_read.specs.Read.{gtid}
+use Rattle.gtid_event_read.specs.Seen.{Seen, untaggedSeen}
+use Rattle.gtid_event_read.specs.Read as read-specs
+use Rattle.gtid_event_read.specs.Read.{seen, recordIn, gtid}
 use Rattle.gtid_event_write.specs.Writable.{allZero, writable}
 use Rattle.gtid_event_write.specs.Size.{payloadSize}
 use Rattle.gtid_event_write.specs.Layout.{fieldBytes}
@@ -52,10 +54,10 @@ use Rattle.resume_set_laws.specs.History.{Turn, Offering, member, TakesIn, Tell
 use Rattle.resume_set_laws.specs.Ours.{ours}
 use Rattle.promises.specs.Meaning.{EventReader, EventWriter, RecordLaid, RecordsMean, RecordsBack, LeastSize, EntriesMean}
 use Rattle.promises.specs.UntaggedLayout.{NoTypecode, untaggedRecord, ShortLaid}
-use Rattle.promises.specs.TaggedLayout.{number, the-tag, said}
+use Rattle.promises.specs.TaggedLayout.{number, the-tag, seenIn}
 use Rattle.promises.proofs.Demand2.{records-mean, one-record, entries-mean}
 use Rattle.promises.specs.Building.{Unversioned, NewVersions, KeepsVersions}
-use Rattle.promises.specs.WrongOnes.{claimsZero, forgetsVersions, refusesBodies, topByteTwo, tagsByOne, refusesAll, constantRecord, madeUpCount, swapsClock, equalId, ignoresEqual, writesNothing, sizesByTwo, copiesItsSet, addsOnlyTheFirst, alwaysNoId, noIdForZero, takesTop, asksTaggedOnly}
+use Rattle.promises.specs.WrongOnes.{claimsZero, forgetsVersions, refusesBodies, topByteTwo, tagsByOne, refusesAll, constantRecord, countedUp, madeUpCount, swappedClock, swapsClock, equalId, ignoresEqual, writesNothing, sizesByTwo, copiesItsSet, addsOnlyTheFirst, alwaysNoId, noIdForZero, takesTop, asksTaggedOnly}
 use Rattle.promises.specs.Exact.{OffersExactly, AsksExactly}
 use Rattle.promises.proofs.SetsExact.{offers-exactly}
 use Rattle.promises.proofs.BuildingHolds.{fresh-fits}
@@ -116,15 +118,17 @@ sizes-by-two-out least =
 
 -- a reader that tells another count, with the writer that is ours. (Some writers would agree with it: those that write a byte more)
 pub made-up-count-out : RecordsBack madeUpCount eventOutput → ⊥
-unfolding eventOutput
+unfolding eventOutput gtid
 made-up-count-out back =
     let (bs, wrote, read) = back some some-fits some-can in
     let is : bytes (eventBytes some) ≡ bytes bs = rw some-can at wrote in
     let these : eventBytes some ≡ bs = cc in
     let ours : gtid (typeOf some) bs ≡ parsed some (length bs) = rw these at (event-alone some some-fits some-can) in
-    let two : parsed some (length bs + 1) ≡ parsed some (length bs) = rw ours at read in
-    let clash : length bs + 1 ≡ length bs = cc in
-    omega arith
+    counted (seen (typeOf some) bs) (length bs) ours read
+  where
+    counted : (p : Parse Seen) (n : ℕ) → recordIn p ≡ parsed some n → recordIn (countedUp p) ≡ parsed some n → ⊥
+    counted (refuse r) n e f = never e
+    counted (parsed x used) n e f = let same : used ≡ n = cc in let more : used + 1 ≡ n = cc in omega arith
 
 -- ---- readers against the layouts, with no writer
 
@@ -147,40 +151,40 @@ small-3 (suc i) = omega arith
 abbrev pub named : ℕ → GtidEvent
 named gno = untaggedRecord 0 (replicate 16 0) gno 0 0 0 0 0 0 999999 999999
 
-read-1 : gtid 33 (bodyOf 1) ≡ parsed (named 1) 25
-unfolding gtid bodyLimit untagged openingAt byteAt bytesAt leAt leOf
+read-1 : seen 33 (bodyOf 1) ≡ parsed (untaggedSeen (named 1)) 25
+unfolding seen bodyLimit untagged openingAt byteAt bytesAt leAt leOf
 read-1 = refl
 
-pub laid-1 : RecordLaid 33 (bodyOf 1) (named 1) 25
-laid-1 = records-mean 33 (bodyOf 1) (named 1) 25 (body-bytes 1 small-1) .0 read-1
+pub laid-1 : RecordLaid 33 (bodyOf 1) (untaggedSeen (named 1)) 25
+laid-1 = records-mean 33 (bodyOf 1) (untaggedSeen (named 1)) 25 (body-bytes 1 small-1) .0 read-1
 
 -- what a reader that keeps to the layouts reads is what ours reads
-same-reading : (read : EventReader) → RecordsMean read → (e : GtidEvent) (used : ℕ) → read 33 (bodyOf 1) ≡ parsed e used → (e ≡ named 1) × (used ≡ 25)
-same-reading read mean e used r = one-record 33 (bodyOf 1) e (named 1) used 25 (mean 33 (bodyOf 1) e used (body-bytes 1 small-1) .0 r) laid-1
+same-reading : (read : EventReader) → RecordsMean read → (x : Seen) (used : ℕ) → read 33 (bodyOf 1) ≡ parsed x used → (x ≡ untaggedSeen (named 1)) × (used ≡ 25)
+same-reading read mean x used r = one-record 33 (bodyOf 1) x (untaggedSeen (named 1)) used 25 (mean 33 (bodyOf 1) x used (body-bytes 1 small-1) .0 r) laid-1
 
 -- one that refuses all
 pub refuses-all-unlike : RecordsMean refusesAll → ⊥
-refuses-all-unlike mean = never (mean 33 (bodyOf 1) (named 1) 25 (body-bytes 1 small-1) .1 laid-1)
+refuses-all-unlike mean = never (mean 33 (bodyOf 1) (untaggedSeen (named 1)) 25 (body-bytes 1 small-1) .1 laid-1)
 
 -- one that always gives the same record: its typecode is 2
 pub constant-record-unlike : RecordsMean constantRecord → ⊥
 constant-record-unlike mean =
-    let (same, _) = same-reading constantRecord mean (newUntagged (replicate 16 0) 1) 25 refl in
-    let clash : _≡_ {A = ℕ} 2 0 = ap (λ (e : GtidEvent). e .«lc_typecode») same in
+    let (same, _) = same-reading constantRecord mean (untaggedSeen (newUntagged (replicate 16 0) 1)) 25 refl in
+    let clash : _≡_ {A = ℕ} 2 0 = ap (λ (x : Seen). x .event .«lc_typecode») same in
     omega arith
 
 -- one that tells another count
 pub made-up-count-unlike : RecordsMean madeUpCount → ⊥
 made-up-count-unlike mean =
-    let (_, count) = same-reading madeUpCount mean (named 1) 26 (rw read-1) in
+    let (_, count) = same-reading madeUpCount mean (untaggedSeen (named 1)) 26 (rw read-1) in
     omega arith
 
 -- a list whose numbers are tested
-abbrev below : List ℕ → Bool
+abbrev pub below : List ℕ → Bool
 below [] = true
 below (b ∷ bs) = ltb b 256 && below bs
 
-below-bytes : (l : List ℕ) → below l ≡ true → Bytes l
+pub below-bytes : (l : List ℕ) → below l ≡ true → Bytes l
 below-bytes [] h i = omega arith
 below-bytes (b ∷ bs) h zero = ltb-true b 256 (and-true (ltb b 256) (below bs) h .0)
 below-bytes (b ∷ bs) h (suc i) = below-bytes bs (and-true (ltb b 256) (below bs) h .1) i
@@ -189,34 +193,34 @@ below-bytes (b ∷ bs) h (suc i) = below-bytes bs (and-true (ltb b 256) (below b
 abbrev clocked : List ℕ
 clocked = 2 ∷ 16 ∷ 0 ∷ 6 ∷ 2 ∷ 97 ∷ 8 ∷ 4 ∷ []
 
-abbrev clockedRecord : GtidEvent
-clockedRecord = said (the-tag (97 ∷ []) ∷ number 4 1 ∷ [])
+abbrev clockedSeen : Seen
+clockedSeen = seenIn (the-tag (97 ∷ []) ∷ number 4 1 ∷ [])
 
-read-clocked : gtid 42 clocked ≡ parsed clockedRecord 8
-unfolding gtid bodyLimit tagged byteAt bytesAt varlenAt trailingOnes itemValue leOf fieldsFrom fieldAt tagAt naturalAt signedAt meantBy isTag allTagBytes padded
+read-clocked : seen 42 clocked ≡ parsed clockedSeen 8
+unfolding seen bodyLimit tagged byteAt bytesAt varlenAt trailingOnes itemValue leOf fieldsFrom fieldAt tagAt naturalAt signedAt meantBy isTag allTagBytes padded
 read-clocked = refl
 
 -- one that swaps last_committed and sequence_number
 pub swaps-clock-unlike : RecordsMean swapsClock → ⊥
 swaps-clock-unlike mean =
-    let other : GtidEvent = setNumber 4 0 (setNumber 5 1 clockedRecord) in
+    let other : Seen = record { event = swappedClock (clockedSeen .event); present = clockedSeen .present } in
     let laid = mean 42 clocked other 8 (below-bytes clocked refl) .0 (rw read-clocked) in
     let ours = records-mean 42 clocked other 8 (below-bytes clocked refl) .1 laid in
-    let two : parsed clockedRecord 8 ≡ parsed other 8 = sym read-clocked ∙ ours in
-    let same : clockedRecord ≡ other = cc in
-    let clash : _≡_ {A = ℕ} 1 0 = ap (λ (e : GtidEvent). e .«last_committed») same in
+    let two : parsed clockedSeen 8 ≡ parsed other 8 = sym read-clocked ∙ ours in
+    let same : clockedSeen ≡ other = cc in
+    let clash : _≡_ {A = ℕ} 1 0 = ap (λ (x : Seen). x .event .«last_committed») same in
     omega arith
 
-refuses-equal : gtid 42 equalId ≡ refuse unknownField
-unfolding gtid bodyLimit tagged byteAt bytesAt varlenAt trailingOnes itemValue leOf fieldsFrom fieldAt tagAt isTag allTagBytes
+refuses-equal : seen 42 equalId ≡ refuse unknownField
+unfolding seen bodyLimit tagged byteAt bytesAt varlenAt trailingOnes itemValue leOf fieldsFrom fieldAt tagAt isTag allTagBytes
 refuses-equal = refl
 
 -- one that ignores an unknown id which equals the last non-ignorable one
 pub ignores-equal-unlike : RecordsMean ignoresEqual → ⊥
 ignores-equal-unlike mean =
-    let e = said (the-tag (97 ∷ []) ∷ []) in
-    let laid = mean 42 equalId e 7 (below-bytes equalId refl) .0 refl in
-    never (sym refuses-equal ∙ records-mean 42 equalId e 7 (below-bytes equalId refl) .1 laid)
+    let x = seenIn (the-tag (97 ∷ []) ∷ []) in
+    let laid = mean 42 equalId x 7 (below-bytes equalId refl) .0 refl in
+    never (sym refuses-equal ∙ records-mean 42 equalId x 7 (below-bytes equalId refl) .1 laid)
 
 -- ---- readers of Previous-GTIDs bodies
 
@@ -275,7 +279,7 @@ forgets-versions-out keeps =
 
 -- ---- offers: to the empty set, ids of the zero uuid
 
-abbrev none : List ℕ
+abbrev pub none : List ℕ
 none = replicate 8 0
 
 none-taken-in : TakesIn none [] none
@@ -303,7 +307,7 @@ offer gno room = record { type = 33; body = bodyOf gno; out = replicate room 0 }
 
 -- one that copies its set
 pub copies-its-set-out : TellsHistory copiesItsSet → ⊥
-unfolding eventOf gtid bodyLimit untagged openingAt byteAt bytesAt leAt leOf outputOf lentSet previous saysTagged saysCount many limits maxEntries maxIntervals maxOfEntry bodyBytes anyTag headerBytes entriesBytes leBytes
+unfolding eventOf read-specs.named seen bodyLimit untagged openingAt byteAt bytesAt leAt leOf outputOf lentSet previous saysTagged saysCount many limits maxEntries maxIntervals maxOfEntry bodyBytes anyTag headerBytes entriesBytes leBytes
 copies-its-set-out history =
     let (_, members) = history none [] none (offer 1 8 ∷ []) none-taken-in (body-bytes 1 small-1, tt) in
     let clash : false ≡ true = members (replicate 16 0) 1 in
@@ -311,7 +315,7 @@ copies-its-set-out history =
 
 -- one that adds an id to the empty set only
 pub adds-only-the-first-out : TellsHistory addsOnlyTheFirst → ⊥
-unfolding eventOf gtid bodyLimit untagged openingAt byteAt bytesAt leAt leOf outputOf lentSet previous saysTagged saysCount many limits maxEntries maxIntervals maxOfEntry bodyBytes anyTag headerBytes entriesBytes leBytes entryBytes intervalsBytes uuidOf tagOf entryAt headAt keyAt previous-specs.tagAt intervalAt gnoTop
+unfolding eventOf read-specs.named seen bodyLimit untagged openingAt byteAt bytesAt leAt leOf outputOf lentSet previous saysTagged saysCount many limits maxEntries maxIntervals maxOfEntry bodyBytes anyTag headerBytes entriesBytes leBytes entryBytes intervalsBytes uuidOf tagOf entryAt headAt keyAt previous-specs.tagAt intervalAt gnoTop
 adds-only-the-first-out history =
     let (_, members) = history none [] none (offer 1 48 ∷ offer 3 48 ∷ []) none-taken-in (body-bytes 1 small-1, (body-bytes 3 small-3, tt)) in
     let clash : false ≡ true = members (replicate 16 0) 3 in
@@ -322,7 +326,7 @@ abbrev top : Turn
 top = record { type = 33; body = replicate 17 0 ++ leBytes 8 gnoTop; out = replicate 48 0 }
 
 pub takes-top-out : TellsHistory takesTop → ⊥
-unfolding eventOf gtid bodyLimit untagged openingAt byteAt bytesAt leAt leOf outputOf lentSet previous saysTagged saysCount many limits maxEntries maxIntervals maxOfEntry bodyBytes anyTag headerBytes entriesBytes leBytes entryBytes intervalsBytes uuidOf tagOf entryAt headAt keyAt previous-specs.tagAt intervalAt gnoTop
+unfolding eventOf read-specs.named seen bodyLimit untagged openingAt byteAt bytesAt leAt leOf outputOf lentSet previous saysTagged saysCount many limits maxEntries maxIntervals maxOfEntry bodyBytes anyTag headerBytes entriesBytes leBytes entryBytes intervalsBytes uuidOf tagOf entryAt headAt keyAt previous-specs.tagAt intervalAt gnoTop
 takes-top-out history =
     let ((s, lent), _) = history none [] none (top ∷ []) none-taken-in (below-bytes (top .body) refl, tt) in
     let same : unfit ≡ form s = lent in
@@ -341,7 +345,7 @@ same-answer : (f : Offering) → OffersExactly f → (gno : ℕ) → Bytes (gno 
 same-answer f exactly gno small room = same-offers offers-exactly exactly none (offer gno room) (body-bytes gno small) .0
 
 takes-1 : ours .answers none (offer 1 48) ≡ Taken 48
-unfolding eventOf gtid bodyLimit untagged openingAt byteAt bytesAt leAt leOf lentSet previous saysTagged saysCount many limits maxEntries maxIntervals maxOfEntry bodyBytes anyTag headerBytes entriesBytes leBytes entryBytes intervalsBytes uuidOf tagOf gnoTop
+unfolding eventOf read-specs.named seen bodyLimit untagged openingAt byteAt bytesAt leAt leOf lentSet previous saysTagged saysCount many limits maxEntries maxIntervals maxOfEntry bodyBytes anyTag headerBytes entriesBytes leBytes entryBytes intervalsBytes uuidOf tagOf gnoTop
 takes-1 = refl
 
 -- one that says "no id" to all
@@ -351,12 +355,12 @@ always-no-id-out exactly =
     let clash : _≡_ {A = ℕ} 0 1 = cc in
     omega arith
 
-refuses-0 : ours .answers none (offer 0 48) ≡ Refused 15 0
-unfolding eventOf gtid bodyLimit untagged openingAt byteAt bytesAt leAt leOf lentSet previous saysTagged saysCount many limits maxEntries maxIntervals maxOfEntry bodyBytes anyTag headerBytes entriesBytes leBytes
+pub refuses-0 : ours .answers none (offer 0 48) ≡ Refused 15 0
+unfolding eventOf read-specs.named seen bodyLimit untagged openingAt byteAt bytesAt leAt leOf lentSet previous saysTagged saysCount many limits maxEntries maxIntervals maxOfEntry bodyBytes anyTag headerBytes entriesBytes leBytes
 refuses-0 = refl
 
 names-zero : noIdForZero .answers none (offer 0 48) ≡ NoId 8
-unfolding eventOf gtid bodyLimit untagged openingAt byteAt bytesAt leAt leOf
+unfolding eventOf read-specs.named seen bodyLimit untagged openingAt byteAt bytesAt leAt leOf
 names-zero = refl
 
 -- one that says so to gno 0 only

@@ -20,14 +20,14 @@ use Rattle.misc.proofs.SignedLaws.{sent-meant}
 use Rattle.misc.proofs.Places.{part-from, Found, found-as, found-both, found-size}
 use Rattle.misc.proofs.Accepted.{form-read}
 use Rattle.packets.specs.Tag.{isTag}
-use Rattle.gtid_event.specs.declared.GtidEvent.{GtidEvent}
+use Rattle.gtid_event_read.specs.Seen.{Seen}
 use Rattle.gtid_event_read.specs.declared.Fields.{Fields}
 use Rattle.gtid_event_read.specs.Fields.{kindOf, noFields, withNumber, withUuid, withTagBytes, limitedAt, uuidAt, tagAt, valueAt, fieldAt, fieldsFrom}
-use Rattle.gtid_event_read.specs.Tagged.{recordOf, tagged}
+use Rattle.gtid_event_read.specs.Tagged.{seenOf, tagged}
 use Rattle.gtid_event_read.proofs.FieldLaws.{limited-parsed, field-forward}
 use Rattle.gtid_event_read.proofs.TaggedLaws.{tagged-parsed}
 use Rattle.promises.specs.TaggedLayout.{Sent, number, the-uuid, the-tag, Items, Value, FieldsLaid, TaggedLaid}
-use Rattle.promises.proofs.TaggedSaid.{keptIn, keptAll, record-said, tag-there}
+use Rattle.promises.proofs.TaggedSaid.{keptIn, keptAll, sent-at, seen-said}
 
 module _ (s : List ℕ) (are : Bytes s) where
   -- ---- values
@@ -197,8 +197,8 @@ module _ (s : List ℕ) (are : Bytes s) where
       let sum : start + (size - start) ≡ size = omega arith in
       part-from s start (size - start) ∙ ap (λ (n : ℕ). part s start (size - start) ++ drop n s) sum
 
-  pub tagged-accepted : (e : GtidEvent) (used : ℕ) → tagged s ≡ parsed e used → TaggedLaid s e used
-  tagged-accepted e used read =
+  pub tagged-accepted : (x : Seen) (used : ℕ) → tagged s ≡ parsed x used → TaggedLaid s x used
+  tagged-accepted x used read =
       let p = tagged-parsed s read in
       let a = form-read s are 1 (p .size) (p .size-end) (p .size-read) in
       let b = form-read s are (p .size-end) (p .last) (p .start) (p .last-read) in
@@ -210,7 +210,7 @@ module _ (s : List ℕ) (are : Bytes s) where
       go : (size m last start : ℕ) (f : Fields) (a : Found (Form size) s 1 m) (b : Found (Form last) s m start) → start ≤ size → size ≤ length s → 0 < length s
           → s ≡ (2 ∷ []) ++ drop 1 s
           → ((told : List Sent) × FieldsLaid last told (part s start (size - start)) × (f ≡ keptAll noFields told))
-          → getD (f .present) 3 false ≡ true → e ≡ recordOf f → used ≡ size → TaggedLaid s e used
+          → getD (f .present) 3 false ≡ true → x ≡ seenOf f → used ≡ size → TaggedLaid s x used
       go size m last start f a b large here some two (told, laid, kept) there is uses =
           let long : length (part s start (size - start)) ≡ size - start = part-length (size - start) s start (omega arith) in
           record {
@@ -227,7 +227,7 @@ module _ (s : List ℕ) (are : Bytes s) where
             counts = simp length-append (omega (arith, long, found-size s a (omega arith), found-size s b (a .inside)));
             told = told;
             fields-are = laid;
-            tagged = sym (tag-there laid) ∙ ap (λ (y : Fields). getD (y .present) 3 false) (sym kept) ∙ there;
-            is = is ∙ ap recordOf kept ∙ record-said told;
+            tagged = sym (sent-at told 3 (omega arith)) ∙ ap (λ (y : Fields). getD (y .present) 3 false) (sym kept) ∙ there;
+            is = is ∙ ap seenOf kept ∙ seen-said told;
             uses = uses;
           }

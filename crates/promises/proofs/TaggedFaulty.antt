@@ -22,9 +22,9 @@ use Rattle.misc.proofs.Accepted.{ones-low, ones-full, form-read}
 use Rattle.gtid_event_read.specs.declared.Fields.{Fields}
 use Rattle.gtid_event_read.specs.Fields.{Kind, anyNumber, upTo, natural, uuid, tag, unknown, fieldTable, kindOf, noFields}
 use Rattle.promises.proofs.Stops.{Item, varlen, Ends, Reached, AtValue, Wanted, FieldStop, Envelope, TaggedStop}
-use Rattle.promises.specs.TaggedLayout.{Sent, Value, hasTag}
+use Rattle.promises.specs.TaggedLayout.{Sent, Value, sends}
 use Rattle.promises.specs.Faults.{CutForm, FieldsFront, ValueFault, FieldFault, TaggedFault}
-use Rattle.promises.proofs.TaggedSaid.{tag-there}
+use Rattle.promises.proofs.TaggedSaid.{sent-at}
 use Rattle.promises.proofs.TaggedAccepted.{items-found, Next, field-parts, fields-found}
 
 -- ---- the table of kinds, read backwards
@@ -239,7 +239,7 @@ module _ (s : List ℕ) (are : Bytes s) where
       let p = parts v in
       let t = part s start (size - start) in
       let (told, laid, kept) = fields-found t (part-bytes s start (size - start) are) last (length t) noFields 0 f at (omega arith) read in
-      let no : hasTag told ≡ false = sym (tag-there laid) ∙ ap (λ (y : Fields). getD (y .present) 3 false) (sym kept) ∙ none in
+      let no : sends 3 told ≡ false = sym (sent-at told 3 (omega arith)) ∙ ap (λ (y : Fields). getD (y .present) 3 false) (sym kept) ∙ none in
       subst (λ (l : List ℕ). TaggedFault l 7)
       (sym (p .whole ∙ ap (λ (l : List ℕ). 2 ∷ (p .a ++ (p .b ++ l))) (fields-whole start size large)))
       (TaggedFault.noTag (drop size s) (p .size-is) (p .last-is) (counted p large here) laid no)

@@ -1,11 +1,11 @@
 -- A tagged record that is laid out is read.
 use Prim.Native.Nat.{ℕ, zero, suc, _+_, _-_, _*_, _/_, _≤_, _<_}
 use mathlib.Core.Path.{_≡_, refl, sym, ap, _∙_}
-use mathlib.Core.Bool.{true}
+use mathlib.Core.Bool.{true, false}
 use mathlib.Core.List.{List, [], _∷_, _++_, append-assoc}
 use native.Mathlib.Nat.{add-zero}
 use native.Mathlib.Omega.{arith}
-use lib.ListN.{length, length-append, List·getD-eq-default}
+use lib.ListN.{length, getD, length-append, List·getD-eq-default}
 use borrow.Author.Tests.{lt-ltb, le-ltb, le-leb, lt-leb}
 use Rattle.misc.specs.Parse.{parsed, many, part, mapped}
 use Rattle.misc.specs.Varlen.{varlenAt}
@@ -17,13 +17,13 @@ use Rattle.misc.proofs.Walk.{ahead, many-none, many-next}
 use Rattle.misc.proofs.Places.{From, from-start, from-size, from-room, from-next, from-part, from-first}
 use Rattle.misc.proofs.FormsRead.{form-some, form-reads}
 use Rattle.packets.specs.Tag.{isTag}
-use Rattle.gtid_event.specs.declared.GtidEvent.{GtidEvent}
+use Rattle.gtid_event_read.specs.Seen.{Seen}
 use Rattle.gtid_event_read.specs.declared.Fields.{Fields}
 use Rattle.gtid_event_read.specs.Fields.{unknown, fieldTable, kindOf, noFields, withUuid, limitedAt, uuidAt, tagAt, valueAt, fieldAt, fieldsFrom, fieldsOf}
 use Rattle.gtid_event_read.specs.Tagged.{tagged}
 use Rattle.gtid_event_read.proofs.TaggedLaws.{tagged-here}
-use Rattle.promises.specs.TaggedLayout.{Sent, Items, Value, FieldsLaid, hasTag, said, TaggedLaid}
-use Rattle.promises.proofs.TaggedSaid.{keptIn, keptAll, record-said, tag-there}
+use Rattle.promises.specs.TaggedLayout.{Sent, Items, Value, FieldsLaid, sends, seenIn, TaggedLaid}
+use Rattle.promises.proofs.TaggedSaid.{keptIn, keptAll, sent-at, seen-said}
 
 module _ (s : List ℕ) where
   -- what stands behind two parts, one after the other
@@ -131,8 +131,8 @@ module _ (s : List ℕ) where
 
 -- ---- the record
 
-pub tagged-reads : (s : List ℕ) (e : GtidEvent) (used : ℕ) → TaggedLaid s e used → tagged s ≡ parsed e used
-tagged-reads s e used laid =
+pub tagged-reads : (s : List ℕ) (x : Seen) (used : ℕ) → TaggedLaid s x used → tagged s ≡ parsed x used
+tagged-reads s x used laid =
     let size = laid .size in
     let last = laid .last in
     let a = laid .size-bytes in
@@ -143,8 +143,8 @@ tagged-reads s e used laid =
     (laid .counts ∙ simp length-append (omega arith)) (laid .fields-are) (laid .tagged) ∙ rw (laid .is, laid .uses)
   where
     go : (size last : ℕ) (a b c d : List ℕ) (told : List Sent) → s ≡ (2 ∷ []) ++ (a ++ (b ++ (c ++ d))) → Form size a → Form last b
-        → size ≡ 1 + length a + length b + length c → FieldsLaid last told c → hasTag told ≡ true
-        → tagged s ≡ parsed (said told) size
+        → size ≡ 1 + length a + length b + length c → FieldsLaid last told c → sends 3 told ≡ true
+        → tagged s ≡ parsed (seenIn told) size
     go size last a b c d told whole size-is last-is counts fields-are there =
         let zeroth : From s 0 ((2 ∷ []) ++ (a ++ (b ++ (c ++ d)))) = record { is = whole; inside = omega arith } in
         let (two, some) = from-first s 0 2 (a ++ (b ++ (c ++ d))) zeroth in
@@ -156,5 +156,7 @@ tagged-reads s e used laid =
         let room : start + length c ≤ length s = from-room s start c d third in
         let read : fieldsOf last c ≡ parsed (keptAll noFields told) (length c) =
         fields-read c last told c fields-are (length c) noFields 0 (omega arith) (from-start c) in
+        let has-tag : getD (keptAll noFields told .present) 3 false ≡ true = sent-at told 3 (omega arith) ∙ there in
         tagged-here s some two (form-reads s 1 size a (b ++ (c ++ d)) size-is first) (form-reads s (1 + length a) last b (c ++ d) last-is second)
-        ∙ rw (le-leb start size (omega arith), le-leb size (length s) (omega arith), these, read, tag-there fields-are, there, record-said told)
+        ∙ rw (le-leb start size (omega arith), le-leb size (length s) (omega arith), these, read, has-tag)
+        (ap (λ (x : Seen). parsed x size) (seen-said told))

@@ -27,7 +27,7 @@ use Rattle.promises.proofs.Stops.{Reached, AtValue}
 use Rattle.promises.specs.TaggedLayout.{Items}
 use Rattle.promises.specs.Faults.{CutForm, FieldsFront, ValueFault, FieldFault, TaggedFault}
 use Rattle.promises.proofs.Forces.{Refuses, is-refused, same-refused, many-stops}
-use Rattle.promises.proofs.TaggedSaid.{keptIn, keptAll, tag-there}
+use Rattle.promises.proofs.TaggedSaid.{keptIn, keptAll, sent-at}
 use Rattle.promises.proofs.TaggedReads.{items-read, value-reads, valued, fields-read}
 
 -- ---- a field that is refused, behind those that were read
@@ -228,4 +228,4 @@ tagged-refused s n (TaggedFault.noTag {size = size} {last = last} {a = a} {b = b
     let room = from-room s start fields rest (r .behind) in
     let read : fieldsOf last fields ≡ parsed (keptAll noFields told) (length fields) =
     fields-read fields last told fields laid (length fields) noFields 0 (omega arith) (from-start fields) in
-    is-refused noTag (payload s r ∙ rw (le-leb start size (omega arith), le-leb size (length s) (omega arith), these, read, tag-there laid, none))
+    is-refused noTag (payload s r ∙ rw (le-leb start size (omega arith), le-leb size (length s) (omega arith), these, read, sent-at told 3 (omega arith), none))

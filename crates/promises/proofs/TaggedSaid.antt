@@ -1,12 +1,12 @@
--- What reading keeps of the fields that were sent is the record that they say.
-use Prim.Native.Nat.{ℕ, _<_}
+-- What reading keeps of the fields that were sent is the record that they say, and which they were.
+use Prim.Native.Nat.{ℕ, zero, suc, _<_}
 use mathlib.Core.Path.{_≡_, refl, sym, ap, _∙_}
 use mathlib.Core.Bool.{Bool, true, false, _||_}
 use mathlib.Core.List.{List, [], _∷_}
 use native.Mathlib.Omega.{arith}
 use lib.Dec.{eqb}
-use lib.ListN.{length, getD, set, length-set}
-use lib.Seq.{getD-set-same, getD-set-other}
+use lib.ListN.{length, getD, set, length-set, getD-replicate}
+use lib.Seq.{getD-set-same, getD-set-other, ext-getD}
 use borrow.Author.Tests.{eqb-true, eqb-false}
 use Rattle.misc.specs.Pick.{pick}
 use Rattle.packets.specs.Kept.{padded}
@@ -14,8 +14,8 @@ use Rattle.packets.proofs.Tests.{split}
 use Rattle.gtid_event.proofs.BuiltLaws.{same-event}
 use Rattle.gtid_event_read.specs.declared.Fields.{Fields}
 use Rattle.gtid_event_read.specs.Fields.{noFields, withNumber, withUuid, withTagBytes}
-use Rattle.gtid_event_read.specs.Tagged.{recordOf}
-use Rattle.promises.specs.TaggedLayout.{Sent, number, the-uuid, the-tag, Value, FieldsLaid, lastNumber, lastUuid, lastTag, hasTag, said}
+use Rattle.gtid_event_read.specs.Tagged.{recordOf, seenOf}
+use Rattle.promises.specs.TaggedLayout.{Sent, number, the-uuid, the-tag, sends, sentFields, lastNumber, lastUuid, lastTag, said, seenIn}
 
 -- ---- what is kept
 
@@ -78,7 +78,7 @@ tag-last (the-tag u ∷ told) f t a b = tag-last told (withTagBytes f u) u refl 
 
 -- ---- the record
 
-pub record-said : (told : List Sent) → recordOf (keptAll noFields told) ≡ said told
+record-said : (told : List Sent) → recordOf (keptAll noFields told) ≡ said told
 unfolding padded
 record-said told =
     let (tag, tag-length) = tag-last told noFields [] refl refl in
@@ -98,55 +98,58 @@ record-said told =
     (original-last told noFields 10 _ (omega arith) (omega arith) refl refl ∙ ap (lastNumber 10 told) (number-last told noFields 9 (omega arith)))
     (number-last told noFields 11 (omega arith))
 
--- ---- whether there was a tag
+-- ---- which fields were there
 
--- no number is sent as field 3
-abbrev Fine : Sent → Type 0
-Fine (number k v) = eqb k 3 ≡ false
-Fine (the-uuid us) = Unit {0}
-Fine (the-tag t) = Unit {0}
+either-way : (t p r : Bool) → pick t true p || r ≡ p || (t || r)
+either-way true true r = refl
+either-way true false r = refl
+either-way false p r = refl
 
-abbrev AllFine : List Sent → Type 0
-AllFine [] = Unit {0}
-AllFine (x ∷ told) = Fine x × AllFine told
+none-more : (b : Bool) → b ≡ b || false
+none-more true = refl
+none-more false = refl
 
-value-fine : {id : ℕ} {x : Sent} {bs : List ℕ} → Value id x bs → Fine x
-value-fine (Value.gtid-flags f l) = refl
-value-fine (Value.uuid f l) = tt
-value-fine (Value.gno f) = refl
-value-fine (Value.tag f l) = tt
-value-fine (Value.last-committed f) = refl
-value-fine (Value.sequence-number f) = refl
-value-fine (Value.immediate-commit-timestamp f) = refl
-value-fine (Value.original-commit-timestamp f) = refl
-value-fine (Value.transaction-length f) = refl
-value-fine (Value.immediate-server-version f l) = refl
-value-fine (Value.original-server-version f l) = refl
-value-fine (Value.commit-group-ticket f) = refl
+-- one more mark
+mark : (p : List Bool) (k id : ℕ) (r : Bool) → id < length p → getD (set p k true) id false || r ≡ getD p id false || (eqb k id || r)
+mark p k id r h = rw (set-at p k id true false h) (either-way (eqb k id) (getD p id false) r)
 
-fields-fine : {last : ℕ} {told : List Sent} {bs : List ℕ} → FieldsLaid last told bs → AllFine told
-fields-fine FieldsLaid.end = tt
-fields-fine (FieldsLaid.ignored rest form known over) = tt
-fields-fine (FieldsLaid.field form value rest) = (value-fine value, fields-fine rest)
+present-last : (told : List Sent) (f : Fields) (id : ℕ) → id < length (f .present)
+    → getD (keptAll f told .present) id false ≡ getD (f .present) id false || sends id told
+present-last [] f id h = none-more (getD (f .present) id false)
+present-last (number k v ∷ told) f id h = present-last told (withNumber k f v) id (rw length-set h) ∙ mark (f .present) k id (sends id told) h
+present-last (the-uuid us ∷ told) f id h = present-last told (withUuid f us) id (rw length-set h) ∙ mark (f .present) 1 id (sends id told) h
+present-last (the-tag t ∷ told) f id h = present-last told (withTagBytes f t) id (rw length-set h) ∙ mark (f .present) 3 id (sends id told) h
 
-tag-sent : (told : List Sent) → AllFine told → (f : Fields) → 3 < length (f .present)
-    → getD (keptAll f told .present) 3 false ≡ getD (f .present) 3 false || hasTag told
-tag-sent [] fine f h = or-false (getD (f .present) 3 false)
-  where
-    or-false : (b : Bool) → b ≡ b || false
-    or-false true = refl
-    or-false false = refl
-tag-sent (number k v ∷ told) (a, fine) f h =
-    tag-sent told fine (withNumber k f v) (rw length-set h) ∙ rw (set-at (f .present) k 3 true false h, a)
-tag-sent (the-uuid us ∷ told) (a, fine) f h =
-    tag-sent told fine (withUuid f us) (rw length-set h) ∙ rw (set-at (f .present) 1 3 true false h)
-tag-sent (the-tag t ∷ told) (a, fine) f h =
-    tag-sent told fine (withTagBytes f t) (rw length-set h) ∙ rw (set-at (f .present) 3 3 true false h) (or-true (getD (f .present) 3 false))
-  where
-    or-true : (b : Bool) → true || hasTag told ≡ b || true
-    or-true true = refl
-    or-true false = refl
+present-long : (told : List Sent) (f : Fields) → length (keptAll f told .present) ≡ length (f .present)
+present-long [] f = refl
+present-long (number k v ∷ told) f = present-long told (withNumber k f v) ∙ length-set (f .present) k true
+present-long (the-uuid us ∷ told) f = present-long told (withUuid f us) ∙ length-set (f .present) 1 true
+present-long (the-tag t ∷ told) f = present-long told (withTagBytes f t) ∙ length-set (f .present) 3 true
 
--- the fields have a tag just if a tag was sent
-pub tag-there : {last : ℕ} {told : List Sent} {bs : List ℕ} → FieldsLaid last told bs → getD (keptAll noFields told .present) 3 false ≡ hasTag told
-tag-there {told = told} laid = tag-sent told (fields-fine laid) noFields (omega arith)
+-- the field with an id is there just if it was sent
+pub sent-at : (told : List Sent) (id : ℕ) → id < 12 → getD (keptAll noFields told .present) id false ≡ sends id told
+sent-at told id h = present-last told noFields id h ∙ ap (λ (b : Bool). b || sends id told) (getD-replicate 12 id false false h)
+
+-- the id at a place of the list of twelve
+pub listed : (told : List Sent) (id : ℕ) → id < 12 → sends id told ≡ getD (sentFields told) id false
+listed told zero h = refl
+listed told (suc zero) h = refl
+listed told (suc (suc zero)) h = refl
+listed told (suc (suc (suc zero))) h = refl
+listed told (suc (suc (suc (suc zero)))) h = refl
+listed told (suc (suc (suc (suc (suc zero))))) h = refl
+listed told (suc (suc (suc (suc (suc (suc zero)))))) h = refl
+listed told (suc (suc (suc (suc (suc (suc (suc zero))))))) h = refl
+listed told (suc (suc (suc (suc (suc (suc (suc (suc zero)))))))) h = refl
+listed told (suc (suc (suc (suc (suc (suc (suc (suc (suc zero))))))))) h = refl
+listed told (suc (suc (suc (suc (suc (suc (suc (suc (suc (suc zero)))))))))) h = refl
+listed told (suc (suc (suc (suc (suc (suc (suc (suc (suc (suc (suc zero))))))))))) h = refl
+listed told (suc (suc (suc (suc (suc (suc (suc (suc (suc (suc (suc (suc n)))))))))))) h = absurd (omega arith)
+
+-- what is seen of the fields is what was sent
+pub seen-said : (told : List Sent) → seenOf (keptAll noFields told) ≡ seenIn told
+seen-said told =
+    let long : length (keptAll noFields told .present) ≡ 12 = present-long told noFields in
+    let present : keptAll noFields told .present ≡ sentFields told =
+    ext-getD false (keptAll noFields told .present) (sentFields told) long (λ id h. let few : id < 12 = omega arith in sent-at told id few ∙ listed told id few) in
+    rw (record-said told, present)

@@ -20,15 +20,15 @@ use Rattle.previous_gtids_event.specs.Layout.{HeaderLaid, EntryLaid, BodyLaid}
 use Rattle.previous_gtids_event.specs.Previous.{intervalAt, entryAt, previous}
 use Rattle.previous_gtids_event.specs.Answers.{previousRead, headerRead, entryRead, intervalRead}
 use Rattle.gtid_event.specs.declared.GtidEvent.{GtidEvent}
-use Rattle.gtid_event_read.specs.Read.{gtid, gtidRead}
+use Rattle.gtid_event_read.specs.Seen.{Seen, bitsOf}
+use Rattle.gtid_event_read.specs.Read.{seen, gtid, named, gtidRead}
 use Rattle.gtid_event_write.specs.Write.{eventOutput, lengthOf}
 use Rattle.gtid_sets.specs.Run.{names, anonymous}
 use Rattle.resume_set.specs.Answers.{eventOf}
 use Rattle.listing.specs.SetText.{newline}
-use Rattle.listing.specs.EventText.{anonymousWord, refusedText, idText, eventText}
+use Rattle.listing.specs.EventText.{anonymousWord, refusedText, recordText, eventText}
 use Rattle.promises.specs.Meaning.{RecordLaid}
-use Rattle.promises.specs.Faults.{EventFault}
-use Rattle.promises.specs.SetFaults.{keyOf, Names, TakeInFault}
+use Rattle.promises.specs.SetFaults.{keyOf, NamingFault, Names, TakeInFault}
 
 -- ---- integers: `item` stands at a place of the bytes
 
@@ -50,15 +50,17 @@ pub record IntegersTold : Type 0 where
 -- ---- records
 
 pub record EventsTold : Type 0 where
-  pub read : (type : ℕ) (body : List ℕ) (e : GtidEvent) (used : ℕ) → RecordLaid type body e used
-      → gtidRead (gtid type body) ≡ record { refusal = 0; used = used; event = e }
-  pub unread : (type : ℕ) (body : List ℕ) (e : GtidEvent) (used : ℕ) → RecordLaid type body e used
+  pub read : (type : ℕ) (body : List ℕ) (x : Seen) (used : ℕ) → RecordLaid type body x used
+      → gtidRead (seen type body) ≡ record { refusal = 0; used = used; event = x .event; present = bitsOf (x .present) }
+  -- where the event's id is asked for the same is read, unless it is refused
+  pub asked : (type : ℕ) (body : List ℕ) → ((n : ℕ) → NamingFault type body n → ⊥) → Bytes body → gtidRead (named type body) ≡ gtidRead (seen type body)
+  pub unread : (type : ℕ) (body : List ℕ) (x : Seen) (used : ℕ) → RecordLaid type body x used
       → unreadOf body (gtid type body) ≡ drop used body
   -- the length is that of the bytes written
   pub length-of : (e : GtidEvent) (bs : List ℕ) → eventOutput e ≡ bytes bs → lengthOf e ≡ record { refusal = 0; len = length bs }
   -- the id that an offer sees
   pub named : (type : ℕ) (body : List ℕ) (e : GtidEvent) → Names type body e → eventOf type body ≡ names (keyOf e) (e .gno)
-  pub unnamed : (body : List ℕ) (e : GtidEvent) (used : ℕ) → RecordLaid 34 body e used → eventOf 34 body ≡ anonymous
+  pub unnamed : (body : List ℕ) (x : Seen) (used : ℕ) → RecordLaid 34 body x used → eventOf 34 body ≡ anonymous
 
 -- ---- Previous-GTIDs
 
@@ -89,8 +91,8 @@ pub record BodiesTold : Type 0 where
 -- ---- the listing: beside a Previous-GTIDs event that is taken in, which `Told` has
 
 pub record ListingTold : Type 0 where
-  pub refused-event : (type : ℕ) (body : List ℕ) (n : ℕ) → (type ≡ 35 → ⊥) → EventFault type body n → eventText type body ≡ refusedText n
+  pub refused-event : (type : ℕ) (body : List ℕ) (n : ℕ) → (type ≡ 35 → ⊥) → NamingFault type body n → eventText type body ≡ refusedText n
   pub refused-body : (body : List ℕ) (n : ℕ) → Bytes body → TakeInFault body n → eventText 35 body ≡ refusedText n
-  pub named : (type : ℕ) (body : List ℕ) (e : GtidEvent) → Names type body e → eventText type body ≡ idText e
-  pub anonymous : (body : List ℕ) (e : GtidEvent) (used : ℕ) → RecordLaid 34 body e used
+  pub named : (type : ℕ) (body : List ℕ) (e : GtidEvent) → Bytes body → Names type body e → eventText type body ≡ recordText e
+  pub anonymous : (body : List ℕ) (x : Seen) (used : ℕ) → RecordLaid 34 body x used
       → eventText 34 body ≡ anonymousWord ++ (newline ∷ [])

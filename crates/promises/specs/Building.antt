@@ -1,9 +1,8 @@
 -- Building a record: each step changes its own part alone, and a new record has the server versions that a reader gives where none were sent.
 use Prim.Native.Nat.{ℕ, _^_, _<_}
 use mathlib.Core.Path.{_≡_}
-use mathlib.Core.Bool.{Bool, true, false, _||_}
+use mathlib.Core.Bool.{true, false}
 use mathlib.Core.List.{List, [], _∷_, _++_}
-use lib.Dec.{eqb}
 use lib.ListN.{length}
 use Rattle.misc.specs.Parse.{Bytes, parsed}
 use Rattle.misc.specs.Le.{leBytes}
@@ -13,21 +12,15 @@ use Rattle.gtid_event.specs.Event.{newUntagged, newTagged, withTag, setNumber, 
 use Rattle.gtid_event.specs.Parts.{Built}
 use Rattle.gtid_event.specs.declared.EventStep.{EventStep}
 use Rattle.gtid_event.specs.declared.GtidEvent.{GtidEvent}
+use Rattle.gtid_event_read.specs.Seen.{Seen}
 use Rattle.gtid_event_read.specs.Read.{gtid}
 use Rattle.gtid_event_write.specs.Write.{eventOutput}
 use Rattle.promises.specs.UntaggedLayout.{ShortLaid, LongLaid}
-use Rattle.promises.specs.TaggedLayout.{Sent, number, the-uuid, the-tag, TaggedLaid}
+use Rattle.promises.specs.TaggedLayout.{sends, TaggedLaid}
 
 -- the server versions of a record, immediate and original
 abbrev pub serverVersions : GtidEvent → List ℕ
 serverVersions e = e .«immediate_server_version» ∷ e .«original_server_version» ∷ []
-
--- whether a number was sent as the field with this id
-abbrev pub sends : ℕ → List Sent → Bool
-sends id [] = false
-sends id (number k v ∷ told) = eqb k id || sends id told
-sends id (the-uuid us ∷ told) = sends id told
-sends id (the-tag t ∷ told) = sends id told
 
 -- bytes that are laid out as this record, and so read as it, in which no server version was sent
 pub data Unversioned (s : List ℕ) (e : GtidEvent) (used : ℕ) : Type 0 where
@@ -36,7 +29,7 @@ pub data Unversioned (s : List ℕ) (e : GtidEvent) (used : ℕ) : Type 0 where
   -- nothing is left for the versions
   long : (laid : LongLaid s e used) → laid .versions ≡ [] → Unversioned s e used
   -- neither field is there
-  tagged : (laid : TaggedLaid s e used) → sends 9 (laid .told) ≡ false → sends 10 (laid .told) ≡ false → Unversioned s e used
+  tagged : {x : Seen} (laid : TaggedLaid s x used) → e ≡ x .event → sends 9 (laid .told) ≡ false → sends 10 (laid .told) ≡ false → Unversioned s e used
 
 -- of anything that makes a record of a uuid and a gno: it has the versions that a reader gives where none were sent
 abbrev pub NewVersions : (List ℕ → ℕ → GtidEvent) → Type 0

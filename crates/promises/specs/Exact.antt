@@ -23,7 +23,8 @@ use Rattle.previous_gtids_reader.specs.declared.Cursor.{Cursor}
 use Rattle.previous_gtids_reader.specs.Steps.{startOf, stepOf, stepAfter}
 use Rattle.gtid_event.specs.Event.{withTag, newTagged}
 use Rattle.gtid_event.specs.declared.GtidEvent.{GtidEvent}
-use Rattle.gtid_event_read.specs.Read.{gtid, gtidRead}
+use Rattle.gtid_event_read.specs.Seen.{Seen}
+use Rattle.gtid_event_read.specs.Read.{seen, gtid, named, gtidRead}
 use Rattle.gtid_event_write.specs.Writable.{writable}
 use Rattle.gtid_event_write.specs.Write.{eventBytes, eventOutput, lengthOf}
 use Rattle.gtid_sets.specs.Lent.{lentSet, SetLaid}
@@ -39,7 +40,7 @@ use Rattle.promises.specs.Meaning.{RecordLaid}
 use Rattle.promises.specs.Faults.{EventFault}
 use Rattle.promises.specs.BodyFaults.{EntryFault, BodyFault}
 use Rattle.promises.specs.PlainFaults.{FixedFault, VarlenFault, NaturalFault, LenencFault, OfBody, HeadedFault, NumberFault, TagFault, RecordFault, ShortFault, WriteFault}
-use Rattle.promises.specs.SetFaults.{SetFault, RewrittenAs, TakeInFault, TakenInAs, OfferAnswer}
+use Rattle.promises.specs.SetFaults.{SetFault, NamingFault, RewrittenAs, TakeInFault, TakenInAs, OfferAnswer}
 
 -- either holds just if the other does
 abbrev pub Exactly : Type 0 → Type 0 → Type 0
@@ -77,7 +78,8 @@ pub record IntegersExact : Type 0 where
 pub record EventsExact : Type 0 where
   pub «with_tag» : (tag : List ℕ) (e : GtidEvent) → RefusesExactly (withTag tag e .refusal) (TagFault tag)
   pub «new_tagged» : (sid tag : List ℕ) (gno : ℕ) → RefusesExactly (newTagged sid tag gno .refusal) (TagFault tag)
-  pub read : (type : ℕ) (body : List ℕ) → Bytes body → RefusesExactly (gtidRead (gtid type body) .refusal) (EventFault type body)
+  pub read : (type : ℕ) (body : List ℕ) → Bytes body → RefusesExactly (gtidRead (seen type body) .refusal) (EventFault type body)
+  pub «read_named» : (type : ℕ) (body : List ℕ) → Bytes body → RefusesExactly (gtidRead (named type body) .refusal) (NamingFault type body)
   pub write : (e : GtidEvent) (out : List ℕ)
       → WritesExactly (answerOf out (eventOutput e)) (WriteFault (RecordFault e) (λ bs. (writable e ≡ true) × (bs ≡ eventBytes e)) (length out))
   pub length : (e : GtidEvent) → RefusesExactly (lengthOf e .refusal) (RecordFault e)
@@ -166,10 +168,11 @@ pub record ArchiveExact : Type 0 where
   pub «gtid_offer» : (set : List ℕ) (type : ℕ) (body out : List ℕ) (a : Offered) (l : List ℕ) → Bytes body
       → Exactly ((numbersOf (offerAnswers set type body out) ≡ numbersOf a)
       × (offerLeaves set type body out ≡ l)) (OfferAnswer set type body out a l)
-  -- what it answers for 13 in the place of the bytes used is the length that is needed
+  -- what it answers for 13 in the place of the bytes used is the length that is needed. `gtid_read_present` promises the same and tells the fields
+  -- (`Presence`)
   pub «gtid_read» : (type : ℕ) (body out : List ℕ) → Bytes body
       → WritesExactly (record { refusal = answerOf out (readOutput (gtid type body)) .refusal; len = readUsed (gtid type body) (length out) })
-      (WriteFault (EventFault type body) (λ bs. (e : GtidEvent) × (used : ℕ) × RecordLaid type body e used × (bs ≡ flat e)) (length out))
+      (WriteFault (EventFault type body) (λ bs. (x : Seen) × (used : ℕ) × RecordLaid type body x used × (bs ≡ flat (x .event))) (length out))
   pub «gtid_write» : (fields out : List ℕ)
       → WritesExactly (answerOf out (writeOutput fields))
       (WriteFault (FlatFault fields) (λ bs. (length fields ≡ 116) × (writable (flatRead fields) ≡ true) × (bs ≡ eventBytes (flatRead fields))) (length out))

@@ -8,7 +8,7 @@ use lib.ListN.{length}
 use Rattle.misc.specs.Body.{bodyLimit}
 use Rattle.misc.specs.Forms.{Number, Ones, Form}
 use Rattle.packets.specs.Tag.{isTag}
-use Rattle.promises.specs.TaggedLayout.{Sent, Items, Value, FieldsLaid, hasTag}
+use Rattle.promises.specs.TaggedLayout.{Sent, Items, Value, FieldsLaid, sends}
 use Rattle.promises.specs.UntaggedLayout.{PairIfLeft, LengthIfLeft}
 
 -- ---- integers that the bytes end inside
@@ -70,7 +70,7 @@ pub data TaggedFault : List ℕ → ℕ → Type 0 where
       → TaggedFault (2 ∷ (a ++ (b ++ (fields ++ rest)))) n
   -- 7: the fields end without a tag
   noTag : {size last : ℕ} {a b fields : List ℕ} {told : List Sent} (rest : List ℕ) → Form size a → Form last b → size ≡ length (2 ∷ (a ++ (b ++ fields)))
-      → FieldsLaid last told fields → hasTag told ≡ false → TaggedFault (2 ∷ (a ++ (b ++ (fields ++ rest)))) 7
+      → FieldsLaid last told fields → sends 3 told ≡ false → TaggedFault (2 ∷ (a ++ (b ++ (fields ++ rest)))) 7
 
 -- ---- an untagged event: `front` is flags, uuid and gno; `clock` is last_committed and sequence_number
 

@@ -19,7 +19,7 @@ use Rattle.gtid_event.specs.Fits.{Fits}
 use Rattle.gtid_sets.specs.Lent.{SetLaid}
 use Rattle.resume_set.specs.Answers.{takeInAnswers, offerAnswers}
 use Rattle.resume_set.specs.declared.Offered.the-variants.{Refused}
-use Rattle.listing.specs.EventText.{refusedText, idText, eventText}
+use Rattle.listing.specs.EventText.{refusedText, recordText, eventText}
 use Rattle.resume_set_laws.specs.History.{Turn, keptAll, member}
 use Rattle.resume_set_laws.specs.Ours.{ours}
 use Rattle.promises.specs.SetFaults.{SetFault, BodyIs, Names}
@@ -39,7 +39,7 @@ pub record CarriedOnly (e : GtidEvent) : Type 0 where
   pub body : List ℕ
   pub written : eventOutput e ≡ bytes body
   pub read : gtid (typeOf e) body ≡ parsed e (length body)
-  pub listed : eventText (typeOf e) body ≡ idText e
+  pub listed : eventText (typeOf e) body ≡ recordText e
   pub offered : (set : List ℕ) (s : List Entry) (out : List ℕ) → SetLaid set s → offerAnswers set (typeOf e) body out ≡ Refused 15 0
 
 pub record Highest : Type 0 where

@@ -23,8 +23,9 @@ use Rattle.previous_gtids_reader.specs.declared.Cursor.{Cursor}
 use Rattle.previous_gtids_reader.specs.Steps.{cursorOf, stepped, headedStep}
 use Rattle.gtid_event.specs.Event.{noEvent, withTag, newTagged}
 use Rattle.gtid_event.specs.declared.GtidEvent.{GtidEvent}
+use Rattle.gtid_event_read.specs.Seen.{Seen}
 use Rattle.gtid_event_read.specs.Tagged.{tagged}
-use Rattle.gtid_event_read.specs.Read.{gtid, gtidRead}
+use Rattle.gtid_event_read.specs.Read.{seen, gtid, gtidRead}
 use Rattle.gtid_event_write.specs.Writable.{writable}
 use Rattle.gtid_event_write.specs.Write.{eventOutput, lengthOf}
 use Rattle.gtid_sets.specs.Set.{has, add}
@@ -36,13 +37,14 @@ use Rattle.resume_set.specs.Answers.{setRead, contained, saved, takenIn, eventO
 use Rattle.resume_set.specs.declared.Offered.the-variants.{Refused}
 use Rattle.abi.specs.Flat.{flat}
 use Rattle.promises.specs.Faults.{EventFault}
-use Rattle.promises.specs.SetFaults.{SetFault, BodyIs, keyOf, Names}
+use Rattle.promises.specs.Meaning.{RecordLaid}
+use Rattle.promises.specs.SetFaults.{SetFault, BodyIs, keyOf, sentUuid, sentGno, NamingFault, Names}
 
 -- ---- which of several faults counts
 
 -- a body over 65,536 bytes: 11 before all others, but 14 where it is lent as a set
 pub record LongFirst (s : List ℕ) : Type 0 where
-  pub event : (type : ℕ) → gtid type s ≡ refuse tooLong
+  pub event : (type : ℕ) → seen type s ≡ refuse tooLong
   pub body : previous s ≡ refuse tooLong
   pub header : ofBody s (leAt 8 s 0) ≡ refuse tooLong
   pub entry : (tagged : Bool) (at : ℕ) → ofBody s (entryAt tagged s at) ≡ refuse tooLong
@@ -68,6 +70,11 @@ pub record Orders : Type 0 where
   -- then the event's own refusals, whatever the output
   pub event-next : (set : List ℕ) (s : List Entry) (type : ℕ) (body : List ℕ) (n room : ℕ) → SetLaid set s → EventFault type body n
       → offered (lentSet set) (eventOf type body) room ≡ Refused n 0
+  -- then 21, of a tagged event that is in order: whatever gno its record shows, and whatever the output
+  pub id-next : (set : List ℕ) (s : List Entry) (body : List ℕ) (x : Seen) (used room : ℕ) → SetLaid set s → RecordLaid 42 body x used
+      → (sentUuid x ≡ false) ⊎ (sentGno x ≡ false) → offered (lentSet set) (eventOf 42 body) room ≡ Refused 21 0
+  -- and never of another
+  pub tagged-alone : (type : ℕ) (body : List ℕ) → NamingFault type body 21 → type ≡ 42
   -- then 15, whatever the set holds and whatever the output: "already there", 17 and 16 are judged after it
   pub gno-next : (set : List ℕ) (s : List Entry) (type : ℕ) (body : List ℕ) (e : GtidEvent) (room : ℕ) → Bytes body → SetLaid set s → Names type body e
       → (e .gno ≡ 0) ⊎ (gnoTop ≤ e .gno) → offered (lentSet set) (eventOf type body) room ≡ Refused 15 0
@@ -84,7 +91,7 @@ pub record Zeros (r : Refusal) : Type 0 where
   -- calls that read
   pub uint : uintRead (refuse r) ≡ record { refusal = number r; value = 0; next = 0 }
   pub int : intRead (refuse r) ≡ record { refusal = number r; value = pos 0; next = 0 }
-  pub event : gtidRead (refuse r) ≡ record { refusal = number r; used = 0; event = noEvent }
+  pub event : gtidRead (refuse r) ≡ record { refusal = number r; used = 0; event = noEvent; present = 0 }
   pub previous-gtids : previousRead (refuse r) ≡ record { refusal = number r; used = 0; entries = 0 }
   pub header : headerRead (refuse r) ≡ record { refusal = number r; tagged = false; entries = 0 }
   pub entry :

@@ -2,9 +2,9 @@
 -- named here.
 use Prim.Native.Nat.{ℕ, _≤_}
 use mathlib.Core.Path.{_≡_}
-use mathlib.Core.Bool.{true, false}
+use mathlib.Core.Bool.{Bool, true, false}
 use mathlib.Core.List.{List, _++_}
-use lib.ListN.{length, take, drop}
+use lib.ListN.{length, getD, take, drop}
 use Rattle.misc.specs.Refusal.{full}
 use Rattle.misc.specs.Body.{bodyLimit}
 use Rattle.packets.specs.Gno.{isGno}
@@ -13,6 +13,7 @@ use Rattle.previous_gtids_event.specs.Entry.{Entry}
 use Rattle.previous_gtids_event.specs.Rewrite.{bodyBytes}
 use Rattle.previous_gtids_event.specs.Layout.{BodyLaid}
 use Rattle.gtid_event.specs.declared.GtidEvent.{GtidEvent}
+use Rattle.gtid_event_read.specs.Seen.{Seen}
 use Rattle.gtid_sets.specs.Set.{has, add}
 use Rattle.gtid_sets.specs.TakeIn.{lawful, takeIn}
 use Rattle.gtid_sets.specs.Limits.{fine, breaks, limits, EntryOver}
@@ -60,16 +61,33 @@ pub data TakenInAs (body : List ℕ) : List ℕ → Type 0 where
 abbrev pub keyOf : GtidEvent → Key
 keyOf e = e .sid ++ take (e .«tag_len») (e .tag)
 
--- an event that names an id: any but one of type 34
+-- whether the uuid, field 1, and the gno, field 2, are among the fields that were there
+abbrev pub sentUuid : Seen → Bool
+sentUuid x = getD (x .present) 1 false
+
+abbrev pub sentGno : Seen → Bool
+sentGno x = getD (x .present) 2 false
+
+-- what is wrong with an event whose id is asked for, by an offer or a listing
+pub data NamingFault (type : ℕ) (body : List ℕ) : ℕ → Type 0 where
+  -- 1 to 11: a fault of the event itself
+  own : {n : ℕ} → EventFault type body n → NamingFault type body n
+  -- 21: it is tagged and in order, but was sent without its uuid, or without its gno (CR 6)
+  noUuid : {x : Seen} {used : ℕ} → RecordLaid type body x used → type ≡ 42 → sentUuid x ≡ false → NamingFault type body 21
+  noGno : {x : Seen} {used : ℕ} → RecordLaid type body x used → type ≡ 42 → sentGno x ≡ false → NamingFault type body 21
+
+-- an event that names an id: any but one of type 34, a tagged one if it was sent with its uuid and its gno
 pub record Names (type : ℕ) (body : List ℕ) (e : GtidEvent) : Type 0 where
+  pub present : List Bool
   pub used : ℕ
-  pub laid : RecordLaid type body e used
+  pub laid : RecordLaid type body (record { event = e; present = present }) used
   pub named : type ≡ 34 → ⊥
+  pub sent : type ≡ 42 → (getD present 1 false ≡ true) × (getD present 2 false ≡ true)
 
 -- an event that the set s doesn't refuse: the answer, and the set after it
 pub data Accepts (s : List Entry) (type : ℕ) (body : List ℕ) : (ℕ → Offered) → List Entry → Type 0 where
   -- type 34, which the gno rule doesn't judge: "no id"
-  noId : {e : GtidEvent} {used : ℕ} → RecordLaid type body e used → type ≡ 34 → Accepts s type body NoId s
+  noId : {x : Seen} {used : ℕ} → RecordLaid type body x used → type ≡ 34 → Accepts s type body NoId s
   -- its id is a member: "already there"
   already : {e : GtidEvent} → Names type body e → isGno (e .gno) ≡ true → has s (keyOf e) (e .gno) ≡ true → Accepts s type body AlreadyThere s
   -- it is none, and the set with it is within the limits: "taken"
@@ -80,8 +98,8 @@ pub data Accepts (s : List Entry) (type : ℕ) (body : List ℕ) : (ℕ → Offe
 pub data OfferFault (set : List ℕ) (type : ℕ) (body : List ℕ) (room : ℕ) : ℕ → ℕ → Type 0 where
   -- 14: the lent bytes are no set
   badSet : {n : ℕ} → SetFault set n → OfferFault set type body room n 0
-  -- 1 to 11: a fault of the event
-  badEvent : {s : List Entry} {n : ℕ} → SetLaid set s → EventFault type body n → OfferFault set type body room n 0
+  -- 1 to 11: a fault of the event; 21: it was sent without its id
+  badEvent : {s : List Entry} {n : ℕ} → SetLaid set s → NamingFault type body n → OfferFault set type body room n 0
   -- 15: the event's gno breaks the gno rule, whatever the set holds
   gnoRule : {s : List Entry} {e : GtidEvent} → SetLaid set s → Names type body e → isGno (e .gno) ≡ false → OfferFault set type body room 15 0
   -- 17: with the event's id, which the set has not, an entry has more than 1,024 intervals

@@ -1,8 +1,8 @@
 -- Demand 2, the layout of a tagged record (type 42): which bytes are which record. No parser is named here.
 use Prim.Native.Nat.{ℕ, _-_, _*_, _^_, _≤_, _<_}
 use mathlib.Core.Path.{_≡_}
-use mathlib.Core.Bool.{Bool, true, false}
-use mathlib.Core.List.{List, [], _∷_, _++_}
+use mathlib.Core.Bool.{Bool, true, false, _||_}
+use mathlib.Core.List.{List, [], _∷_, _++_, map}
 use lib.Dec.{eqb}
 use lib.ListN.{length, replicate}
 use Rattle.misc.specs.Pick.{pick}
@@ -10,6 +10,7 @@ use Rattle.misc.specs.Forms.{Form}
 use Rattle.packets.specs.Kept.{padded}
 use Rattle.packets.specs.Tag.{isTag}
 use Rattle.gtid_event.specs.declared.GtidEvent.{GtidEvent}
+use Rattle.gtid_event_read.specs.Seen.{Seen}
 
 -- ---- fields
 
@@ -46,6 +47,23 @@ pub data FieldsLaid (last : ℕ) : List Sent → List ℕ → Type 0 where
   field : {id : ℕ} {x : Sent} {told : List Sent} {bs value rest : List ℕ} → Form id bs → Value id x value → FieldsLaid last told rest
       → FieldsLaid last (x ∷ told) (bs ++ value ++ rest)
 
+-- ---- which were there
+
+-- the id of the field that says this
+abbrev pub idOf : Sent → ℕ
+idOf (number id v) = id
+idOf (the-uuid us) = 1
+idOf (the-tag t) = 3
+
+-- whether a field with this id is among them
+abbrev pub sends : ℕ → List Sent → Bool
+sends id [] = false
+sends id (x ∷ told) = eqb (idOf x) id || sends id told
+
+-- each of the twelve
+abbrev pub sentFields : List Sent → List Bool
+sentFields told = map (λ id. sends id told) (0 ∷ 1 ∷ 2 ∷ 3 ∷ 4 ∷ 5 ∷ 6 ∷ 7 ∷ 8 ∷ 9 ∷ 10 ∷ 11 ∷ [])
+
 -- ---- what they say: the last field of an id counts; where there is none, what stands for an absent one
 
 abbrev pub lastNumber : ℕ → List Sent → ℕ → ℕ
@@ -65,12 +83,6 @@ lastTag [] absent = absent
 lastTag (number k v ∷ told) absent = lastTag told absent
 lastTag (the-uuid us ∷ told) absent = lastTag told absent
 lastTag (the-tag t ∷ told) absent = lastTag told t
-
-abbrev pub hasTag : List Sent → Bool
-hasTag [] = false
-hasTag (number k v ∷ told) = hasTag told
-hasTag (the-uuid us ∷ told) = hasTag told
-hasTag (the-tag t ∷ told) = true
 
 -- the record: absent originals equal the immediates, absent versions are 999,999, absent others 0; no typecode
 abbrev pub said : List Sent → GtidEvent
@@ -92,9 +104,12 @@ said told =
       «commit_group_ticket» = lastNumber 11 told 0;
     }
 
+abbrev pub seenIn : List Sent → Seen
+seenIn told = record { event = said told; present = sentFields told }
+
 -- ---- the record's bytes: version byte 2, the size, which counts them all, the last non-ignorable id, the fields, among them a tag; and what is
 -- behind them, unread
-pub record TaggedLaid (s : List ℕ) (e : GtidEvent) (used : ℕ) : Type 0 where
+pub record TaggedLaid (s : List ℕ) (x : Seen) (used : ℕ) : Type 0 where
   pub size : ℕ
   pub last : ℕ
   pub size-bytes : List ℕ
@@ -107,6 +122,6 @@ pub record TaggedLaid (s : List ℕ) (e : GtidEvent) (used : ℕ) : Type 0 where
   pub counts : size ≡ length ((2 ∷ []) ++ size-bytes ++ last-bytes ++ fields)
   pub told : List Sent
   pub fields-are : FieldsLaid last told fields
-  pub tagged : hasTag told ≡ true
-  pub is : e ≡ said told
+  pub tagged : sends 3 told ≡ true
+  pub is : x ≡ seenIn told
   pub uses : used ≡ size

@@ -2,11 +2,11 @@
 use Prim.Native.Nat.{ℕ, _+_}
 use mathlib.Core.Bool.{Bool, false, _&&_}
 use mathlib.Core.List.{List, [], _∷_, _++_}
-use lib.ListN.{length, replicate}
+use lib.ListN.{length, set, replicate}
 use lib.Dec.{eqb, ltb}
 use Rattle.misc.specs.Pick.{pick}
 use Rattle.misc.specs.Refusal.{ended, notWritable}
-use Rattle.misc.specs.Parse.{Parse, refuse, parsed}
+use Rattle.misc.specs.Parse.{Parse, refuse, parsed, mapped}
 use Rattle.misc.specs.Output.{refused, bytes, outputOf}
 use Rattle.misc.specs.Varlen.{itemOf, varlenBytes}
 use Rattle.packets.specs.Gno.{gnoTop, interval}
@@ -16,7 +16,8 @@ use Rattle.previous_gtids_event.specs.Rewrite.{bodyBytes}
 use Rattle.gtid_event.specs.declared.EventStep.{EventStep}
 use Rattle.gtid_event.specs.declared.GtidEvent.{GtidEvent}
 use Rattle.gtid_event.specs.Event.{undefinedVersion, fresh, newUntagged, tagged, setNumber, withTag}
-use Rattle.gtid_event_read.specs.Read.{gtid}
+use Rattle.gtid_event_read.specs.Seen.{Seen, untaggedSeen}
+use Rattle.gtid_event_read.specs.Read.{seen}
 use Rattle.gtid_event_write.specs.Writable.{writable}
 use Rattle.gtid_event_write.specs.Layout.{fieldBytes}
 use Rattle.gtid_event_write.specs.Write.{eventOutput}
@@ -27,7 +28,7 @@ use Rattle.resume_set.specs.declared.Offered.the-variants.{NoId, AlreadyThere, 
 use Rattle.resume_set_laws.specs.History.{Offering}
 use Rattle.resume_set_laws.specs.Ours.{ours}
 use Rattle.packets.specs.Key.{same}
-use Rattle.promises.specs.TaggedLayout.{the-tag, said}
+use Rattle.promises.specs.TaggedLayout.{the-tag, seenIn}
 use Rattle.promises.specs.Meaning.{EventReader, EventWriter, EntriesReader}
 use Rattle.promises.specs.Exact.{Asking, asks}
 
@@ -37,23 +38,22 @@ refusesAll type body = refuse ended
 
 -- reads one record out of anything
 abbrev pub constantRecord : EventReader
-constantRecord type body = parsed (newUntagged (replicate 16 0) 1) (length body)
+constantRecord type body = parsed (untaggedSeen (newUntagged (replicate 16 0) 1)) (length body)
 
 -- tells one byte used more
-abbrev pub countedUp : Parse GtidEvent → Parse GtidEvent
+abbrev pub countedUp : Parse Seen → Parse Seen
 countedUp (refuse r) = refuse r
-countedUp (parsed e used) = parsed e (used + 1)
+countedUp (parsed x used) = parsed x (used + 1)
 
 abbrev pub madeUpCount : EventReader
-madeUpCount type body = countedUp (gtid type body)
+madeUpCount type body = countedUp (seen type body)
 
 -- takes last_committed for sequence_number, and the reverse
-abbrev pub swappedClock : Parse GtidEvent → Parse GtidEvent
-swappedClock (refuse r) = refuse r
-swappedClock (parsed e used) = parsed (setNumber 4 (e .«sequence_number») (setNumber 5 (e .«last_committed») e)) used
+abbrev pub swappedClock : GtidEvent → GtidEvent
+swappedClock e = setNumber 4 (e .«sequence_number») (setNumber 5 (e .«last_committed») e)
 
 abbrev pub swapsClock : EventReader
-swapsClock type body = swappedClock (gtid type body)
+swapsClock type body = mapped (λ x. record { event = swappedClock (x .event); present = x .present }) (seen type body)
 
 -- version 2, size 7, last non-ignorable id 12, tag "a", id 12
 abbrev pub equalId : List ℕ
@@ -61,7 +61,14 @@ equalId = 2 ∷ 14 ∷ 24 ∷ 6 ∷ 2 ∷ 97 ∷ 24 ∷ []
 
 -- ignores an unknown id that equals the last non-ignorable one, at least there
 abbrev pub ignoresEqual : EventReader
-ignoresEqual type body = pick (same body equalId) (parsed (said (the-tag (97 ∷ []) ∷ [])) 7) (gtid type body)
+ignoresEqual type body = pick (same body equalId) (parsed (seenIn (the-tag (97 ∷ []) ∷ [])) 7) (seen type body)
+
+-- tells that a field was sent by its value: here a gno that isn't 0
+abbrev pub presentUnlessZero : Seen → Seen
+presentUnlessZero x = record { event = x .event; present = set (x .present) 2 (ltb 0 (x .event .gno)) }
+
+abbrev pub tellsByValue : EventReader
+tellsByValue type body = mapped presentUnlessZero (seen type body)
 
 -- refuses every Previous-GTIDs body
 abbrev pub refusesBodies : EntriesReader
@@ -133,15 +140,41 @@ topAlone = bodyBytes (entry (replicate 16 0) (interval gnoTop (gnoTop + 1) ∷ [
 abbrev pub takesTop : Offering
 takesTop = onlyFor gnoTop (record { answers = λ set t. Taken (length topAlone); leaves = λ set t. outputOf (t .out) (bytes topAlone) })
 
--- says 16 where 17 is due
-abbrev pub asFull : Offered → Offered
-asFull (NoId len) = NoId len
-asFull (AlreadyThere len) = AlreadyThere len
-asFull (Taken len) = Taken len
-asFull (Refused n len) = Refused (pick (eqb n 17) 16 n) len
+-- says one number where another is due
+abbrev pub renumbered : ℕ → ℕ → Offered → Offered
+renumbered due instead (NoId len) = NoId len
+renumbered due instead (AlreadyThere len) = AlreadyThere len
+renumbered due instead (Taken len) = Taken len
+renumbered due instead (Refused n len) = Refused (pick (eqb n due) instead n) len
 
+abbrev pub saysInstead : ℕ → ℕ → Offering
+saysInstead due instead = record { answers = λ set t. renumbered due instead (ours .answers set t); leaves = ours .leaves }
+
+-- 16 before 17
 abbrev pub saysFull : Offering
-saysFull = record { answers = λ set t. asFull (ours .answers set t); leaves = ours .leaves }
+saysFull = saysInstead 17 16
+
+-- 15 before 21: the gno that a record shows for an absent one breaks the gno rule
+abbrev pub judgesAbsentGno : Offering
+judgesAbsentGno = saysInstead 21 15
+
+-- 21 for a gno that was sent as 0, also by an untagged event
+abbrev pub takesZeroForAbsent : Offering
+takesZeroForAbsent = saysInstead 15 21
+
+-- 21 before 7
+abbrev pub asksIdBeforeTag : Offering
+asksIdBeforeTag = saysInstead 7 21
+
+-- version 2, the size, last non-ignorable id 0, and: the tag "a"; the zero uuid, the gno 0 and the tag; nothing
+abbrev pub tagAlone : List ℕ
+tagAlone = 2 ∷ 12 ∷ 0 ∷ 6 ∷ 2 ∷ 97 ∷ []
+
+abbrev pub zeroGno : List ℕ
+zeroGno = (2 ∷ 50 ∷ 0 ∷ 2 ∷ []) ++ replicate 16 0 ++ (4 ∷ 0 ∷ 6 ∷ 2 ∷ 97 ∷ [])
+
+abbrev pub noFields : List ℕ
+noFields = 2 ∷ 6 ∷ 0 ∷ []
 
 -- says "taken" where 17 is due
 abbrev pub asTaken : ℕ → Offered → Offered

@@ -23,8 +23,11 @@ use Rattle.previous_gtids_event.specs.Entry.{Entry}
 use Rattle.previous_gtids_event.specs.Previous.{noneOrTag}
 use Rattle.previous_gtids_event.specs.Rewrite.{bodyBytes}
 use Rattle.gtid_event.specs.declared.GtidEvent.{GtidEvent}
-use Rattle.gtid_event_read.specs.Read.{gtid, gtidRead}
+use Rattle.gtid_event_read.specs.Seen.{Seen}
+use Rattle.gtid_event_read.specs.Read.{recordIn, gtid, named, gtidRead}
 use Rattle.gtid_event_read.specs.declared.GtidRead.{GtidRead}
+use Rattle.gtid_event_read.proofs.Telling.{refused-by, gtid-told}
+use Rattle.gtid_event_read.proofs.PresentLaws.{named-record}
 use Rattle.gtid_event_read.proofs.Ranges.{UntaggedRange, TaggedRange, gtid-range}
 use Rattle.gtid_sets.specs.Set.{has, join, add}
 use Rattle.gtid_sets.specs.Limits.{Judged, fine, breaks, limits, intervals, over, crowds}
@@ -218,58 +221,55 @@ module _ (s : List Entry) (k : Key) (n : ℕ) (out : List ℕ) where
 
 -- ---- an event
 
-broken-offer : (bs out : List ℕ) (type : ℕ) (body : List ℕ) (r : ℕ) (x : Refusal) → lentSet bs ≡ form (setOf bs) → gtid type body ≡ refuse x → r ≡ number x
+broken-offer : (bs out : List ℕ) (type : ℕ) (body : List ℕ) (r : ℕ) (x : Refusal) → lentSet bs ≡ form (setOf bs) → recordIn (named type body) ≡ refuse x → r ≡ number x
     → (Refused r 0 ≡ offered (lentSet bs) (eventOf type body) (length out)) × (out ≡ outputOf out (output (lentSet bs) (eventOf type body)))
 unfolding eventOf outputOf
 broken-offer bs out type body r x l e n = rw (l, e, n) (refl, refl)
 
-module _ (type : ℕ) (body : List ℕ) (said : GtidRead) (is : said ≡ gtidRead (gtid type body)) where
-  pub read-refused : (said .refusal ≡ 0 → ⊥) → (x : Refusal) × (gtid type body ≡ refuse x) × (said .refusal ≡ number x)
-  read-refused h = go (gtid type body) refl
-    where
-      go : (p : Parse GtidEvent) → gtid type body ≡ p → (x : Refusal) × (gtid type body ≡ refuse x) × (said .refusal ≡ number x)
-      go (refuse x) e = (x, e, ap (λ (y : GtidRead). y .refusal) (is ∙ ap gtidRead e))
-      go (parsed a next) e = absurd (h (ap (λ (y : GtidRead). y .refusal) (is ∙ ap gtidRead e)))
+-- the parts of a record's key
+abbrev pub KeyParts : GtidEvent → Type 0
+KeyParts e = (length (e .sid) ≡ 16) × (e .«tag_len» ≤ 32) × (length (e .tag) ≡ 32)
 
-  pub read-told : said .refusal ≡ 0 → gtid type body ≡ parsed (said .event) (said .used)
-  read-told h = go (gtid type body) refl
-    where
-      go : (p : Parse GtidEvent) → gtid type body ≡ p → gtid type body ≡ parsed (said .event) (said .used)
-      go (refuse x) e = absurd (no-zero x (sym (ap (λ (y : GtidRead). y .refusal) (is ∙ ap gtidRead e)) ∙ h))
-      go (parsed a next) e = e ∙ ap (λ (y : GtidRead). parsed (y .event) (y .used)) (sym (is ∙ ap gtidRead e))
+pub key-parts : (type : ℕ) (body : List ℕ) → Bytes body → {e : GtidEvent} {next : ℕ} → gtid type body ≡ parsed e next → KeyParts e
+unfolding padded
+key-parts type body ok {e} read = go (gtid-range type body ok read)
+  where
+    go : UntaggedRange e ⊎ TaggedRange e → KeyParts e
+    go (inl u) = (u .uuid, omega (arith, u .none), rw (u .no-tag))
+    go (inr t) = (
+      t .uuid,
+      omega (arith, t .counted, tag-at-most-32 (t .tag) (t .valid)),
+      rw (t .kept) (simp (length-append, length-replicate) (omega (arith, tag-at-most-32 (t .tag) (t .valid)))),
+    )
 
-  -- the parts of its key
-  pub key-parts : said .refusal ≡ 0 → Bytes body → (length (said .event .sid) ≡ 16) × (said .event .«tag_len» ≤ 32) × (length (said .event .tag) ≡ 32)
-  unfolding padded
-  key-parts h ok = go (gtid-range type body ok (read-told h))
-    where
-      go : UntaggedRange (said .event) ⊎ TaggedRange (said .event)
-          → (length (said .event .sid) ≡ 16) × (said .event .«tag_len» ≤ 32) × (length (said .event .tag) ≡ 32)
-      go (inl u) = (u .uuid, omega (arith, u .none), rw (u .no-tag))
-      go (inr t) = (
-        t .uuid,
-        omega (arith, t .counted, tag-at-most-32 (t .tag) (t .valid)),
-        rw (t .kept) (simp (length-append, length-replicate) (omega (arith, tag-at-most-32 (t .tag) (t .valid)))),
-      )
+module _ (type : ℕ) (body : List ℕ) (said : GtidRead) (is : said ≡ gtidRead (named type body)) where
+  pub named-stopped : (said .refusal ≡ 0 → ⊥) → (x : Refusal) × (recordIn (named type body) ≡ refuse x) × (said .refusal ≡ number x)
+  named-stopped h = refused-by (gtid-told (named type body) is) h
+
+  pub named-told : said .refusal ≡ 0 → recordIn (named type body) ≡ parsed (said .event) (said .used)
+  named-told h = gtid-told (named type body) is .found h
+
+  pub named-parts : said .refusal ≡ 0 → Bytes body → KeyParts (said .event)
+  named-parts h ok = key-parts type body ok (named-record type body (named-told h))
 
   module _ (bs out : List ℕ) (lent : lentSet bs ≡ form (setOf bs)) where
     pub offer-broken : (said .refusal ≡ 0 → ⊥)
         → (Refused (said .refusal) 0 ≡ offered (lentSet bs) (eventOf type body) (length out)) × (out ≡ outputOf out (output (lentSet bs) (eventOf type body)))
-    offer-broken h = let (x, e, n) = read-refused h in broken-offer bs out type body (said .refusal) x lent e n
+    offer-broken h = let (x, e, n) = named-stopped h in broken-offer bs out type body (said .refusal) x lent e n
 
     module _ (told : said .refusal ≡ 0) where
       pub offer-none : (d : List ℕ) (w : Wrote) (r : Offered) → type ≡ 34 → bodyBytes (setOf bs) ≡ bs → w ≡ answerOf out (bytes bs) → d ≡ outputOf out (bytes bs)
           → r ≡ acceptedAs kind.NoId w → (r ≡ offered (lentSet bs) (eventOf type body) (length out)) × (d ≡ outputOf out (output (lentSet bs) (eventOf type body)))
       unfolding eventOf
       offer-none d w r t b p q e =
-          rw (lent, read-told told, eq-eqb type 34 t, b) (e ∙ ap (acceptedAs kind.NoId) p ∙ told-bytes kind.NoId out bs, q)
+          rw (lent, named-told told, eq-eqb type 34 t, b) (e ∙ ap (acceptedAs kind.NoId) p ∙ told-bytes kind.NoId out bs, q)
 
       pub offer-some : (d : List ℕ) (r : Offered) → (type ≡ 34 → ⊥)
           → (let v : Event = names (said .event .sid ++ take (said .event .«tag_len») (said .event .tag)) (said .event .gno) in
           (r ≡ offeredOf (setOf bs) v (length out)) × (d ≡ outputOf out (outputFor (setOf bs) v)))
           → (r ≡ offered (lentSet bs) (eventOf type body) (length out)) × (d ≡ outputOf out (output (lentSet bs) (eventOf type body)))
       unfolding eventOf
-      offer-some d r t p = rw (lent, read-told told, ne-eqb type 34 t) p
+      offer-some d r t p = rw (lent, named-told told, ne-eqb type 34 t) p
 
 pub offer-unfit : (bs out : List ℕ) (e : Event) (r : ℕ) → lentSet bs ≡ unfit → r ≡ 14
     → (Refused r 0 ≡ offered (lentSet bs) e (length out)) × (out ≡ outputOf out (output (lentSet bs) e))

@@ -14,7 +14,7 @@ use Rattle.previous_gtids_event.specs.Entry.{Entry}
 use Rattle.previous_gtids_event.specs.Previous.{noneOrTag, previous}
 use Rattle.previous_gtids_event.specs.Rewrite.{bodyBytes}
 use Rattle.gtid_event.specs.declared.GtidEvent.{GtidEvent}
-use Rattle.gtid_event_read.specs.Read.{gtid}
+use Rattle.gtid_event_read.specs.Read.{recordIn, named}
 use Rattle.gtid_sets.specs.Set.{has}
 use Rattle.gtid_sets.specs.TakeIn.{lawful, takeIn}
 use Rattle.gtid_sets.specs.Limits.{Judged, fine, breaks, limits, intervals}
@@ -68,13 +68,13 @@ takeInLeaves body out = outputOf out (takenIn (previous body))
 
 -- ---- `offer`
 
--- what a GTID event says
+-- what a GTID event says; one that was sent without its id, if it is tagged, is refused
 abbrev pub says : ℕ → Parse GtidEvent → Event
 says type (refuse r) = broken r
 says type (parsed e next) = pick (eqb type 34) anonymous (names (e .sid ++ take (e .«tag_len») (e .tag)) (e .gno))
 
 unfoldable pub eventOf : ℕ → List ℕ → Event
-eventOf type body = says type (gtid type body)
+eventOf type body = says type (recordIn (named type body))
 
 -- where a set of so many bytes has room, its case; else 13 and the needed length
 abbrev pub fitting : (ℕ → Offered) → ℕ → ℕ → Offered

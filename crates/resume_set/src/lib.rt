@@ -3,7 +3,7 @@
 // `setRead`, `contained` and `offerAnswers` of specs/Answers.antt, and what is written by `offerLeaves`, on `lentSet` of gtid_sets.
 use find::find;
 use gtid_event::ANONYMOUS_GTID_EVENT;
-use gtid_event_read::read;
+use gtid_event_read::read_named;
 use misc::Wrote;
 use misc::bytes::write_bytes;
 use misc::refusal::BAD_GNO;
@@ -218,8 +218,8 @@ fn offer_id(
 }
 
 // Offers an event to a set: "no id" for type 34, "already there" or "taken", and the set after it is written. Refused are bytes that
-// are no set (14), what reading the event refuses, a gno outside its rule (15), an entry (17) or a set (16) that would be too great, and
-// an output that is too short (13).
+// are no set (14), what reading the event refuses, a tagged event without its uuid or its gno (21), a gno outside its rule (15), an entry
+// (17) or a set (16) that would be too great, and an output that is too short (13).
 pub fn offer(set: &[u8], event_type: u8, body: &[u8], out: &mut [u8]) -> Offered
     ensures { λ r. ⌜ r ≡ offerAnswers (now (set .entry)) «event_type» (now (body .entry)) (now (out .entry)) ⌝ }
     ensures { λ _. ⌜ now (out .exit) ≡ offerLeaves (now (set .entry)) «event_type» (now (body .entry)) (now (out .entry)) ⌝ }
@@ -229,7 +229,7 @@ pub fn offer(set: &[u8], event_type: u8, body: &[u8], out: &mut [u8]) -> Offered
     if unfit != 0 {
         return Offered::Refused(unfit, 0);
     }
-    let said = read(event_type, body);
+    let said = read_named(event_type, body);
     let refusal = said.refusal;
     if refusal != 0 {
         return Offered::Refused(refusal, 0);

@@ -19,7 +19,8 @@ use Rattle.previous_gtids_event.specs.Entry.{Entry}
 use Rattle.previous_gtids_event.specs.Previous.{noneOrTag}
 use Rattle.previous_gtids_event.specs.Rewrite.{bodyBytes}
 use Rattle.gtid_event.specs.declared.GtidEvent.{GtidEvent}
-use Rattle.gtid_event_read.specs.Read.{gtid}
+use Rattle.gtid_event_read.specs.Read.{recordIn, named}
+use Rattle.gtid_event_read.proofs.PresentLaws.{named-record}
 use Rattle.gtid_event_read.proofs.Ranges.{UntaggedRange, TaggedRange, gtid-range}
 use Rattle.gtid_sets.specs.Set.{has}
 use Rattle.gtid_sets.specs.Run as run
@@ -53,13 +54,13 @@ tag-good e (inr t) = (t .uuid, rw (t .counted, t .kept, tag-kept (t .tag), t .va
 -- it names no id, or one whose key is as keys are read
 pub good-said : (type : ℕ) (body : List ℕ) → Bytes body → GoodEvent (eventOf type body)
 unfolding eventOf
-good-said type body ok = go (gtid type body) refl
+good-said type body ok = go (recordIn (named type body)) refl
   where
-    go : (p : Parse GtidEvent) → gtid type body ≡ p → GoodEvent (says type p)
+    go : (p : Parse GtidEvent) → recordIn (named type body) ≡ p → GoodEvent (says type p)
     go (refuse r) e = tt
     go (parsed event next) e = split (eqb type 34)
         (λ h. rw h tt)
-        (λ h. let (l, g) = tag-good event (gtid-range type body ok e) in rw h (good-key (event .sid) _ l g))
+        (λ h. let (l, g) = tag-good event (gtid-range type body ok (named-record type body e)) in rw h (good-key (event .sid) _ l g))
 
 -- ---- what is kept
 

@@ -6,7 +6,7 @@ use Prim.Native.Nat.{_≤_, _<_}
 use native.Mathlib.Omega.{arith}
 use borrow.Author.Needs.{needs}
 use Rattle.gtid_event_read.specs.Read.{gtidRead}
-use Rattle.gtid_event_read.proofs.ReadLaws.{gtid-too-long, gtid-untagged, gtid-42, gtid-other}
+use Rattle.gtid_event_read.proofs.ReadLaws.{seen-too-long, seen-untagged, seen-42, seen-other}
 use Rattle.gtid_event_read.proofs.read.Statement.{statement}
 use Rattle.gtid_event_read.proofs.read.Tie as tie
 
@@ -16,7 +16,7 @@ refused-requires c κs = search needs
 returns : tie.Need-returns
 returns c =
     let a = c .before .before .before .args in
-    c .refused .ensures ∙ ap gtidRead (sym (gtid-too-long (a .event-type) (a .body .now) (c .before .if1 .taken)))
+    c .refused .ensures ∙ ap gtidRead (sym (seen-too-long (a .event-type) (a .body .now) (c .before .if1 .taken)))
 
 deserialize-tagged-requires : tie.Need-deserialize-tagged-requires
 deserialize-tagged-requires c κs = search needs
@@ -30,13 +30,13 @@ refused-requires-2 c κs = search needs
 returns-2 : tie.Need-returns-2
 returns-2 c =
     let a = c .before .before .before .before .args in
-    c .deserialize-tagged .ensures ∙ ap gtidRead (sym (gtid-42 (a .event-type) (a .body .now) (c .before .before .if1 .left) (c .before .match .keys1)))
+    c .deserialize-tagged .ensures ∙ ap gtidRead (sym (seen-42 (a .event-type) (a .body .now) (c .before .before .if1 .left) (c .before .match .keys1)))
 
 returns-3 : tie.Need-returns-3
 returns-3 c =
     let a = c .before .before .before .before .before .before .args in
     c .deserialize-untagged .ensures
-    ∙ ap gtidRead (sym (gtid-untagged (a .event-type) (a .body .now) (c .before .before .before .before .if1 .left) (c .before .before .if2 .left) (c .before .if3 .taken)))
+    ∙ ap gtidRead (sym (seen-untagged (a .event-type) (a .body .now) (c .before .before .before .before .if1 .left) (c .before .before .if2 .left) (c .before .if3 .taken)))
 
 returns-4 : tie.Need-returns-4
 returns-4 c =
@@ -44,7 +44,7 @@ returns-4 c =
     let out : 33 ≤ a .event-type → a .event-type < 35 → ⊥ =
     ⊎-elim (λ w l h. omega arith) (λ w l h. omega arith) (c .before .if2 .came) in
     c .refused2 .ensures
-    ∙ ap gtidRead (sym (gtid-other (a .event-type) (a .body .now) (c .before .before .before .if1 .left) out (c .before .before .match .rest .1)))
+    ∙ ap gtidRead (sym (seen-other (a .event-type) (a .body .now) (c .before .before .before .if1 .left) out (c .before .before .match .rest .1)))
 
 pub read-spec : {M : Type 1} → statement M
 read-spec =

@@ -12,8 +12,8 @@ use Rattle.misc.specs.Body.{usedOf, unreadOf, onward}
 use Rattle.misc.specs.Parse.{Parse}
 use Rattle.gtid_event.specs.declared.GtidEvent.{GtidEvent}
 use Rattle.gtid_event_read.specs.Read.{gtid}
-use Rattle.gtid_event_read.proofs.ReadLaws.{gtid-inside}
-use Rattle.gtid_event_read.proofs.Telling.{refused-by, gtid-told}
+use Rattle.gtid_event_read.proofs.ReadLaws.{gtid-inside, gtid-said}
+use Rattle.gtid_event_read.proofs.Telling.{refused-by}
 use Rattle.gtid_event_read.proofs.unread.Statement.{statement}
 use Rattle.gtid_event_read.proofs.unread.Tie as tie
 
@@ -21,7 +21,7 @@ use Rattle.gtid_event_read.proofs.unread.Tie as tie
 inside : (c : tie.Else1) → c .before .read .result .used ≤ length (c .before .before .before .args .body .now)
 inside c =
     let a = c .before .before .before .args in
-    gtid-inside (a .event-type) (a .body .now) (gtid-told (gtid (a .event-type) (a .body .now)) (c .before .read .ensures) .found (c .if1 .left))
+    gtid-inside (a .event-type) (a .body .now) (gtid-said (a .event-type) (a .body .now) (c .before .read .ensures) .found (c .if1 .left))
 
 read-requires : tie.Need-read-requires
 read-requires c κs = search needs
@@ -33,7 +33,7 @@ returns : tie.Need-returns
 returns c =
     let a = c .before .before .before .before .args in
     let s = a .body .now in
-    let (x, e, n) = refused-by (gtid-told (gtid (a .event-type) s) (c .before .before .read .ensures)) (c .before .if1 .taken) in (
+    let (x, e, n) = refused-by (gtid-said (a .event-type) s (c .before .before .read .ensures)) (c .before .if1 .taken) in (
       sym (ap (unreadOf s) e),
       sym (ap (λ (p : Parse GtidEvent). onward (ptr (a .body)) (usedOf p)) e ∙ ap (λ (k : ℕ). (ptr (a .body) .0, k)) (zero-add (ptr (a .body) .1))),
     )
@@ -52,7 +52,7 @@ returns-2 c =
     let a = c .before .before .before .before .args in
     let s = a .body .now in
     let used = c .before .before .read .result .used in
-    let e = gtid-told (gtid (a .event-type) s) (c .before .before .read .ensures) .found (c .before .if1 .left) in (
+    let e = gtid-said (a .event-type) s (c .before .before .read .ensures) .found (c .before .if1 .left) in (
       take-all (length s - used) (drop used s) (simp length-drop (omega arith)) ∙ sym (ap (unreadOf s) e),
       sym (ap (λ (p : Parse GtidEvent). onward (ptr (a .body)) (usedOf p)) e),
     )

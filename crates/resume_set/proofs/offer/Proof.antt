@@ -8,7 +8,7 @@ use denote.Ref.{now}
 use borrow.Author.Needs.{needs}
 use Rattle.resume_set.specs.Find.{Fits}
 use Rattle.resume_set.specs.Answers.{eventOf}
-use Rattle.resume_set.proofs.AnswerLaws.{check-told, check-unfit, key-parts, offer-broken, offer-none, offer-some, offer-unfit}
+use Rattle.resume_set.proofs.AnswerLaws.{check-told, check-unfit, named-parts, offer-broken, offer-none, offer-some, offer-unfit}
 use Rattle.resume_set.proofs.offer.Statement.{statement}
 use Rattle.resume_set.proofs.offer.Tie as tie
 
@@ -18,10 +18,10 @@ fits c = check-told (now (c .before .before .before .before .before .args .set))
 
 -- the parts of the event's key
 parts : (c : tie.Else2)
-    → let e = c .before .read .result .event in (length (e .sid) ≡ 16) × (e .«tag_len» ≤ 32) × (length (e .tag) ≡ 32)
+    → let e = c .before .read-named .result .event in (length (e .sid) ≡ 16) × (e .«tag_len» ≤ 32) × (length (e .tag) ≡ 32)
 parts c =
     let a = c .before .before .before .before .before .before .before .args in
-    key-parts (a .event-type) (now (a .body)) (c .before .read .result) (c .before .read .ensures) (c .if2 .left) (λ i. c .before .before .before .before .before .shared-slice-known2 .given i .fits)
+    named-parts (a .event-type) (now (a .body)) (c .before .read-named .result) (c .before .read-named .ensures) (c .if2 .left) (λ i. c .before .before .before .before .before .shared-slice-known2 .given i .fits)
 
 check-requires : tie.Need-check-requires
 check-requires c κs = search needs
@@ -32,13 +32,13 @@ returns c =
     let (p, q) = check-unfit (now (a .set)) (c .before .check .result) (c .before .check .ensures) (c .if1 .taken) in
     offer-unfit (now (a .set)) (now (a .out)) (eventOf (a .event-type) (now (a .body))) _ p q
 
-read-requires : tie.Need-read-requires
-read-requires c κs = search needs
+read-named-requires : tie.Need-read-named-requires
+read-named-requires c κs = search needs
 
 returns-2 : tie.Need-returns-2
 returns-2 c =
     let a = c .before .before .before .before .before .before .before .args in
-    offer-broken (a .event-type) (now (a .body)) (c .before .read .result) (c .before .read .ensures) (now (a .set)) (now (a .out)) (fits (c .before .before) .lent) (c .if2 .taken)
+    offer-broken (a .event-type) (now (a .body)) (c .before .read-named .result) (c .before .read-named .ensures) (now (a .set)) (now (a .out)) (fits (c .before .before) .lent) (c .if2 .taken)
 
 write-bytes-requires : tie.Need-write-bytes-requires
 write-bytes-requires c κs = search needs
@@ -53,7 +53,7 @@ returns-3 : tie.Need-returns-3
 returns-3 c =
     let a = c .before .before .before .before .before .before .before .before .before .before .before .before .before .args in
     let f = fits (c .before .before .before .before .before .before .before .before) in
-    offer-none (a .event-type) (now (a .body)) (c .before .before .before .before .before .before .before .read .result) (c .before .before .before .before .before .before .before .read .ensures) (now (a .set)) (now (a .out)) (f .lent) (c .before .before .before .before .before .before .if2 .left) _ _ _ (c .before .before .before .before .before .if3 .taken) (sym (f .set .written)) (c .before .before .before .write-bytes .ensures .0) (c .before .before .before .write-bytes .ensures .1) (c .accepted .ensures)
+    offer-none (a .event-type) (now (a .body)) (c .before .before .before .before .before .before .before .read-named .result) (c .before .before .before .before .before .before .before .read-named .ensures) (now (a .set)) (now (a .out)) (f .lent) (c .before .before .before .before .before .before .if2 .left) _ _ _ (c .before .before .before .before .before .if3 .taken) (sym (f .set .written)) (c .before .before .before .write-bytes .ensures .0) (c .before .before .before .write-bytes .ensures .1) (c .accepted .ensures)
 
 cast-tag-len : tie.Need-cast-tag-len
 cast-tag-len c = search needs
@@ -68,7 +68,7 @@ slice-aggregate-offer-id-2 : tie.Need-slice-aggregate-offer-id-2
 slice-aggregate-offer-id-2 c = let p = parts (c .before .before .before .before .before .before .before) in sym (length-take-le _ _ (omega arith))
 
 offer-id-requires : tie.Need-offer-id-requires
-offer-id-requires c κs = let p = parts (c .before .before .before .before .before .before .before .before) in (fits (c .before .before .before .before .before .before .before .before .before .before), (p .0, omega (arith, length-take-le (c .before .before .before .before .before .before .before .before .before .read .result .event .«tag_len») (c .before .before .before .before .before .before .before .before .before .read .result .event .tag) (omega arith))))
+offer-id-requires c κs = let p = parts (c .before .before .before .before .before .before .before .before) in (fits (c .before .before .before .before .before .before .before .before .before .before), (p .0, omega (arith, length-take-le (c .before .before .before .before .before .before .before .before .before .read-named .result .event .«tag_len») (c .before .before .before .before .before .before .before .before .before .read-named .result .event .tag) (omega arith))))
 
 same-length-2 : tie.Need-same-length-2
 same-length-2 c = search needs
@@ -76,7 +76,7 @@ same-length-2 c = search needs
 returns-4 : tie.Need-returns-4
 returns-4 c =
     let a = c .before .before .before .before .before .before .before .before .before .before .before .before .before .before .before .before .before .before .args in
-    offer-some (a .event-type) (now (a .body)) (c .before .before .before .before .before .before .before .before .before .before .before .before .read .result) (c .before .before .before .before .before .before .before .before .before .before .before .before .read .ensures) (now (a .set)) (now (a .out)) (fits (c .before .before .before .before .before .before .before .before .before .before .before .before .before) .lent) (c .before .before .before .before .before .before .before .before .before .before .before .if2 .left) _ _ (c .before .before .before .before .before .before .before .before .before .before .if3 .left) (c .before .before .offer-id .ensures)
+    offer-some (a .event-type) (now (a .body)) (c .before .before .before .before .before .before .before .before .before .before .before .before .read-named .result) (c .before .before .before .before .before .before .before .before .before .before .before .before .read-named .ensures) (now (a .set)) (now (a .out)) (fits (c .before .before .before .before .before .before .before .before .before .before .before .before .before) .lent) (c .before .before .before .before .before .before .before .before .before .before .before .if2 .left) _ _ (c .before .before .before .before .before .before .before .before .before .before .if3 .left) (c .before .before .offer-id .ensures)
 
 pub offer-spec : {M : Type 1} → statement M
 offer-spec =
@@ -84,7 +84,7 @@ offer-spec =
     (tie.spec
     check-requires
     returns
-    read-requires
+    read-named-requires
     returns-2
     write-bytes-requires
     accepted-requires

@@ -4,7 +4,8 @@ use mathlib.Core.Path.{_≡_, sym, ap, _∙_}
 use mathlib.Core.Logic.{⊎-elim}
 use borrow.Author.Needs.{needs}
 use Rattle.misc.specs.Parse.{parsed}
-use Rattle.gtid_event_read.specs.Read.{gtidRead}
+use Rattle.gtid_event_read.specs.Seen.{bitsOf}
+use Rattle.gtid_event_read.specs.Read.{untaggedRead}
 use Rattle.gtid_event_read.specs.Untagged.{openingAt, untagged}
 use Rattle.gtid_event_read.specs.Told.{openedIn}
 use Rattle.gtid_event_read.proofs.UntaggedLaws.{opening-here, untagged-gone, untagged-clock, untagged-other, untagged-end}
@@ -15,7 +16,7 @@ refused-requires : tie.Need-refused-requires
 refused-requires c κs = search needs
 
 returns : tie.Need-returns
-returns c = c .refused .ensures ∙ ap gtidRead (sym (untagged-gone _ (c .before .if1 .taken)))
+returns c = c .refused .ensures ∙ ap untaggedRead (sym (untagged-gone _ (c .before .if1 .taken)))
 
 shared-slice-read-if3 : tie.Need-shared-slice-read-if3
 shared-slice-read-if3 c = search needs
@@ -27,12 +28,13 @@ read-clock-requires : tie.Need-read-clock-requires
 read-clock-requires c κs = search needs
 
 returns-2 : tie.Need-returns-2
-returns-2 c = c .read-clock .ensures ∙ ap gtidRead (sym (untagged-clock _ (opening-here _ (c .before .before .before .before .if1 .left)) (c .before .before .before .if2 .taken) (c .before .if3 .taken)))
+returns-2 c = c .read-clock .ensures ∙ ap untaggedRead (sym (untagged-clock _ (opening-here _ (c .before .before .before .before .if1 .left)) (c .before .before .before .if2 .taken) (c .before .if3 .taken)))
 
 read-opening-requires : tie.Need-read-opening-requires
 read-opening-requires c κs = search needs
 
 returns-3 : tie.Need-returns-3
+unfolding bitsOf
 returns-3 c =
     let s = c .before .before .before .before .args .s .now in
     let opening : openingAt s 0 ≡ parsed (openedIn s) 25 = opening-here s (c .before .before .if1 .left) in

@@ -3,11 +3,11 @@
 use mathlib.Core.Path.{sym, ap, _∙_}
 use borrow.Author.Needs.{needs}
 use Rattle.misc.specs.Le.{leAt}
-use Rattle.gtid_event_read.specs.Read.{gtidRead}
+use Rattle.gtid_event_read.specs.Read.{untaggedRead}
 use Rattle.gtid_event_read.specs.Untagged.{clockAt}
 use Rattle.gtid_event_read.specs.Told.{openedIn}
 use Rattle.gtid_event_read.proofs.UntaggedLaws.{clock-later}
-use Rattle.gtid_event_read.proofs.Telling.{uint, goes, stops, refused-so}
+use Rattle.gtid_event_read.proofs.Telling.{uint, goes, stops, untagged-refused}
 use Rattle.gtid_event_read.proofs.untagged.read_clock.Statement.{statement}
 use Rattle.gtid_event_read.proofs.untagged.read_clock.Tie as tie
 
@@ -21,7 +21,7 @@ returns : tie.Need-returns
 unfolding clockAt
 returns c =
     let a = c .before .before .before .before .before .args in
-    c .refused .ensures ∙ refused-so (stops (uint (leAt 8 (a .s .now) (a .at)) (c .before .before .before .read-u64-le .ensures)) (c .before .if1 .taken) _) (c .before .if1 .taken)
+    c .refused .ensures ∙ untagged-refused (stops (uint (leAt 8 (a .s .now) (a .at)) (c .before .before .before .read-u64-le .ensures)) (c .before .if1 .taken) _) (c .before .if1 .taken)
 
 read-u64-le-requires-2 : tie.Need-read-u64-le-requires-2
 read-u64-le-requires-2 c κs = search needs
@@ -35,7 +35,7 @@ returns-2 c =
     let a = c .before .before .before .before .before .before .before .before .args in
     let last = c .before .before .before .before .before .before .read-u64-le in
     c .refused2 .ensures
-    ∙ refused-so
+    ∙ untagged-refused
     (goes (uint (leAt 8 (a .s .now) (a .at)) (last .ensures)) (c .before .before .before .before .if1 .left) _
     (stops (uint (leAt 8 (a .s .now) (last .result .next)) (c .before .before .before .read-u64-le2 .ensures)) (c .before .if2 .taken) _))
     (c .before .if2 .taken)
@@ -48,7 +48,7 @@ returns-3 c =
     let a = c .before .before .before .before .before .before .before .before .args in
     let last = c .before .before .before .before .before .before .read-u64-le in
     c .read-later .ensures
-    ∙ ap gtidRead (sym (clock-later (a .s .now) (openedIn (a .s .now)) (a .at)
+    ∙ ap untaggedRead (sym (clock-later (a .s .now) (openedIn (a .s .now)) (a .at)
     (uint (leAt 8 (a .s .now) (a .at)) (last .ensures) .found (c .before .before .before .before .if1 .left))
     (uint (leAt 8 (a .s .now) (last .result .next)) (c .before .before .before .read-u64-le2 .ensures) .found (c .before .if2 .left))))
 

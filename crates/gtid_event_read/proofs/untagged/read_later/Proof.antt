@@ -2,7 +2,7 @@
 -- Assumes nothing.
 use mathlib.Core.Path.{_∙_}
 use borrow.Author.Needs.{needs}
-use Rattle.gtid_event_read.proofs.Telling.{goes, stops, stops-mapped, maps, refused-so, read-so}
+use Rattle.gtid_event_read.proofs.Telling.{goes, stops, stops-mapped, maps, untagged-refused, untagged-told}
 use Rattle.gtid_event_read.proofs.untagged.read_later.Statement.{statement}
 use Rattle.gtid_event_read.proofs.untagged.read_later.Tie as tie
 
@@ -13,7 +13,7 @@ refused-requires : tie.Need-refused-requires
 refused-requires c κs = search needs
 
 returns : tie.Need-returns
-returns c = c .refused .ensures ∙ refused-so (stops (c .before .before .before .read-timestamps .ensures) (c .before .if1 .taken) _) (c .before .if1 .taken)
+returns c = c .refused .ensures ∙ untagged-refused (stops (c .before .before .before .read-timestamps .ensures) (c .before .if1 .taken) _) (c .before .if1 .taken)
 
 read-tx-length-requires : tie.Need-read-tx-length-requires
 read-tx-length-requires c κs = search needs
@@ -24,7 +24,7 @@ refused-requires-2 c κs = search needs
 returns-2 : tie.Need-returns-2
 returns-2 c =
     c .refused2 .ensures
-    ∙ refused-so
+    ∙ untagged-refused
     (goes (c .before .before .before .before .before .before .read-timestamps .ensures) (c .before .before .before .before .if1 .left) _
     (stops (c .before .before .before .read-tx-length .ensures) (c .before .if2 .taken) _))
     (c .before .if2 .taken)
@@ -38,7 +38,7 @@ refused-requires-3 c κs = search needs
 returns-3 : tie.Need-returns-3
 returns-3 c =
     c .refused3 .ensures
-    ∙ refused-so
+    ∙ untagged-refused
     (goes (c .before .before .before .before .before .before .before .before .before .read-timestamps .ensures) (c .before .before .before .before .before .before .before .if1 .left) _
     (goes (c .before .before .before .before .before .before .read-tx-length .ensures) (c .before .before .before .before .if2 .left) _
     (stops-mapped (c .before .before .before .read-versions .ensures) (c .before .if3 .taken) _)))
@@ -53,7 +53,7 @@ clocked-requires c κs = search needs
 returns-4 : tie.Need-returns-4
 returns-4 c =
     rw (c .clocked .ensures, c .before .read-opening .ensures)
-    (read-so
+    (untagged-told
     (goes (c .before .before .before .before .before .before .before .before .before .before .read-timestamps .ensures) (c .before .before .before .before .before .before .before .before .if1 .left) _
     (goes (c .before .before .before .before .before .before .before .read-tx-length .ensures) (c .before .before .before .before .before .if2 .left) _
     (maps (c .before .before .before .before .read-versions .ensures) _)))

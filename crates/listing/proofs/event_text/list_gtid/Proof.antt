@@ -1,13 +1,13 @@
 -- `listing::event_text::list_gtid` meets its contract.
 use denote.Ref.{now}
 use borrow.Author.Needs.{needs}
-use Rattle.resume_set.proofs.AnswerLaws.{key-parts}
+use Rattle.resume_set.proofs.AnswerLaws.{named-parts}
 use Rattle.listing.proofs.EventTextLaws.{same-text, text-refused, text-anonymous, text-id}
 use Rattle.listing.proofs.event_text.list_gtid.Statement.{statement}
 use Rattle.listing.proofs.event_text.list_gtid.Tie as tie
 
-read-requires : tie.Need-read-requires
-read-requires c κs = search needs
+read-named-requires : tie.Need-read-named-requires
+read-named-requires c κs = search needs
 
 write-refused-requires : tie.Need-write-refused-requires
 write-refused-requires c κs = search needs
@@ -18,7 +18,7 @@ same-length c = search needs
 returns : tie.Need-returns
 returns c =
     let a = c .before .before .before .before .before .before .before .before .args in
-    let r = c .before .before .before .before .before .read in
+    let r = c .before .before .before .before .before .read-named in
     same-text (now (a .out)) (text-refused (a .event-type) (now (a .body)) (r .result) (r .ensures) (c .before .before .before .before .if1 .taken)) (c .before .before .write-refused .ensures)
 
 slice-aggregate-write-bytes : tie.Need-slice-aggregate-write-bytes
@@ -33,14 +33,14 @@ same-length-2 c = search needs
 returns-2 : tie.Need-returns-2
 returns-2 c =
     let a = c .before .before .before .before .before .before .before .before .before .before .args in
-    let r = c .before .before .before .before .before .before .before .read in
+    let r = c .before .before .before .before .before .before .before .read-named in
     same-text (now (a .out)) (text-anonymous (a .event-type) (now (a .body)) (r .result) (r .ensures) (c .before .before .before .before .before .before .if1 .left) (c .before .before .before .before .before .if2 .taken)) (c .before .before .write-bytes .ensures)
 
 write-id-requires : tie.Need-write-id-requires
 write-id-requires c κs =
     let a = c .before .before .before .before .before .before .args in
-    let r = c .before .before .before .read in
-    key-parts (a .event-type) (now (a .body)) (r .result) (r .ensures) (c .before .before .if1 .left) (λ i. c .before .before .before .before .before .shared-slice-known .given i .fits)
+    let r = c .before .before .before .read-named in
+    named-parts (a .event-type) (now (a .body)) (r .result) (r .ensures) (c .before .before .if1 .left) (λ i. c .before .before .before .before .before .shared-slice-known .given i .fits)
 
 same-length-3 : tie.Need-same-length-3
 same-length-3 c = search needs
@@ -48,14 +48,14 @@ same-length-3 c = search needs
 returns-3 : tie.Need-returns-3
 returns-3 c =
     let a = c .before .before .before .before .before .before .before .before .before .args in
-    let r = c .before .before .before .before .before .before .read in
-    same-text (now (a .out)) (text-id (a .event-type) (now (a .body)) (r .result) (r .ensures) (c .before .before .before .before .before .if1 .left) (c .before .before .before .before .if2 .left)) (c .before .before .write-id .ensures)
+    let r = c .before .before .before .before .before .before .read-named in
+    same-text (now (a .out)) (text-id (a .event-type) (now (a .body)) (r .result) (r .ensures) (c .before .before .before .before .before .if1 .left) (c .before .before .before .before .if2 .left) (λ i. c .before .before .before .before .before .before .before .before .shared-slice-known .given i .fits)) (c .before .before .write-id .ensures)
 
 pub list-gtid-spec : {M : Type 1} → statement M
 list-gtid-spec =
     tie.close
     (tie.spec
-    read-requires
+    read-named-requires
     write-refused-requires
     same-length
     returns

@@ -2,11 +2,12 @@
 use mathlib.Core.Path.{sym}
 use native.Mathlib.Omega.{arith}
 use lib.Seq.{length-take-le}
+use lib.ListN.{take}
 use denote.Ref.{now}
 use borrow.Author.Needs.{needs}
 use Rattle.misc.proofs.OutputLaws.{put-placed, output-short}
 use Rattle.listing.proofs.EventTextLaws.{fits-whole, id-long, id-put}
-use Rattle.listing.specs.EventText.{idText}
+use Rattle.listing.specs.EventText.{recordText}
 use Rattle.listing.proofs.event_text.write_id.Statement.{statement}
 use Rattle.listing.proofs.event_text.write_id.Tie as tie
 
@@ -41,7 +42,7 @@ add-len-2 c = search needs
 returns : tie.Need-returns
 returns c =
     let a = c .before .before .before .before .before .before .before .before .before .args in
-    output-short (now (a .out)) (idText (a .event)) _ (omega (arith, c .before .decimal-len .ensures .0, c .before .before .key-len .ensures .0, id-long (a .event))) (omega arith)
+    output-short (now (a .out)) (recordText (a .event)) _ (omega (arith, c .before .decimal-len .ensures .0, c .before .before .key-len .ensures .0, id-long (a .event .sid) (take (a .event .«tag_len») (a .event .tag)) (a .event .gno))) (omega arith)
 
 slice-aggregate-put-bytes : tie.Need-slice-aggregate-put-bytes
 slice-aggregate-put-bytes c = search needs
@@ -84,8 +85,8 @@ same-length c = search needs
 returns-2 : tie.Need-returns-2
 returns-2 c =
     let a = c .before .before .before .before .before .before .before .before .before .before .before .before .before .before .before .before .before .before .before .before .before .before .before .before .before .before .before .before .before .before .before .before .before .before .args in
-    fits-whole _ (omega (arith, c .before .before .before .before .before .before .before .before .before .before .before .before .before .before .before .before .before .before .before .before .before .before .before .before .before .before .decimal-len .ensures .0, c .before .before .before .before .before .before .before .before .before .before .before .before .before .before .before .before .before .before .before .before .before .before .before .before .before .before .before .key-len .ensures .0, id-long (a .event))) (omega (arith, c .before .before .before .before .before .before .before .before .before .before .before .before .before .before .before .before .before .before .before .before .before .before .before .before .before .if1 .left))
-    (id-put (a .event) (put-placed (c .before .before .before .before .before .before .before .before .before .before .before .before .before .before .before .before .before .before .before .before .before .before .put-bytes .ensures)) (c .before .before .before .before .before .before .before .before .before .before .before .before .before .before .before .before .put-key .ensures)
+    fits-whole _ (omega (arith, c .before .before .before .before .before .before .before .before .before .before .before .before .before .before .before .before .before .before .before .before .before .before .before .before .before .before .decimal-len .ensures .0, c .before .before .before .before .before .before .before .before .before .before .before .before .before .before .before .before .before .before .before .before .before .before .before .before .before .before .before .key-len .ensures .0, id-long (a .event .sid) (take (a .event .«tag_len») (a .event .tag)) (a .event .gno))) (omega (arith, c .before .before .before .before .before .before .before .before .before .before .before .before .before .before .before .before .before .before .before .before .before .before .before .before .before .if1 .left))
+    (id-put (a .event .sid) (take (a .event .«tag_len») (a .event .tag)) (a .event .gno) (put-placed (c .before .before .before .before .before .before .before .before .before .before .before .before .before .before .before .before .before .before .before .before .before .before .put-bytes .ensures)) (c .before .before .before .before .before .before .before .before .before .before .before .before .before .before .before .before .put-key .ensures)
     (put-placed (c .before .before .before .before .before .before .before .before .before .before .before .put-bytes2 .ensures)) (c .before .before .before .before .before .before .before .put-decimal .ensures)
     (put-placed (c .before .before .put-bytes3 .ensures)))
 

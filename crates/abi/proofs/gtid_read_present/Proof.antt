@@ -1,9 +1,9 @@
--- `abi::gtid_read` meets its contract.
+-- `abi::gtid_read_present` meets its contract.
 use denote.Ref.{now}
 use Rattle.abi.proofs.FlatLaws.{told-refused, told-short, told-record}
 use borrow.Author.Needs.{needs}
-use Rattle.abi.proofs.gtid_read.Statement.{statement}
-use Rattle.abi.proofs.gtid_read.Tie as tie
+use Rattle.abi.proofs.gtid_read_present.Statement.{statement}
+use Rattle.abi.proofs.gtid_read_present.Tie as tie
 
 read-requires : tie.Need-read-requires
 read-requires c κs = search needs
@@ -29,6 +29,6 @@ returns-3 c =
     let a = c .before .before .before .before .before .before .before .before .before .before .args in
     told-record (a .event-type) (now (a .body)) (c .before .before .before .before .before .before .before .read .result) (c .before .before .before .before .before .before .before .read .ensures) (now (a .out)) (c .before .before .before .before .before .before .if1 .left) (λ i. c .before .before .before .before .before .before .before .before .before .shared-slice-known .given i .fits) (c .before .before .before .before .before .if2 .left) (c .before .before .put-record .ensures)
 
-pub gtid-read-spec : {M : Type 1} → statement M
-gtid-read-spec =
+pub gtid-read-present-spec : {M : Type 1} → statement M
+gtid-read-present-spec =
     tie.close (tie.spec read-requires returns returns-2 put-record-requires same-length returns-3)

@@ -1,0 +1,140 @@
+-- The statements of `specs/Presence.antt` hold.
+use Prim.Native.Nat.{ℕ, _^_, _<_, _≤_}
+use mathlib.Core.Path.{_≡_, refl, sym, ap, _∙_}
+use mathlib.Core.Bool.{Bool, true, false, _||_, or-true}
+use mathlib.Core.List.{List, [], _∷_}
+use mathlib.Core.Logic.{_⊎_, inl, inr, ⊎-elim}
+use native.Mathlib.Omega.{arith}
+use lib.Dec.{leb, eqb}
+use lib.ListN.{length, getD}
+use borrow.Author.Tests.{eqb-true, eq-eqb}
+use Rattle.misc.specs.Parse.{Bytes, Parse, refuse, parsed}
+use Rattle.misc.specs.Pick.{pick}
+use Rattle.misc.specs.Body.{bodyLimit}
+use Rattle.misc.specs.Mark.{hasBit}
+use Rattle.packets.proofs.Tests.{split, clash}
+use Rattle.gtid_event_read.specs.Seen.{Seen, bitsOf}
+use Rattle.gtid_event_read.specs.Read.{seen, gtidRead}
+use Rattle.gtid_event_read.proofs.PresentLaws.{bit-of, bits-below}
+use Rattle.gtid_event_read.proofs.ReadLaws.{seen-parsed}
+use Rattle.abi.specs.Flat.{readPresent}
+use Rattle.promises.specs.TaggedLayout.{Sent, Value, FieldsLaid, idOf, sends, TaggedLaid}
+use Rattle.promises.specs.Meaning.{RecordLaid}
+use Rattle.promises.specs.Exact.{Exactly}
+use Rattle.promises.specs.Presence.{Field, bitOf, fieldOf, Has, Presence}
+use Rattle.promises.proofs.TaggedSaid.{listed}
+use Rattle.promises.proofs.Demand2.{laid-record-read, records-mean}
+use Rattle.promises.proofs.Naming.{written-named}
+
+-- ---- names and bits
+
+-- the names by their bits
+abbrev named : List Field
+named =
+    Field.gtid-flags ∷ Field.uuid ∷ Field.gno ∷ Field.tag ∷ Field.last-committed ∷ Field.sequence-number
+    ∷ Field.immediate-commit-timestamp ∷ Field.original-commit-timestamp ∷ Field.transaction-length
+    ∷ Field.immediate-server-version ∷ Field.original-server-version ∷ Field.commit-group-ticket ∷ []
+
+back : (f : Field) → getD named (bitOf f) Field.gtid-flags ≡ f
+back Field.gtid-flags = refl
+back Field.uuid = refl
+back Field.gno = refl
+back Field.tag = refl
+back Field.last-committed = refl
+back Field.sequence-number = refl
+back Field.immediate-commit-timestamp = refl
+back Field.original-commit-timestamp = refl
+back Field.transaction-length = refl
+back Field.immediate-server-version = refl
+back Field.original-server-version = refl
+back Field.commit-group-ticket = refl
+
+low : (f : Field) → bitOf f < 12
+low Field.gtid-flags = omega arith
+low Field.uuid = omega arith
+low Field.gno = omega arith
+low Field.tag = omega arith
+low Field.last-committed = omega arith
+low Field.sequence-number = omega arith
+low Field.immediate-commit-timestamp = omega arith
+low Field.original-commit-timestamp = omega arith
+low Field.transaction-length = omega arith
+low Field.immediate-server-version = omega arith
+low Field.original-server-version = omega arith
+low Field.commit-group-ticket = omega arith
+
+-- what a value says has the id that its field's name has
+value-id : {id : ℕ} {x : Sent} {bs : List ℕ} (v : Value id x bs) → idOf x ≡ bitOf (fieldOf v)
+value-id (Value.gtid-flags form few) = refl
+value-id (Value.uuid items size) = refl
+value-id (Value.gno form) = refl
+value-id (Value.tag form good) = refl
+value-id (Value.last-committed form) = refl
+value-id (Value.sequence-number form) = refl
+value-id (Value.immediate-commit-timestamp form) = refl
+value-id (Value.original-commit-timestamp form) = refl
+value-id (Value.transaction-length form) = refl
+value-id (Value.immediate-server-version form few) = refl
+value-id (Value.original-server-version form few) = refl
+value-id (Value.commit-group-ticket form) = refl
+
+-- ---- a field is among those that were sent just if the bytes have it
+
+sent-has : (f : Field) {last : ℕ} {told : List Sent} {bs : List ℕ} (laid : FieldsLaid last told bs) → sends (bitOf f) told ≡ true → Has f laid
+sent-has f FieldsLaid.end h = clash h refl
+sent-has f (FieldsLaid.ignored rest form new over) h = clash h refl
+sent-has f (FieldsLaid.field {x = x} form value rest) h = split (eqb (idOf x) (bitOf f))
+    (λ is.
+    let same : bitOf (fieldOf value) ≡ bitOf f = sym (value-id value) ∙ eqb-true (idOf x) (bitOf f) is in
+    inl (sym (back (fieldOf value)) ∙ ap (λ (k : ℕ). getD named k Field.gtid-flags) same ∙ back f))
+    (λ other. inr (sent-has f rest (rw other at h)))
+
+has-sent : (f : Field) {last : ℕ} {told : List Sent} {bs : List ℕ} (laid : FieldsLaid last told bs) → Has f laid → sends (bitOf f) told ≡ true
+has-sent f (FieldsLaid.field {x = x} form value rest) (inl is) = rw (eq-eqb (idOf x) (bitOf f) (value-id value ∙ ap bitOf is))
+has-sent f (FieldsLaid.field {x = x} form value rest) (inr more) = rw (has-sent f rest more) (or-true (eqb (idOf x) (bitOf f)))
+
+bits : (s : List ℕ) (x : Seen) (used : ℕ) → length s ≤ bodyLimit → (laid : TaggedLaid s x used) → (f : Field)
+    → Exactly (hasBit (bitOf f) (gtidRead (seen 42 s) .present) ≡ true) (Has f (laid .fields-are))
+bits s x used few laid f =
+    let told = laid .told in
+    let read : seen 42 s ≡ parsed x used = laid-record-read 42 s x used (RecordLaid.tagged few refl laid) in
+    let bit : hasBit (bitOf f) (gtidRead (seen 42 s) .present) ≡ sends (bitOf f) told =
+    ap (λ (p : Parse Seen). hasBit (bitOf f) (gtidRead p .present)) read ∙ bit-of (bitOf f) (x .present)
+    ∙ ap (λ (y : Seen). getD (y .present) (bitOf f) false) (laid .is) ∙ sym (listed told (bitOf f) (low f)) in (
+      λ set. sent-has f (laid .fields-are) (sym bit ∙ set),
+      λ there. bit ∙ has-sent f (laid .fields-are) there,
+    )
+
+-- ---- all of them
+
+archive : (p : Parse Seen) (room : ℕ) → readPresent p room ≡ pick (leb 116 room) (gtidRead p .present) 0
+archive (refuse r) room = split (leb 116 room) (λ h. rw h) (λ h. rw h)
+archive (parsed x next) room = refl
+
+laid-twelve : (type : ℕ) (s : List ℕ) (x : Seen) (used : ℕ) → RecordLaid type s x used → length (x .present) ≡ 12
+laid-twelve type s x used (RecordLaid.untagged few is laid none) = rw none
+laid-twelve type s x used (RecordLaid.tagged few is laid) = rw (laid .is)
+
+twelve : (type : ℕ) (s : List ℕ) → Bytes s → gtidRead (seen type s) .present < 2 ^ 12
+twelve type s are = go (seen type s) refl
+  where
+    go : (p : Parse Seen) → seen type s ≡ p → gtidRead p .present < 2 ^ 12
+    go (refuse r) e = omega arith
+    go (parsed x used) e = bits-below 12 (x .present) (omega (arith, laid-twelve type s x used (records-mean type s x used are .0 e)))
+
+tagged-alone : (type : ℕ) (s : List ℕ) → (type ≡ 42 → ⊥) → gtidRead (seen type s) .present ≡ 0
+unfolding bitsOf
+tagged-alone type s other = go (seen type s) refl
+  where
+    go : (p : Parse Seen) → seen type s ≡ p → gtidRead p .present ≡ 0
+    go (refuse r) e = refl
+    go (parsed x used) e = seen-parsed type s e (λ _ _ v plain is. rw is) (λ _ is _. absurd (other is))
+
+pub presence : Presence
+presence = record {
+  bits = bits;
+  twelve = twelve;
+  archive = λ type s room. archive (seen type s) room;
+  written = written-named;
+  tagged-alone = tagged-alone;
+}
