@@ -29,7 +29,7 @@ use Rattle.resume_set_laws.specs.Ours.{ours}
 use Rattle.promises.specs.TaggedLayout.{number, the-uuid, the-tag, seenIn}
 use Rattle.promises.specs.Meaning.{RecordsMean}
 use Rattle.promises.specs.Exact.{OffersExactly}
-use Rattle.promises.specs.WrongOnes.{presentUnlessZero, tellsByValue, renumbered, saysInstead, judgesAbsentGno, takesZeroForAbsent, asksIdBeforeTag, tagAlone, zeroGno, noFields}
+use Rattle.promises.specs.WrongOnes.{presentUnlessZero, tellsByValue, renumbered, saysInstead, judgesAbsentGno, takesZeroForAbsent, asksIdBeforeTag, tagAlone, zeroGno, nothingSent}
 use Rattle.promises.proofs.Demand2.{one-record, records-mean}
 use Rattle.promises.proofs.SetsExact.{offers-exactly}
 use Rattle.promises.proofs.OneOutcome.{same-offers}
@@ -51,7 +51,7 @@ unfolding eventOf named seen bodyLimit tagged byteAt bytesAt varlenAt trailingOn
 zero-15 = refl
 
 -- no tag either: 7
-no-tag-7 : ours .answers none (tag-offer noFields) ≡ Refused 7 0
+no-tag-7 : ours .answers none (tag-offer nothingSent) ≡ Refused 7 0
 unfolding eventOf named seen bodyLimit tagged byteAt bytesAt varlenAt trailingOnes itemValue leAt leOf fieldsFrom fieldAt lentSet previous saysTagged saysCount many limits maxEntries maxIntervals maxOfEntry bodyBytes anyTag headerBytes entriesBytes leBytes
 no-tag-7 = refl
 
@@ -79,7 +79,7 @@ untagged-absent-out exactly = instead-out 15 21 (offer 0 48) (λ e. omega arith)
 
 -- one that asks for the id before the tag
 pub asks-id-before-tag-out : OffersExactly asksIdBeforeTag → ⊥
-asks-id-before-tag-out exactly = instead-out 7 21 (tag-offer noFields) (λ e. omega arith) refl no-tag-7 exactly refl
+asks-id-before-tag-out exactly = instead-out 7 21 (tag-offer nothingSent) (λ e. omega arith) refl no-tag-7 exactly refl
 
 -- ---- a reader that tells by its value whether a gno was sent: here one was sent as 0
 

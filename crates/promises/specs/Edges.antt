@@ -17,6 +17,7 @@ use Rattle.previous_gtids_event.specs.Rewrite.{headerBytes}
 use Rattle.gtid_event.specs.Event.{fresh, setNumber, setTag}
 use Rattle.gtid_event.specs.Parts.{only}
 use Rattle.gtid_event.specs.declared.GtidEvent.{GtidEvent}
+use Rattle.gtid_event_read.specs.Read.{seen, gtidRead}
 use Rattle.gtid_event_write.specs.Size.{payloadSize, sizeIn64}
 use Rattle.gtid_event_write.specs.Write.{eventBytes}
 use Rattle.gtid_sets.specs.Set.{add}
@@ -38,6 +39,10 @@ truth b = only (bit b)
 abbrev readAs : Parse ℕ → List ℕ
 readAs (refuse r) = []
 readAs (parsed v used) = v ∷ used ∷ []
+
+-- which fields were there
+abbrev present : ℕ → List ℕ → ℕ
+present type body = gtidRead (seen type body) .present
 
 -- the starts and ends of the intervals of the first entry
 abbrev pairs : List Interval → List ℕ
@@ -194,6 +199,11 @@ edges =
     ∷ edge (eventBytes (smallWith 2 3)) (smallThen 86 (12 ∷ 2 ∷ 14 ∷ 4 ∷ 16 ∷ 0 ∷ 18 ∷ 2 ∷ 20 ∷ 4 ∷ 22 ∷ 6 ∷ []))
     ∷ edge (only (length (eventBytes (smallWith 2 3)))) (only 43)
     ∷ edge (eventBytes (smallWith 1 0)) (smallThen 74 (12 ∷ 2 ∷ 16 ∷ 0 ∷ 18 ∷ 2 ∷ []))
+    -- which fields these two are sent with, as reading tells it: 4,095, all twelve; 895, all but 7, 10 and 11. The tag "a" alone: 8. An untagged event: 0
+    ∷ edge (only (present 42 (smallThen 86 (12 ∷ 2 ∷ 14 ∷ 4 ∷ 16 ∷ 0 ∷ 18 ∷ 2 ∷ 20 ∷ 4 ∷ 22 ∷ 6 ∷ [])))) (only 4095)
+    ∷ edge (only (present 42 smallBytes)) (only 895)
+    ∷ edge (only (present 42 (2 ∷ 12 ∷ 0 ∷ 6 ∷ 2 ∷ 97 ∷ []))) (only 8)
+    ∷ edge (only (present 33 (replicate 25 0))) (only 0)
     -- a record as 116 bytes, and back
     ∷ edge (flat full) fullBytes
     ∷ edge (flat (flatRead fullBytes)) fullBytes

@@ -173,8 +173,8 @@ tagAlone = 2 ∷ 12 ∷ 0 ∷ 6 ∷ 2 ∷ 97 ∷ []
 abbrev pub zeroGno : List ℕ
 zeroGno = (2 ∷ 50 ∷ 0 ∷ 2 ∷ []) ++ replicate 16 0 ++ (4 ∷ 0 ∷ 6 ∷ 2 ∷ 97 ∷ [])
 
-abbrev pub noFields : List ℕ
-noFields = 2 ∷ 6 ∷ 0 ∷ []
+abbrev pub nothingSent : List ℕ
+nothingSent = 2 ∷ 6 ∷ 0 ∷ []
 
 -- says "taken" where 17 is due
 abbrev pub asTaken : ℕ → Offered → Offered
