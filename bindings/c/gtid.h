@@ -27,7 +27,7 @@ extern "C" {
 
 /* The highest transaction number that a set can hold; the lowest is 1. An event of type 33 or 42 may carry others: it is read,
  * written and listed with them, and an offer of it is refused with 15. (Type 34 has no id, and its number isn't judged. One of
- * type 42 that lacks its number is refused with 21.) */
+ * type 42 that lacks its uuid or its number is refused with 21, in an offer and in the listing.) */
 #define GTID_HIGHEST_GNO ((uint64_t)INT64_MAX - 1)
 
 /* The longest text of an event, in bytes: that of such a set, with numbers of 19 digits. */

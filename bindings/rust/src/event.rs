@@ -58,6 +58,7 @@ pub struct GtidEvent {
 /// # Ok::<(), Refusal>(())
 /// ```
 #[derive(Clone, Debug, PartialEq, Eq, Hash)]
+#[non_exhaustive]
 pub struct GtidRead {
     /// The record.
     pub event: GtidEvent,

@@ -12,7 +12,7 @@ pub const LONGEST_SET: usize = 62_856;
 
 /// The highest transaction number that a set can hold; the lowest is 1. An event of type 33 or 42 may carry others, and is read, written
 /// and listed with them; offered, it is refused with [`Refusal::BadGno`]. (Type 34 has no id, and its number isn't judged. One of type 42
-/// that lacks its number is refused with [`Refusal::AbsentId`].)
+/// that lacks its uuid or its number is refused with [`Refusal::AbsentId`], in an offer and in the listing.)
 ///
 /// ```
 /// use gtid_resume::{GtidEvent, Refusal, ResumeSet, GTID_EVENT, HIGHEST_GNO};

@@ -1,4 +1,4 @@
--- Laws of the record as bytes (`specs/Flat.antt`): its length, what is read from it, and what the two calls over it answer.
+-- Laws of the record as bytes (`specs/Flat.antt`): its length, what is read from it, and what the calls over it answer.
 use mathlib.Core.Path.{_≡_, refl, sym, ap, _∙_}
 use mathlib.Core.List.{List, append-nil}
 use Prim.Native.Nat.{ℕ, _+_, _-_, _≤_, _<_}
@@ -78,7 +78,7 @@ record-is s sid tag gno typecode last sequence immediate original len version or
     let field : tag ≡ part s 26 32 = c ∙ kept-there s 26 32 (omega arith) in
     rw (uuid, b, field, d, e, f, g, h, i, j, k, l)
 
--- ---- `gtid_read`
+-- ---- `gtid_read_present`
 
 -- which fields were there
 present-short : (p : Parse Seen) (room : ℕ) → room < 116 → 0 ≡ readPresent p room
@@ -107,7 +107,8 @@ module _ (type : ℕ) (body : List ℕ) (said : GtidRead) (is : said ≡ gtidRea
 
     pub told-short : length out < 116
         → (number noRoom ≡ answerOf out (readOutput (gtid type body)) .refusal)
-        × ((116 ≡ readUsed (gtid type body) (length out)) × ((out ≡ outputOf out (readOutput (gtid type body))) × (0 ≡ readPresent (seen type body) (length out))))
+        × ((116 ≡ readUsed (gtid type body) (length out)) × ((out ≡ outputOf out (readOutput (gtid type body)))
+        × (0 ≡ readPresent (seen type body) (length out))))
     told-short h =
         let (a, b) = output-short out (flat (said .event)) 116 (sym size) h in
         let none = present-short (seen type body) (length out) h in

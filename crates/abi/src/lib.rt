@@ -205,7 +205,7 @@ pub extern "C" fn gtid_offer(
 }
 
 // Reads a GTID event of this type: its record is written, as 116 bytes, `used` is how many bytes of the body the event has, and `present`
-// tells which fields a tagged event was sent with: bit k is the field with the id k.
+// tells which fields a tagged event was sent with: bit k is the field with the id k. It is 0 for an untagged event and with a refusal.
 #[no_mangle]
 pub extern "C" fn gtid_read_present(
     event_type: u8,

@@ -1,5 +1,5 @@
 -- Laws of this crate's definitions: in the form in which its functions use them (`Telling`, `UntaggedLaws`, `FieldLaws`, `TaggedLaws`,
--- `ReadLaws`), and what holds of every record that is read (`FieldRanges`, `Ranges`).
+-- `ReadLaws`, `PresentLaws`), and what holds of every record that is read (`FieldRanges`, `Ranges`).
 pub mod Telling
 pub mod UntaggedLaws
 pub mod FieldLaws

@@ -1,11 +1,10 @@
 -- Laws of which fields were there (`specs/Seen.antt`), and of an event whose id is asked for (`named` of `specs/Read.antt`).
 use mathlib.Core.Path.{_≡_, refl, sym, ap, _∙_}
-use mathlib.Core.Bool.{Bool, true, false, _&&_}
+use mathlib.Core.Bool.{Bool, true, false}
 use mathlib.Core.List.{List, [], _∷_}
 use Prim.Native.Nat.{ℕ, zero, suc, _+_, _-_, _*_, _/_, _%_, _^_, _≤_, _<_}
 use native.Mathlib.Nat.{zero-div, pow-succ', div-div-eq-div-mul}
 use native.Mathlib.Omega.{arith}
-use lib.Dec.{eqb}
 use mir.Val.{boolByte}
 use lib.ListN.{length, getD, drop}
 use lib.Seq.{drop-cons, drop-length}
@@ -16,7 +15,7 @@ use Rattle.misc.specs.Parse.{Parse, refuse, parsed, judged}
 use Rattle.misc.proofs.ParseLaws.{never, no-zero, judged-parsed, mapped-parsed, pick-either}
 use Rattle.gtid_event.specs.declared.GtidEvent.{GtidEvent}
 use Rattle.gtid_event_read.specs.Seen.{Seen, bitsOf}
-use Rattle.gtid_event_read.specs.Read.{seen, recordIn, gtid, sendsId, named, refusedRead, gtidRead}
+use Rattle.gtid_event_read.specs.Read.{seen, recordIn, gtid, sendsId, named, refusedRead, gtidRead, tellsId}
 use Rattle.gtid_event_read.specs.declared.GtidRead.{GtidRead}
 
 -- ---- the bits
@@ -68,7 +67,7 @@ bits-below (suc n) (false ∷ p) h = omega (arith, bits-below n p (omega arith),
 -- ---- where the id is asked for
 
 -- what the bits say of it
-sent-told : (type : ℕ) (x : Seen) → pick (eqb type 42) (hasBit 1 (bitsOf (x .present)) && hasBit 2 (bitsOf (x .present))) true ≡ sendsId type x
+sent-told : (type : ℕ) (x : Seen) → tellsId type (bitsOf (x .present)) ≡ sendsId type x
 sent-told type x = rw (bit-of 1 (x .present), bit-of 2 (x .present))
 
 -- from what reading answered
@@ -81,10 +80,10 @@ module _ (type : ℕ) (s : List ℕ) (said : GtidRead) (is : said ≡ gtidRead (
       go (refuse r) e = e
       go (parsed x next) e = absurd (ne (ap (λ (y : GtidRead). y .refusal) e))
 
-  module _ (told : said .refusal ≡ 0) (sent : Bool) (bits : sent ≡ pick (eqb type 42) (hasBit 1 (said .present) && hasBit 2 (said .present)) true) where
+  module _ (told : said .refusal ≡ 0) (sent : Bool) (bits : sent ≡ tellsId type (said .present)) where
     sends : (x : Seen) {next : ℕ} → said ≡ gtidRead (parsed x next) → sendsId type x ≡ sent
     sends x e =
-        sym (bits ∙ ap (λ (y : GtidRead). pick (eqb type 42) (hasBit 1 (y .present) && hasBit 2 (y .present)) true) e ∙ sent-told type x)
+        sym (bits ∙ ap (λ (y : GtidRead). tellsId type (y .present)) e ∙ sent-told type x)
 
     pub named-sent : sent ≡ true → said ≡ gtidRead (named type s)
     unfolding named

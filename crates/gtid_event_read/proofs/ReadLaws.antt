@@ -1,5 +1,4 @@
--- Laws of reading by the event's type (`specs/Read.antt`): which layout is read, that what is used lies in the body, and what it is where the id is
--- asked for.
+-- Laws of reading by the event's type (`specs/Read.antt`): which layout is read, and that what is used lies in the body.
 use mathlib.Core.Path.{_≡_, sym}
 use mathlib.Core.Logic.{_⊎_, inl, inr}
 use mathlib.Core.Bool.{true, _||_}
@@ -98,6 +97,10 @@ module _ (s : List ℕ) where
   tagged-inside e = let t = tagged-parsed s e in rw (t .ends) (t .here)
 
 -- ---- what is seen is read in one of the two layouts
+
+pub one-of : (type : ℕ) → eqb type 33 || eqb type 34 ≡ true → (type ≡ 33) ⊎ (type ≡ 34)
+one-of type h = tests.split (eqb type 33) (λ is. inl (eqb-true type 33 is)) (λ isnt. inr (eqb-true type 34 (rw isnt at h)))
+
 pub seen-parsed {ℓ} : {X : Type ℓ} (type : ℕ) (s : List ℕ) {x : Seen} {next : ℕ} → seen type s ≡ parsed x next
     → (length s ≤ bodyLimit → (type ≡ 33) ⊎ (type ≡ 34) → (e : GtidEvent) → untagged s ≡ parsed e next → x ≡ untaggedSeen e → X)
     → (length s ≤ bodyLimit → type ≡ 42 → tagged s ≡ parsed x next → X) → X
@@ -106,13 +109,10 @@ seen-parsed type s {x} {next} p plain with-fields =
     let (short, q) = pick-parsed (leb (length s) bodyLimit) _ tooLong x next p in
     let fits : length s ≤ bodyLimit = leb-true (length s) bodyLimit short in
     pick-either (eqb type 33 || eqb type 34) q
-    (λ either r. let (e, u, is) = mapped-parsed untaggedSeen (untagged s) x next r in plain fits (one-of either) e u is)
+    (λ either r. let (e, u, is) = mapped-parsed untaggedSeen (untagged s) x next r in plain fits (one-of type either) e u is)
     (λ _ r. pick-either (eqb type 42) r (λ is u. with-fields fits (eqb-true type 42 is) u) (λ _. never))
-  where
-    one-of : eqb type 33 || eqb type 34 ≡ true → (type ≡ 33) ⊎ (type ≡ 34)
-    one-of h = tests.split (eqb type 33) (λ is. inl (eqb-true type 33 is)) (λ isnt. inr (eqb-true type 34 (rw isnt at h)))
 
-pub seen-inside : (type : ℕ) (s : List ℕ) {x : Seen} {next : ℕ} → seen type s ≡ parsed x next → next ≤ length s
+seen-inside : (type : ℕ) (s : List ℕ) {x : Seen} {next : ℕ} → seen type s ≡ parsed x next → next ≤ length s
 seen-inside type s p = seen-parsed type s p (λ _ _ e u is. untagged-inside s u) (λ _ _ u. tagged-inside s u)
 
 -- the record that reading tells

@@ -8,6 +8,7 @@ use Rattle.misc.specs.Pick.{pick}
 use Rattle.misc.specs.Refusal.{number, wrongType, absentId}
 use Rattle.misc.specs.Parse.{Parse, refuse, parsed, mapped, judged}
 use Rattle.misc.specs.Body.{ofBody}
+use Rattle.misc.specs.Mark.{hasBit}
 use Rattle.gtid_event.specs.Event.{noEvent}
 use Rattle.gtid_event.specs.declared.GtidEvent.{GtidEvent}
 use Rattle.gtid_event_read.specs.Seen.{Seen, untaggedSeen, bitsOf}
@@ -42,6 +43,10 @@ refusedRead refusal = record { refusal = refusal; used = 0; event = noEvent; pre
 abbrev pub gtidRead : Parse Seen → GtidRead
 gtidRead (refuse r) = refusedRead (number r)
 gtidRead (parsed x next) = record { refusal = 0; used = next; event = x .event; present = bitsOf (x .present) }
+
+-- whether an answer tells that the id was sent, where one is asked for
+abbrev pub tellsId : ℕ → ℕ → Bool
+tellsId type bits = pick (eqb type 42) (hasBit 1 bits && hasBit 2 bits) true
 
 abbrev pub untaggedRead : Parse GtidEvent → GtidRead
 untaggedRead p = gtidRead (mapped untaggedSeen p)

@@ -1,12 +1,8 @@
 // Reading a GTID event: types 33 and 34 untagged, 42 tagged.
 ghost use mathlib.Core.Path.{_≡_};
 ghost use denote.Ref.{ptr};
-ghost use lib.Dec.{eqb};
-ghost use mathlib.Core.Bool.{true, _&&_};
-ghost use Rattle.misc.specs.Pick.{pick};
-ghost use Rattle.misc.specs.Mark.{hasBit};
 ghost use Rattle.misc.specs.Body.{usedOf, unreadOf, onward};
-ghost use Rattle.gtid_event_read.specs.Read.{seen, gtid, named, refusedRead, gtidRead};
+ghost use Rattle.gtid_event_read.specs.Read.{seen, gtid, named, refusedRead, gtidRead, tellsId};
 use gtid_event::ANONYMOUS_GTID_EVENT;
 use gtid_event::GTID_EVENT;
 use gtid_event::GTID_TAGGED_LOG_EVENT;
@@ -68,7 +64,7 @@ pub fn read(event_type: u8, body: &[u8]) -> GtidRead
 
 // Whether the uuid and the gno, fields 1 and 2, were sent, where an event of this type sends fields.
 fn sends_id(event_type: u8, present: u16) -> bool
-    ensures { λ r. ⌜ r ≡ pick (eqb «event_type» 42) (hasBit 1 present && hasBit 2 present) true ⌝ }
+    ensures { λ r. ⌜ r ≡ tellsId «event_type» present ⌝ }
 {
     if event_type == GTID_TAGGED_LOG_EVENT {
         return (present / 2 % 2 == 1) & (present / 4 % 2 == 1);

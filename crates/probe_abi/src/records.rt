@@ -52,7 +52,7 @@ fn present_into(event_type: u8, body: &[u8], dump: &mut [u8], twin: &mut [u8]) -
         told = 0;
     }
     let mut used = UNSET;
-    let mut present = !0u16;
+    let mut present = 0xa5a5u16;
     let refusal = abi::gtid_read_present(event_type, body, twin, &mut used, &mut present);
     differs(wanted, refusal, used, dump, twin) | (present != told)
 }

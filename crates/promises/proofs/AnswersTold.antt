@@ -1,5 +1,5 @@
 -- The statements of `specs/Answers.antt`.
-use Prim.Native.Nat.{ℕ, _+_, _*_, _/_, _%_, _≤_}
+use Prim.Native.Nat.{ℕ, _+_, _-_, _*_, _/_, _%_, _≤_}
 use mathlib.Core.Path.{_≡_, refl, sym, ap}
 use mathlib.Core.Bool.{Bool}
 use mathlib.Core.List.{List, _++_}
@@ -8,7 +8,7 @@ use native.Mathlib.Omega.{arith}
 use lib.ListN.{length, drop, length-append, length-drop}
 use borrow.Author.Tests.{le-leb, ne-eqb}
 use Rattle.misc.specs.Refusal.{number}
-use Rattle.misc.specs.Parse.{Bytes, Parse, refuse, parsed}
+use Rattle.misc.specs.Parse.{Bytes, Parse, refuse, parsed, part}
 use Rattle.misc.specs.Signed.{meantBy, signedAt, naturalAt}
 use Rattle.misc.specs.Body.{bodyLimit}
 use Rattle.misc.proofs.Places.{From}
@@ -18,19 +18,23 @@ use Rattle.previous_gtids_event.specs.Layout.{EntryLaid}
 use Rattle.previous_gtids_event.proofs.Reading.{uuid-of, tag-of}
 use Rattle.previous_gtids_event.proofs.Laying.{entry-reads, interval-reads}
 use Rattle.previous_gtids_event.proofs.RoundTrip.{header-told}
+use Rattle.gtid_event.specs.declared.GtidEvent.{GtidEvent}
 use Rattle.gtid_event_read.specs.Seen.{Seen}
 use Rattle.gtid_event_read.specs.Read.{seen, gtid, named, gtidRead}
+use Rattle.gtid_event_read.proofs.FieldRanges.{fields-shaped}
+use Rattle.gtid_event_read.proofs.TaggedLaws.{tagged-parsed}
 use Rattle.gtid_event_read.proofs.PresentLaws.{named-parsed}
 use Rattle.gtid_event_write.specs.Write.{lengthOf}
 use Rattle.resume_set.specs.Answers.{eventOf}
-use Rattle.resume_set.proofs.AnswerLaws.{key-parts}
 use Rattle.listing.specs.EventText.{eventText}
-use Rattle.listing.proofs.EventTextLaws.{id-named}
+use Rattle.listing.proofs.EventTextLaws.{id-named, event-gtid}
+use Rattle.promises.specs.UntaggedLayout.{UntaggedLaid}
 use Rattle.promises.specs.Meaning.{RecordLaid}
 use Rattle.promises.specs.SetFaults.{NamingFault}
 use Rattle.promises.specs.Answers.{IntegersTold, EventsTold, BodiesTold, ListingTold}
 use Rattle.promises.proofs.Demand2.{laid-record-read, entries-mean}
-use Rattle.promises.proofs.IntegersExact.{write-writes}
+use Rattle.promises.proofs.WritingExact.{write-writes}
+use Rattle.promises.proofs.TaggedReads.{tagged-reads}
 use Rattle.promises.proofs.Naming.{naming-refused, naming-faulty, event-named, event-anonymous}
 use Rattle.promises.proofs.SetsExact.{take-in-forced}
 
@@ -114,15 +118,25 @@ not-35 type (RecordLaid.untagged _ (inl is) _ _) other = omega arith
 not-35 type (RecordLaid.untagged _ (inr is) _ _) other = omega arith
 not-35 type (RecordLaid.tagged _ is _) other = omega arith
 
+-- the uuid of a record that is laid out has 16 bytes
+plain-whole : {s : List ℕ} {e : GtidEvent} {used : ℕ} → UntaggedLaid s e used → length (e .sid) ≡ 16
+plain-whole (inl laid) = rw (laid .is) (laid .uuid-is)
+plain-whole (inr laid) = rw (laid .is) (laid .uuid-is)
+
+whole-uuid : {type : ℕ} {s : List ℕ} {x : Seen} {used : ℕ} → RecordLaid type s x used → length (x .event .sid) ≡ 16
+whole-uuid (RecordLaid.untagged few is laid none) = plain-whole laid
+whole-uuid {s = s} {x = x} {used = used} (RecordLaid.tagged few is laid) =
+    let t = tagged-parsed s (tagged-reads s x used laid) in
+    rw (t .is) (fields-shaped (t .last) (part s (t .start) (t .size - t .start)) (t .fields-read) .uuid)
+
 pub listing-told : ListingTold
 unfolding eventText
 listing-told = record {
+  alike = λ type body other. sym (event-gtid type body other);
   refused-event = λ type body n other fault.
       let (r, e, is) = naming-refused type body n fault in
       rw (ne-eqb type 35 other) (unfold eventOf in rw (e, is));
   refused-body = λ body n are fault. let (r, e, is) = take-in-forced body are n fault in rw (e, is);
-  named = λ type body e are n.
-      let read : gtid type body ≡ parsed e (n .used) = unfold gtid in rw (laid-record-read type body _ (n .used) (n .laid)) in
-      rw (ne-eqb type 35 (not-35 type (n .laid)), event-named type body n) (sym (id-named e (key-parts type body are read .0)));
+  named = λ type body e n. rw (ne-eqb type 35 (not-35 type (n .laid)), event-named type body n) (sym (id-named e (whole-uuid (n .laid))));
   anonymous = λ body x used laid. rw (event-anonymous 34 body laid refl);
 }

@@ -38,7 +38,8 @@ use Rattle.promises.proofs.Forces.{WriterRefuses}
 use Rattle.promises.proofs.Exactly.{short-exactly, writes-exactly}
 use Rattle.promises.proofs.Demand2.{laid-record-read, records-mean}
 use Rattle.promises.proofs.EventExact.{event-refused, event-faulty}
-use Rattle.promises.proofs.IntegersExact.{write-given, write-forced, write-writes, write-written, integers-exact}
+use Rattle.promises.proofs.WritingExact.{write-given, write-forced, write-writes, write-written}
+use Rattle.promises.proofs.IntegersExact.{integers-exact}
 use Rattle.promises.proofs.SetsExact.{apart, unfit-fault, fault-unfit, sets-exact, offers-exactly}
 use Rattle.promises.proofs.BodiesExact.{entry-good, headed-exact, bodies-exact}
 
@@ -211,6 +212,7 @@ archive-exact = record {
         λ answer. let (is, left) = both .1 answer in (ap numbersOf is, left),
       );
   «gtid_read» = read-exact;
+  «gtid_read_present» = read-exact;
   «gtid_write» = λ fields out. writes-exactly (writeOutput fields) out (FlatFault fields) (Event fields) (flat-given fields) (flat-forced fields)
       (flat-writes fields) (flat-written fields);
 }

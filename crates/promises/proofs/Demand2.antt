@@ -24,7 +24,7 @@ use Rattle.gtid_event_write.proofs.SizeLaws.{payload-agrees, payload-least}
 use Rattle.gtid_event_write.proofs.LayoutLaws.{length-tagged}
 use Rattle.gtid_event_laws.proofs.EventBack.{event-alone}
 use Rattle.gtid_event_laws.proofs.ReadWritable.{read-fits, read-writable}
-use Rattle.promises.proofs.IntegersExact.{write-writes}
+use Rattle.promises.proofs.WritingExact.{write-writes}
 use Rattle.promises.proofs.UntaggedReads.{untagged-reads}
 use Rattle.promises.proofs.UntaggedAccepted.{untagged-accepted}
 use Rattle.promises.proofs.TaggedReads.{tagged-reads}

@@ -1,20 +1,20 @@
 -- An event is refused with a number exactly where, by the layouts, a case of that number holds of its bytes.
 use Prim.Native.Nat.{ℕ, _≤_}
-use mathlib.Core.Path.{_≡_, refl}
-use mathlib.Core.Bool.{true, _||_}
+use mathlib.Core.Path.{refl}
+use mathlib.Core.Bool.{_||_}
 use mathlib.Core.List.{List}
-use mathlib.Core.Logic.{_⊎_, inl, inr}
+use mathlib.Core.Logic.{inl, inr}
 use lib.Dec.{eqb, leb}
 use lib.ListN.{length}
 use borrow.Author.Tests.{leb-true, leb-false, eqb-true, eqb-false, le-leb, lt-leb, ne-eqb}
 use Rattle.misc.specs.Refusal.{tooLong, wrongType}
 use Rattle.misc.specs.Parse.{Bytes}
 use Rattle.misc.specs.Body.{bodyLimit}
-use Rattle.packets.proofs.Tests.{split}
 use Rattle.gtid_sets.proofs.Bools.{or-false-parts}
 use Rattle.gtid_event_read.specs.Seen.{untaggedSeen}
 use Rattle.gtid_event_read.specs.Untagged.{untagged}
 use Rattle.gtid_event_read.specs.Read.{seen, gtidRead}
+use Rattle.gtid_event_read.proofs.ReadLaws.{one-of}
 use Rattle.promises.specs.Faults.{EventFault}
 use Rattle.promises.specs.Exact.{RefusesExactly}
 use Rattle.promises.proofs.Gives.{Gives, refuse-gives, pick-gives, mapped-gives}
@@ -45,7 +45,8 @@ event-faulty type s are =
     (λ short.
     let fits : length s ≤ bodyLimit = leb-true (length s) bodyLimit short in
     pick-gives (EventFault type s) (eqb type 33 || eqb type 34) _ _
-    (λ either. mapped-gives (EventFault type s) untaggedSeen (untagged s) (λ r e. EventFault.untagged fits (one-of either) (untagged-faulty s are (untagged-stops s are r e))))
+    (λ either. mapped-gives (EventFault type s) untaggedSeen (untagged s)
+    (λ r e. EventFault.untagged fits (one-of type either) (untagged-faulty s are (untagged-stops s are r e))))
     (λ neither.
     let (not-33, not-34) = or-false-parts (eqb type 33) (eqb type 34) neither in
     pick-gives (EventFault type s) (eqb type 42) _ _
@@ -53,9 +54,6 @@ event-faulty type s are =
     (λ not-42. refuse-gives (EventFault type s) wrongType
     (EventFault.wrongType fits (eqb-false type 33 not-33) (eqb-false type 34 not-34) (eqb-false type 42 not-42)))))
     (λ long. refuse-gives (EventFault type s) tooLong (EventFault.tooLong (leb-false (length s) bodyLimit long)))
-  where
-    one-of : eqb type 33 || eqb type 34 ≡ true → (type ≡ 33) ⊎ (type ≡ 34)
-    one-of h = split (eqb type 33) (λ is. inl (eqb-true type 33 is)) (λ isnt. inr (eqb-true type 34 (rw isnt at h)))
 
 pub event-exact : (type : ℕ) (s : List ℕ) → Bytes s → RefusesExactly (gtidRead (seen type s) .refusal) (EventFault type s)
 event-exact type s are =

@@ -134,8 +134,8 @@ left-out : (f : Offering) (t : Turn) → ((set : List ℕ) → kept f set t ≡ 
 left-out f t same set [] after = ap (λ s. keptAll f s after) (same set)
 left-out f t same set (b ∷ before) after = left-out f t same (kept f set b) before after
 
-stays : (t : Turn) (e : GtidEvent) → Bytes (t .body) → Names (t .type) (t .body) e → gnoTop ≤ e .gno → (set : List ℕ) → kept ours set t ≡ set
-stays t e are named over set = go (lentSet set) refl
+stays : (t : Turn) (e : GtidEvent) → Names (t .type) (t .body) e → gnoTop ≤ e .gno → (set : List ℕ) → kept ours set t ≡ set
+stays t e named over set = go (lentSet set) refl
   where
     go : (l : Lent) → lentSet set ≡ l → kept ours set t ≡ set
     go unfit lent = rw lent
@@ -147,5 +147,5 @@ highest = record {
   taken-in = λ body out es end are is has-end over. untaken end over body es are is has-end out;
   carried = carried;
   members = members;
-  passed-over = λ set before after t e are named over. left-out ours t (stays t e are named over) set before after;
+  passed-over = λ set before after t e named over. left-out ours t (stays t e named over) set before after;
 }

@@ -1,8 +1,8 @@
 -- The demands hold of what our functions promise. Demand 1: `integers-exact`, `events-exact`, `bodies-exact`, `reader-exact`, `sets-exact`,
 -- `listing-exact`, `archive-exact`, `offers-exactly`, `asks-exactly`, `sets-told`; `integers-told`, `events-told`, `bodies-told`, `listing-told`;
--- `presence`, `orders`, `zeros`, `outputs`, `rules` and `highest`. Demand 2: `records-mean`, `records-back`, `records-again`, `least-size`, `entries-back`, `entries-mean`,
--- `building`. Demand 3: `tells-history`, `replays`, `refusals-keep`. No two cases hold at once, and what is laid out has no fault (`OneOutcome`).
--- Wrong programs don't meet the demands (`ShutOut`, `Crowding`, `Absent`).
+-- `presence`, `orders`, `zeros`, `outputs`, `rules` and `highest`. Demand 2: `records-mean`, `records-back`, `records-again`, `least-size`,
+-- `entries-back`, `entries-mean`, `building`. Demand 3: `tells-history`, `replays`, `refusals-keep`. No two cases hold at once, and what is laid out
+-- has no fault (`OneOutcome`). Wrong programs don't meet the demands (`ShutOut`, `Crowding`, `Absent`).
 pub mod EdgesAgree
 -- the language: what is refused has its case, and a case forces its number
 pub mod Gives
@@ -32,6 +32,7 @@ pub mod BodyForced
 pub mod LimitsExact
 -- every public function
 pub mod IntegersExact
+pub mod WritingExact
 pub mod RecordsExact
 pub mod SetsExact
 pub mod SetsTold

@@ -1,7 +1,7 @@
 -- An event whose id is asked for is refused with a number exactly where a case of that number holds; else it names its id, or none.
 use Prim.Native.Nat.{ℕ}
 use mathlib.Core.Path.{_≡_, refl}
-use mathlib.Core.Bool.{Bool, true, false, _&&_, and-false}
+use mathlib.Core.Bool.{true, false, and-false}
 use mathlib.Core.List.{List}
 use mathlib.Core.Logic.{_⊎_, inl, inr, ⊎-elim}
 use lib.Dec.{eqb}
@@ -40,25 +40,26 @@ written-named e fits can =
 -- ---- what is asked for
 
 module _ (type : ℕ) (x : Seen) where
-  sends : (type ≡ 42 → (sentUuid x ≡ true) × (sentGno x ≡ true)) → sendsId type x ≡ true
+  sends : (type ≡ 42 → (sentUuid (x .present) ≡ true) × (sentGno (x .present) ≡ true)) → sendsId type x ≡ true
   sends both = split (eqb type 42) (λ is. let (u, g) = both (eqb-true type 42 is) in rw (is, u, g)) (λ other. rw other)
 
-  lacks : type ≡ 42 → (sentUuid x ≡ false) ⊎ (sentGno x ≡ false) → sendsId type x ≡ false
+  lacks : type ≡ 42 → (sentUuid (x .present) ≡ false) ⊎ (sentGno (x .present) ≡ false) → sendsId type x ≡ false
   lacks is (inl none) = rw (eq-eqb type 42 is, none)
-  lacks is (inr none) = rw (eq-eqb type 42 is, none) (and-false (sentUuid x))
+  lacks is (inr none) = rw (eq-eqb type 42 is, none) (and-false (sentUuid (x .present)))
 
-  pub sent-parts : sendsId type x ≡ true → type ≡ 42 → (sentUuid x ≡ true) × (sentGno x ≡ true)
-  sent-parts h is = and-true (sentUuid x) (sentGno x) (rw (eq-eqb type 42 is) at h)
+  sent-parts : sendsId type x ≡ true → type ≡ 42 → (sentUuid (x .present) ≡ true) × (sentGno (x .present) ≡ true)
+  sent-parts h is = and-true (sentUuid (x .present)) (sentGno (x .present)) (rw (eq-eqb type 42 is) at h)
 
-  lacking : sendsId type x ≡ false → (type ≡ 42) × ((sentUuid x ≡ false) ⊎ (sentGno x ≡ false))
+  lacking : sendsId type x ≡ false → (type ≡ 42) × ((sentUuid (x .present) ≡ false) ⊎ (sentGno (x .present) ≡ false))
   lacking h = pick-either (eqb type 42) h
-      (λ is f. (eqb-true type 42 is, split (sentUuid x) (λ u. inr (rw u at f)) (λ none. inl none)))
+      (λ is f. (eqb-true type 42 is, split (sentUuid (x .present)) (λ u. inr (rw u at f)) (λ none. inl none)))
       (λ _ f. clash refl f)
 
 -- ---- the cases
 
 module _ (type : ℕ) (body : List ℕ) where
-  absent-refused : {x : Seen} {used : ℕ} → RecordLaid type body x used → type ≡ 42 → (sentUuid x ≡ false) ⊎ (sentGno x ≡ false) → Refuses (named type body) 21
+  absent-refused : {x : Seen} {used : ℕ} → RecordLaid type body x used → type ≡ 42
+      → (sentUuid (x .present) ≡ false) ⊎ (sentGno (x .present) ≡ false) → Refuses (named type body) 21
   unfolding named
   absent-refused {x} {used} laid is none = is-refused absentId (rw (laid-record-read type body x used laid, lacks type x is none))
 
@@ -82,7 +83,7 @@ module _ (type : ℕ) (body : List ℕ) where
 
     -- what is not refused is laid out, and if it is tagged was sent with its id
     pub named-laid : (x : Seen) (used : ℕ) → named type body ≡ parsed x used
-        → RecordLaid type body x used × (type ≡ 42 → (sentUuid x ≡ true) × (sentGno x ≡ true))
+        → RecordLaid type body x used × (type ≡ 42 → (sentUuid (x .present) ≡ true) × (sentGno (x .present) ≡ true))
     named-laid x used read =
         let (told, sent) = named-parsed type body read in
         (records-mean type body x used are .0 told, sent-parts type x sent)

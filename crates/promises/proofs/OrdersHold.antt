@@ -6,10 +6,10 @@ use mathlib.Core.List.{List, _∷_, _++_}
 use mathlib.Core.Logic.{_⊎_, inl, inr}
 use native.Mathlib.Omega.{arith}
 use lib.Dec.{leb}
-use lib.ListN.{length, length-append}
+use lib.ListN.{length, replicate, length-append, length-replicate}
 use borrow.Author.Tests.{le-leb, lt-leb, le-ltb}
 use Rattle.misc.specs.Refusal.{Refusal, smallPayload, tooLong}
-use Rattle.misc.specs.Parse.{refuse}
+use Rattle.misc.specs.Parse.{Bytes, refuse}
 use Rattle.misc.specs.Body.{bodyLimit}
 use Rattle.misc.specs.Le.{leBytes}
 use Rattle.misc.specs.Forms.{Form}
@@ -29,16 +29,20 @@ use Rattle.gtid_sets.specs.Set.{add}
 use Rattle.gtid_sets.specs.Lent.{unfit, lentSet, SetLaid}
 use Rattle.gtid_sets.proofs.LentLaws.{is-lent}
 use Rattle.resume_set.specs.Answers.{eventOf, offered}
+use Rattle.resume_set.specs.declared.Offered.{Offered}
 use Rattle.resume_set.specs.declared.Offered.the-variants.{Refused}
+use Rattle.resume_set_laws.specs.History.{Turn}
+use Rattle.resume_set_laws.specs.Ours.{ours}
 use Rattle.abi.specs.Flat.{flatIdentity, flatClock, flatRest, flat}
 use Rattle.promises.specs.Faults.{ValueFault, FieldFault, TaggedFault, UntaggedFault, EventFault}
 use Rattle.promises.specs.Meaning.{RecordLaid}
-use Rattle.promises.specs.SetFaults.{keyOf, sentUuid, sentGno, NamingFault}
+use Rattle.promises.specs.PlainFaults.{ShortFault}
+use Rattle.promises.specs.SetFaults.{keyOf, sentUuid, sentGno, NamingFault, Accepts, OfferFault, OfferAnswer}
 use Rattle.promises.specs.Orders.{LongFirst, Orders, Zeros, Outputs}
 use Rattle.promises.proofs.TaggedRefused.{read-envelope, payload}
 use Rattle.promises.proofs.Naming.{naming-refused, event-named}
 use Rattle.promises.proofs.LimitsExact.{entry-limit}
-use Rattle.promises.proofs.SetsExact.{fault-unfit, body-read}
+use Rattle.promises.proofs.SetsExact.{apart, fault-unfit, body-read, offers-exactly}
 
 -- ---- which of several faults counts
 
@@ -95,7 +99,7 @@ event-next : (set : List ℕ) (s : List Entry) (type : ℕ) (body : List ℕ) (n
 event-next set s type body n room laid fault = naming-next set s type body n room laid (NamingFault.own fault)
 
 id-next : (set : List ℕ) (s : List Entry) (body : List ℕ) (x : Seen) (used room : ℕ) → SetLaid set s → RecordLaid 42 body x used
-    → (sentUuid x ≡ false) ⊎ (sentGno x ≡ false) → offered (lentSet set) (eventOf 42 body) room ≡ Refused 21 0
+    → (sentUuid (x .present) ≡ false) ⊎ (sentGno (x .present) ≡ false) → offered (lentSet set) (eventOf 42 body) room ≡ Refused 21 0
 id-next set s body x used room laid event (inl none) = naming-next set s 42 body 21 room laid (NamingFault.noUuid event refl none)
 id-next set s body x used room laid event (inr none) = naming-next set s 42 body 21 room laid (NamingFault.noGno event refl none)
 
@@ -139,10 +143,31 @@ small-event (EventFault.wrongType _ _ _ _) = omega arith
 small-event (EventFault.untagged _ _ fault) = omega (arith, small-untagged fault)
 small-event (EventFault.tagged _ _ fault) = omega (arith, small-tagged fault)
 
-tagged-alone : (type : ℕ) (body : List ℕ) → NamingFault type body 21 → type ≡ 42
-tagged-alone type body (NamingFault.own fault) = absurd (omega (arith, small-event fault))
-tagged-alone type body (NamingFault.noUuid laid is none) = is
-tagged-alone type body (NamingFault.noGno laid is none) = is
+naming-alone : {type n : ℕ} {body : List ℕ} → NamingFault type body n → n ≡ 21 → type ≡ 42
+naming-alone (NamingFault.own fault) this = absurd (omega (arith, small-event fault))
+naming-alone (NamingFault.noUuid laid is none) this = is
+naming-alone (NamingFault.noGno laid is none) this = is
+
+fault-alone : {set : List ℕ} {type : ℕ} {body : List ℕ} {room n len : ℕ} → OfferFault set type body room n len → n ≡ 21 → type ≡ 42
+fault-alone {set} {n = n} (OfferFault.badSet fault) this = absurd (omega (arith, fault-unfit set n fault .0))
+fault-alone (OfferFault.badEvent laid fault) this = naming-alone fault this
+fault-alone (OfferFault.gnoRule _ _ _) this = absurd (omega arith)
+fault-alone (OfferFault.crowdedEntry _ _ _ _ _) this = absurd (omega arith)
+fault-alone (OfferFault.overLimits _ _ _ _ _) this = absurd (omega arith)
+fault-alone (OfferFault.noRoom _ _ (ShortFault.short over)) this = absurd (omega arith)
+
+answer-alone : {set : List ℕ} {type : ℕ} {body out l : List ℕ} {a : Offered} → OfferAnswer set type body out a l → (len : ℕ) → a ≡ Refused 21 len → type ≡ 42
+answer-alone (OfferAnswer.refused fault) len e = fault-alone fault (let number : _ ≡ 21 = cc in number)
+answer-alone (OfferAnswer.accepted laid (Accepts.noId event is) room) len e = apart cc
+answer-alone (OfferAnswer.accepted laid (Accepts.already _ _ _) room) len e = apart cc
+answer-alone (OfferAnswer.accepted laid (Accepts.taken _ _ _ _) room) len e = apart cc
+
+tagged-alone : (set : List ℕ) (type : ℕ) (body : List ℕ) (room len : ℕ) → Bytes body
+    → offered (lentSet set) (eventOf type body) room ≡ Refused 21 len → type ≡ 42
+tagged-alone set type body room len are says =
+    let t : Turn = record { type = type; body = body; out = replicate room 0 } in
+    let said : ours .answers set t ≡ Refused 21 len = rw length-replicate says in
+    answer-alone (offers-exactly set t (Refused 21 len) (ours .leaves set t) are .0 (said, refl)) len refl
 
 pub orders : Orders
 orders =
@@ -156,9 +181,9 @@ orders =
       event-next = event-next;
       id-next = id-next;
       tagged-alone = tagged-alone;
-      gno-next = λ set s type body e room are laid named gno.
+      gno-next = λ set s type body e room laid named gno.
           rw (is-lent set s laid, event-named type body named, no-gno (e .gno) gno);
-      crowded-next = λ set s type body e room are laid named good new over.
+      crowded-next = λ set s type body e room laid named good new over.
           rw (is-lent set s laid, event-named type body named, good, new, entry-limit (add (keyOf e) (e .gno) s) .1 over);
     }
 

@@ -1,9 +1,9 @@
 -- The statements of `specs/Presence.antt` hold.
 use Prim.Native.Nat.{ℕ, _^_, _<_, _≤_}
 use mathlib.Core.Path.{_≡_, refl, sym, ap, _∙_}
-use mathlib.Core.Bool.{Bool, true, false, _||_, or-true}
+use mathlib.Core.Bool.{true, false, or-true}
 use mathlib.Core.List.{List, [], _∷_}
-use mathlib.Core.Logic.{_⊎_, inl, inr, ⊎-elim}
+use mathlib.Core.Logic.{inl, inr}
 use native.Mathlib.Omega.{arith}
 use lib.Dec.{leb, eqb}
 use lib.ListN.{length, getD}
@@ -21,21 +21,21 @@ use Rattle.abi.specs.Flat.{readPresent}
 use Rattle.promises.specs.TaggedLayout.{Sent, Value, FieldsLaid, idOf, sends, TaggedLaid}
 use Rattle.promises.specs.Meaning.{RecordLaid}
 use Rattle.promises.specs.Exact.{Exactly}
-use Rattle.promises.specs.Presence.{Field, bitOf, fieldOf, Has, Presence}
+use Rattle.promises.specs.Presence.{Field, fieldId, fieldOf, Has, Presence}
 use Rattle.promises.proofs.TaggedSaid.{listed}
 use Rattle.promises.proofs.Demand2.{laid-record-read, records-mean}
 use Rattle.promises.proofs.Naming.{written-named}
 
--- ---- names and bits
+-- ---- names and ids
 
--- the names by their bits
-abbrev named : List Field
-named =
+-- the names by their ids
+abbrev byId : List Field
+byId =
     Field.gtid-flags ∷ Field.uuid ∷ Field.gno ∷ Field.tag ∷ Field.last-committed ∷ Field.sequence-number
     ∷ Field.immediate-commit-timestamp ∷ Field.original-commit-timestamp ∷ Field.transaction-length
     ∷ Field.immediate-server-version ∷ Field.original-server-version ∷ Field.commit-group-ticket ∷ []
 
-back : (f : Field) → getD named (bitOf f) Field.gtid-flags ≡ f
+back : (f : Field) → getD byId (fieldId f) Field.gtid-flags ≡ f
 back Field.gtid-flags = refl
 back Field.uuid = refl
 back Field.gno = refl
@@ -49,7 +49,7 @@ back Field.immediate-server-version = refl
 back Field.original-server-version = refl
 back Field.commit-group-ticket = refl
 
-low : (f : Field) → bitOf f < 12
+low : (f : Field) → fieldId f < 12
 low Field.gtid-flags = omega arith
 low Field.uuid = omega arith
 low Field.gno = omega arith
@@ -64,7 +64,7 @@ low Field.original-server-version = omega arith
 low Field.commit-group-ticket = omega arith
 
 -- what a value says has the id that its field's name has
-value-id : {id : ℕ} {x : Sent} {bs : List ℕ} (v : Value id x bs) → idOf x ≡ bitOf (fieldOf v)
+value-id : {id : ℕ} {x : Sent} {bs : List ℕ} (v : Value id x bs) → idOf x ≡ fieldId (fieldOf v)
 value-id (Value.gtid-flags form few) = refl
 value-id (Value.uuid items size) = refl
 value-id (Value.gno form) = refl
@@ -80,27 +80,27 @@ value-id (Value.commit-group-ticket form) = refl
 
 -- ---- a field is among those that were sent just if the bytes have it
 
-sent-has : (f : Field) {last : ℕ} {told : List Sent} {bs : List ℕ} (laid : FieldsLaid last told bs) → sends (bitOf f) told ≡ true → Has f laid
+sent-has : (f : Field) {last : ℕ} {told : List Sent} {bs : List ℕ} (laid : FieldsLaid last told bs) → sends (fieldId f) told ≡ true → Has f laid
 sent-has f FieldsLaid.end h = clash h refl
 sent-has f (FieldsLaid.ignored rest form new over) h = clash h refl
-sent-has f (FieldsLaid.field {x = x} form value rest) h = split (eqb (idOf x) (bitOf f))
+sent-has f (FieldsLaid.field {x = x} form value rest) h = split (eqb (idOf x) (fieldId f))
     (λ is.
-    let same : bitOf (fieldOf value) ≡ bitOf f = sym (value-id value) ∙ eqb-true (idOf x) (bitOf f) is in
-    inl (sym (back (fieldOf value)) ∙ ap (λ (k : ℕ). getD named k Field.gtid-flags) same ∙ back f))
+    let same : fieldId (fieldOf value) ≡ fieldId f = sym (value-id value) ∙ eqb-true (idOf x) (fieldId f) is in
+    inl (sym (back (fieldOf value)) ∙ ap (λ (k : ℕ). getD byId k Field.gtid-flags) same ∙ back f))
     (λ other. inr (sent-has f rest (rw other at h)))
 
-has-sent : (f : Field) {last : ℕ} {told : List Sent} {bs : List ℕ} (laid : FieldsLaid last told bs) → Has f laid → sends (bitOf f) told ≡ true
-has-sent f (FieldsLaid.field {x = x} form value rest) (inl is) = rw (eq-eqb (idOf x) (bitOf f) (value-id value ∙ ap bitOf is))
-has-sent f (FieldsLaid.field {x = x} form value rest) (inr more) = rw (has-sent f rest more) (or-true (eqb (idOf x) (bitOf f)))
+has-sent : (f : Field) {last : ℕ} {told : List Sent} {bs : List ℕ} (laid : FieldsLaid last told bs) → Has f laid → sends (fieldId f) told ≡ true
+has-sent f (FieldsLaid.field {x = x} form value rest) (inl is) = rw (eq-eqb (idOf x) (fieldId f) (value-id value ∙ ap fieldId is))
+has-sent f (FieldsLaid.field {x = x} form value rest) (inr more) = rw (has-sent f rest more) (or-true (eqb (idOf x) (fieldId f)))
 
 bits : (s : List ℕ) (x : Seen) (used : ℕ) → length s ≤ bodyLimit → (laid : TaggedLaid s x used) → (f : Field)
-    → Exactly (hasBit (bitOf f) (gtidRead (seen 42 s) .present) ≡ true) (Has f (laid .fields-are))
+    → Exactly (hasBit (fieldId f) (gtidRead (seen 42 s) .present) ≡ true) (Has f (laid .fields-are))
 bits s x used few laid f =
     let told = laid .told in
     let read : seen 42 s ≡ parsed x used = laid-record-read 42 s x used (RecordLaid.tagged few refl laid) in
-    let bit : hasBit (bitOf f) (gtidRead (seen 42 s) .present) ≡ sends (bitOf f) told =
-    ap (λ (p : Parse Seen). hasBit (bitOf f) (gtidRead p .present)) read ∙ bit-of (bitOf f) (x .present)
-    ∙ ap (λ (y : Seen). getD (y .present) (bitOf f) false) (laid .is) ∙ sym (listed told (bitOf f) (low f)) in (
+    let bit : hasBit (fieldId f) (gtidRead (seen 42 s) .present) ≡ sends (fieldId f) told =
+    ap (λ (p : Parse Seen). hasBit (fieldId f) (gtidRead p .present)) read ∙ bit-of (fieldId f) (x .present)
+    ∙ ap (λ (y : Seen). getD (y .present) (fieldId f) false) (laid .is) ∙ sym (listed told (fieldId f) (low f)) in (
       λ set. sent-has f (laid .fields-are) (sym bit ∙ set),
       λ there. bit ∙ has-sent f (laid .fields-are) there,
     )

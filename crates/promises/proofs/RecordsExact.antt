@@ -3,7 +3,7 @@ use Rattle.promises.specs.PlainFaults.{RecordFault}
 use Rattle.promises.specs.Exact.{EventsExact}
 use Rattle.gtid_event_write.specs.Write.{eventOutput}
 use Rattle.promises.proofs.Exactly.{writes-exactly}
-use Rattle.promises.proofs.IntegersExact.{tag-exact, new-exact, length-exact, write-given, write-forced, write-writes, write-written}
+use Rattle.promises.proofs.WritingExact.{tag-exact, new-exact, length-exact, write-given, write-forced, write-writes, write-written}
 use Rattle.promises.proofs.EventExact.{event-exact}
 use Rattle.promises.proofs.Naming.{naming-exact}
 

@@ -151,5 +151,6 @@ pub seen-said : (told : List Sent) → seenOf (keptAll noFields told) ≡ seenIn
 seen-said told =
     let long : length (keptAll noFields told .present) ≡ 12 = present-long told noFields in
     let present : keptAll noFields told .present ≡ sentFields told =
-    ext-getD false (keptAll noFields told .present) (sentFields told) long (λ id h. let few : id < 12 = omega arith in sent-at told id few ∙ listed told id few) in
+    ext-getD false (keptAll noFields told .present) (sentFields told) long (λ id h.
+    let few : id < 12 = omega arith in sent-at told id few ∙ listed told id few) in
     rw (record-said told, present)

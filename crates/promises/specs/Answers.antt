@@ -26,7 +26,7 @@ use Rattle.gtid_event_write.specs.Write.{eventOutput, lengthOf}
 use Rattle.gtid_sets.specs.Run.{names, anonymous}
 use Rattle.resume_set.specs.Answers.{eventOf}
 use Rattle.listing.specs.SetText.{newline}
-use Rattle.listing.specs.EventText.{anonymousWord, refusedText, recordText, eventText}
+use Rattle.listing.specs.EventText.{anonymousWord, refusedText, recordText, gtidText, eventText}
 use Rattle.promises.specs.Meaning.{RecordLaid}
 use Rattle.promises.specs.SetFaults.{keyOf, NamingFault, Names, TakeInFault}
 
@@ -91,8 +91,10 @@ pub record BodiesTold : Type 0 where
 -- ---- the listing: beside a Previous-GTIDs event that is taken in, which `Told` has
 
 pub record ListingTold : Type 0 where
+  -- it shows what an offer sees, and so the same refusals of an event
+  pub alike : (type : ℕ) (body : List ℕ) → (type ≡ 35 → ⊥) → eventText type body ≡ gtidText (eventOf type body)
   pub refused-event : (type : ℕ) (body : List ℕ) (n : ℕ) → (type ≡ 35 → ⊥) → NamingFault type body n → eventText type body ≡ refusedText n
   pub refused-body : (body : List ℕ) (n : ℕ) → Bytes body → TakeInFault body n → eventText 35 body ≡ refusedText n
-  pub named : (type : ℕ) (body : List ℕ) (e : GtidEvent) → Bytes body → Names type body e → eventText type body ≡ recordText e
+  pub named : (type : ℕ) (body : List ℕ) (e : GtidEvent) → Names type body e → eventText type body ≡ recordText e
   pub anonymous : (body : List ℕ) (x : Seen) (used : ℕ) → RecordLaid 34 body x used
       → eventText 34 body ≡ anonymousWord ++ (newline ∷ [])

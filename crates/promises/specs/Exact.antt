@@ -153,6 +153,12 @@ pub data FlatFault (fields : List ℕ) : ℕ → Type 0 where
   otherSize : (length fields ≡ 116 → ⊥) → FlatFault fields 12
   badRecord : {n : ℕ} → length fields ≡ 116 → RecordFault (flatRead fields) n → FlatFault fields n
 
+-- a record that is read into 116 bytes: what is answered for 13 in the place of the bytes used is the length that is needed
+abbrev pub FlatReadExact : Type 0
+FlatReadExact = (type : ℕ) (body out : List ℕ) → Bytes body
+    → WritesExactly (record { refusal = answerOf out (readOutput (gtid type body)) .refusal; len = readUsed (gtid type body) (length out) })
+    (WriteFault (EventFault type body) (λ bs. (x : Seen) × (used : ℕ) × RecordLaid type body x used × (bs ≡ flat (x .event))) (length out))
+
 pub record ArchiveExact : Type 0 where
   pub «gtid_read_varlen_uint» : (s : List ℕ) → Bytes s → RefusesExactly (uintRead (varlenAt s 0) .refusal) (VarlenFault s)
   pub «gtid_check_set» : (set : List ℕ) → RefusesExactly (setRead (lentSet set) .refusal) (SetFault set)
@@ -168,11 +174,8 @@ pub record ArchiveExact : Type 0 where
   pub «gtid_offer» : (set : List ℕ) (type : ℕ) (body out : List ℕ) (a : Offered) (l : List ℕ) → Bytes body
       → Exactly ((numbersOf (offerAnswers set type body out) ≡ numbersOf a)
       × (offerLeaves set type body out ≡ l)) (OfferAnswer set type body out a l)
-  -- what it answers for 13 in the place of the bytes used is the length that is needed. `gtid_read_present` promises the same and tells the fields
-  -- (`Presence`)
-  pub «gtid_read» : (type : ℕ) (body out : List ℕ) → Bytes body
-      → WritesExactly (record { refusal = answerOf out (readOutput (gtid type body)) .refusal; len = readUsed (gtid type body) (length out) })
-      (WriteFault (EventFault type body) (λ bs. (x : Seen) × (used : ℕ) × RecordLaid type body x used × (bs ≡ flat (x .event))) (length out))
+  pub «gtid_read» : FlatReadExact
+  pub «gtid_read_present» : FlatReadExact
   pub «gtid_write» : (fields out : List ℕ)
       → WritesExactly (answerOf out (writeOutput fields))
       (WriteFault (FlatFault fields) (λ bs. (length fields ≡ 116) × (writable (flatRead fields) ≡ true) × (bs ≡ eventBytes (flatRead fields))) (length out))

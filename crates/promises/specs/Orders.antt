@@ -25,7 +25,7 @@ use Rattle.gtid_event.specs.Event.{noEvent, withTag, newTagged}
 use Rattle.gtid_event.specs.declared.GtidEvent.{GtidEvent}
 use Rattle.gtid_event_read.specs.Seen.{Seen}
 use Rattle.gtid_event_read.specs.Tagged.{tagged}
-use Rattle.gtid_event_read.specs.Read.{seen, gtid, gtidRead}
+use Rattle.gtid_event_read.specs.Read.{seen, gtidRead}
 use Rattle.gtid_event_write.specs.Writable.{writable}
 use Rattle.gtid_event_write.specs.Write.{eventOutput, lengthOf}
 use Rattle.gtid_sets.specs.Set.{has, add}
@@ -38,7 +38,7 @@ use Rattle.resume_set.specs.declared.Offered.the-variants.{Refused}
 use Rattle.abi.specs.Flat.{flat}
 use Rattle.promises.specs.Faults.{EventFault}
 use Rattle.promises.specs.Meaning.{RecordLaid}
-use Rattle.promises.specs.SetFaults.{SetFault, BodyIs, keyOf, sentUuid, sentGno, NamingFault, Names}
+use Rattle.promises.specs.SetFaults.{SetFault, BodyIs, keyOf, sentUuid, sentGno, Names}
 
 -- ---- which of several faults counts
 
@@ -72,14 +72,15 @@ pub record Orders : Type 0 where
       → offered (lentSet set) (eventOf type body) room ≡ Refused n 0
   -- then 21, of a tagged event that is in order: whatever gno its record shows, and whatever the output
   pub id-next : (set : List ℕ) (s : List Entry) (body : List ℕ) (x : Seen) (used room : ℕ) → SetLaid set s → RecordLaid 42 body x used
-      → (sentUuid x ≡ false) ⊎ (sentGno x ≡ false) → offered (lentSet set) (eventOf 42 body) room ≡ Refused 21 0
-  -- and never of another
-  pub tagged-alone : (type : ℕ) (body : List ℕ) → NamingFault type body 21 → type ≡ 42
+      → (sentUuid (x .present) ≡ false) ⊎ (sentGno (x .present) ≡ false) → offered (lentSet set) (eventOf 42 body) room ≡ Refused 21 0
+  -- and never of another, whatever the set
+  pub tagged-alone : (set : List ℕ) (type : ℕ) (body : List ℕ) (room len : ℕ) → Bytes body → offered (lentSet set) (eventOf type body) room ≡ Refused 21 len
+      → type ≡ 42
   -- then 15, whatever the set holds and whatever the output: "already there", 17 and 16 are judged after it
-  pub gno-next : (set : List ℕ) (s : List Entry) (type : ℕ) (body : List ℕ) (e : GtidEvent) (room : ℕ) → Bytes body → SetLaid set s → Names type body e
+  pub gno-next : (set : List ℕ) (s : List Entry) (type : ℕ) (body : List ℕ) (e : GtidEvent) (room : ℕ) → SetLaid set s → Names type body e
       → (e .gno ≡ 0) ⊎ (gnoTop ≤ e .gno) → offered (lentSet set) (eventOf type body) room ≡ Refused 15 0
   -- then 17, whatever else would be passed and whatever the output
-  pub crowded-next : (set : List ℕ) (s : List Entry) (type : ℕ) (body : List ℕ) (e : GtidEvent) (room : ℕ) → Bytes body → SetLaid set s → Names type body e
+  pub crowded-next : (set : List ℕ) (s : List Entry) (type : ℕ) (body : List ℕ) (e : GtidEvent) (room : ℕ) → SetLaid set s → Names type body e
       → isGno (e .gno) ≡ true → has s (keyOf e) (e .gno) ≡ false → EntryOver 1024 (add (keyOf e) (e .gno) s)
       → offered (lentSet set) (eventOf type body) room ≡ Refused 17 0
 

@@ -38,19 +38,20 @@ pub data Field : Type 0 where
   original-server-version : Field
   commit-group-ticket : Field
 
-abbrev pub bitOf : Field → ℕ
-bitOf Field.gtid-flags = 0
-bitOf Field.uuid = 1
-bitOf Field.gno = 2
-bitOf Field.tag = 3
-bitOf Field.last-committed = 4
-bitOf Field.sequence-number = 5
-bitOf Field.immediate-commit-timestamp = 6
-bitOf Field.original-commit-timestamp = 7
-bitOf Field.transaction-length = 8
-bitOf Field.immediate-server-version = 9
-bitOf Field.original-server-version = 10
-bitOf Field.commit-group-ticket = 11
+-- the id of a field, and so the bit that tells of it
+abbrev pub fieldId : Field → ℕ
+fieldId Field.gtid-flags = 0
+fieldId Field.uuid = 1
+fieldId Field.gno = 2
+fieldId Field.tag = 3
+fieldId Field.last-committed = 4
+fieldId Field.sequence-number = 5
+fieldId Field.immediate-commit-timestamp = 6
+fieldId Field.original-commit-timestamp = 7
+fieldId Field.transaction-length = 8
+fieldId Field.immediate-server-version = 9
+fieldId Field.original-server-version = 10
+fieldId Field.commit-group-ticket = 11
 
 -- the field that a value of the layout's table is of
 abbrev pub fieldOf : {id : ℕ} {x : Sent} {bs : List ℕ} → Value id x bs → Field
@@ -76,7 +77,7 @@ Has f (FieldsLaid.field form value rest) = (fieldOf value ≡ f) ⊎ Has f rest
 pub record Presence : Type 0 where
   -- the bit of a field is set exactly if the event has it
   pub bits : (s : List ℕ) (x : Seen) (used : ℕ) → length s ≤ bodyLimit → (laid : TaggedLaid s x used) → (f : Field)
-      → Exactly (hasBit (bitOf f) (gtidRead (seen 42 s) .present) ≡ true) (Has f (laid .fields-are))
+      → Exactly (hasBit (fieldId f) (gtidRead (seen 42 s) .present) ≡ true) (Has f (laid .fields-are))
   -- there are no other bits
   pub twelve : (type : ℕ) (s : List ℕ) → Bytes s → gtidRead (seen type s) .present < 2 ^ 12
   -- the archive tells the same where there is room for the record, and else nothing

@@ -1,4 +1,4 @@
--- Wrong programs that the demands shut out: `proofs/ShutOut.antt`.
+-- Wrong programs that the demands shut out: `ShutOut`, `Crowding` and `Absent` of proofs/.
 use Prim.Native.Nat.{ℕ, _+_}
 use mathlib.Core.Bool.{Bool, false, _&&_}
 use mathlib.Core.List.{List, [], _∷_, _++_}
@@ -17,12 +17,13 @@ use Rattle.gtid_event.specs.declared.EventStep.{EventStep}
 use Rattle.gtid_event.specs.declared.GtidEvent.{GtidEvent}
 use Rattle.gtid_event.specs.Event.{undefinedVersion, fresh, newUntagged, tagged, setNumber, withTag}
 use Rattle.gtid_event_read.specs.Seen.{Seen, untaggedSeen}
-use Rattle.gtid_event_read.specs.Read.{seen}
+use Rattle.gtid_event_read.specs.Read.{seen, gtid}
 use Rattle.gtid_event_write.specs.Writable.{writable}
 use Rattle.gtid_event_write.specs.Layout.{fieldBytes}
 use Rattle.gtid_event_write.specs.Write.{eventOutput}
 use Rattle.gtid_sets.specs.Run.{Event, anonymous, broken, names}
-use Rattle.resume_set.specs.Answers.{eventOf}
+use Rattle.gtid_sets.specs.Lent.{lentSet}
+use Rattle.resume_set.specs.Answers.{says, eventOf, offered, output}
 use Rattle.resume_set.specs.declared.Offered.{Offered}
 use Rattle.resume_set.specs.declared.Offered.the-variants.{NoId, AlreadyThere, Taken, Refused}
 use Rattle.resume_set_laws.specs.History.{Offering}
@@ -147,28 +148,44 @@ renumbered due instead (AlreadyThere len) = AlreadyThere len
 renumbered due instead (Taken len) = Taken len
 renumbered due instead (Refused n len) = Refused (pick (eqb n due) instead n) len
 
-abbrev pub saysInstead : ℕ → ℕ → Offering
-saysInstead due instead = record { answers = λ set t. renumbered due instead (ours .answers set t); leaves = ours .leaves }
+-- that, to events of one type
+abbrev pub saysInstead : ℕ → ℕ → ℕ → Offering
+saysInstead type due instead =
+    record { answers = λ set t. pick (eqb (t .type) type) (renumbered due instead (ours .answers set t)) (ours .answers set t); leaves = ours .leaves }
 
 -- 16 before 17
 abbrev pub saysFull : Offering
-saysFull = saysInstead 17 16
+saysFull = saysInstead 33 17 16
 
 -- 15 before 21: the gno that a record shows for an absent one breaks the gno rule
 abbrev pub judgesAbsentGno : Offering
-judgesAbsentGno = saysInstead 21 15
+judgesAbsentGno = saysInstead 42 21 15
 
--- 21 for a gno that was sent as 0, also by an untagged event
+-- 21 for a gno that was sent as 0; and by an untagged event
 abbrev pub takesZeroForAbsent : Offering
-takesZeroForAbsent = saysInstead 15 21
+takesZeroForAbsent = saysInstead 42 15 21
+
+abbrev pub asksUntagged : Offering
+asksUntagged = saysInstead 33 15 21
 
 -- 21 before 7
 abbrev pub asksIdBeforeTag : Offering
-asksIdBeforeTag = saysInstead 7 21
+asksIdBeforeTag = saysInstead 42 7 21
 
--- version 2, the size, last non-ignorable id 0, and: the tag "a"; the zero uuid, the gno 0 and the tag; nothing
+-- takes the record as it is read, and zeros for what was not sent, as offers did before CR 6
+abbrev pub takesAbsentForZero : Offering
+takesAbsentForZero =
+    record {
+      answers = λ set t. offered (lentSet set) (says (t .type) (gtid (t .type) (t .body))) (length (t .out));
+      leaves = λ set t. outputOf (t .out) (output (lentSet set) (says (t .type) (gtid (t .type) (t .body))));
+    }
+
+-- version 2, the size, last non-ignorable id 0, and: the tag "a"; the gno 1 and the tag; the zero uuid, the gno 0 and the tag; nothing
 abbrev pub tagAlone : List ℕ
 tagAlone = 2 ∷ 12 ∷ 0 ∷ 6 ∷ 2 ∷ 97 ∷ []
+
+abbrev pub noUuid : List ℕ
+noUuid = 2 ∷ 16 ∷ 0 ∷ 4 ∷ 4 ∷ 6 ∷ 2 ∷ 97 ∷ []
 
 abbrev pub zeroGno : List ℕ
 zeroGno = (2 ∷ 50 ∷ 0 ∷ 2 ∷ []) ++ replicate 16 0 ++ (4 ∷ 0 ∷ 6 ∷ 2 ∷ 97 ∷ [])

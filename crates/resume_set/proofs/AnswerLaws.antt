@@ -9,7 +9,7 @@ use borrow.Author.Tests.{eq-eqb, ne-eqb, ltb-true, ltb-false}
 use lib.Dec.{leb, ltb}
 use lib.ListN.{length, take, length-append, length-replicate}
 use Rattle.misc.specs.Refusal.{Refusal, refusal, number}
-use Rattle.misc.specs.Parse.{Parse, refuse, parsed}
+use Rattle.misc.specs.Parse.{refuse, parsed}
 use Rattle.misc.specs.Output.{bytes, outputOf, answerOf, Placed, WhereFits}
 use Rattle.misc.specs.declared.Wrote.{Wrote}
 use Rattle.misc.proofs.ParseLaws.{no-zero}
@@ -23,7 +23,6 @@ use Rattle.previous_gtids_event.specs.Entry.{Entry}
 use Rattle.previous_gtids_event.specs.Previous.{noneOrTag}
 use Rattle.previous_gtids_event.specs.Rewrite.{bodyBytes}
 use Rattle.gtid_event.specs.declared.GtidEvent.{GtidEvent}
-use Rattle.gtid_event_read.specs.Seen.{Seen}
 use Rattle.gtid_event_read.specs.Read.{recordIn, gtid, named, gtidRead}
 use Rattle.gtid_event_read.specs.declared.GtidRead.{GtidRead}
 use Rattle.gtid_event_read.proofs.Telling.{refused-by, gtid-told}
@@ -221,7 +220,8 @@ module _ (s : List Entry) (k : Key) (n : ℕ) (out : List ℕ) where
 
 -- ---- an event
 
-broken-offer : (bs out : List ℕ) (type : ℕ) (body : List ℕ) (r : ℕ) (x : Refusal) → lentSet bs ≡ form (setOf bs) → recordIn (named type body) ≡ refuse x → r ≡ number x
+broken-offer : (bs out : List ℕ) (type : ℕ) (body : List ℕ) (r : ℕ) (x : Refusal)
+    → lentSet bs ≡ form (setOf bs) → recordIn (named type body) ≡ refuse x → r ≡ number x
     → (Refused r 0 ≡ offered (lentSet bs) (eventOf type body) (length out)) × (out ≡ outputOf out (output (lentSet bs) (eventOf type body)))
 unfolding eventOf outputOf
 broken-offer bs out type body r x l e n = rw (l, e, n) (refl, refl)

@@ -68,11 +68,12 @@ takeInLeaves body out = outputOf out (takenIn (previous body))
 
 -- ---- `offer`
 
--- what a GTID event says; one that was sent without its id, if it is tagged, is refused
+-- what a record says, by its event's type
 abbrev pub says : ℕ → Parse GtidEvent → Event
 says type (refuse r) = broken r
 says type (parsed e next) = pick (eqb type 34) anonymous (names (e .sid ++ take (e .«tag_len») (e .tag)) (e .gno))
 
+-- what a GTID event says: a tagged one that was sent without its uuid or its gno is refused
 unfoldable pub eventOf : ℕ → List ℕ → Event
 eventOf type body = says type (recordIn (named type body))
 

@@ -63,7 +63,8 @@ grants (AlreadyThere len) = true
 grants (Taken len) = true
 grants (Refused n len) = false
 
--- whether the id is that of an event which was so answered; an event's id is the one that is read in it (by its layout: `Answers` of promises)
+-- whether the id is that of an event which was so answered; an event's id is the one that was sent in it (by its layout: `named` of `Answers` of
+-- promises)
 abbrev pub granted : Offering → List ℕ → List Turn → Key → ℕ → Bool
 granted f set [] k n = false
 granted f set (t ∷ ts) k n = (grants (f .answers set t) && isOf (eventOf (t .type) (t .body)) k n) || granted f (kept f set t) ts k n

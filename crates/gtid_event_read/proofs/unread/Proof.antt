@@ -11,7 +11,6 @@ use borrow.Author.Needs.{needs}
 use Rattle.misc.specs.Body.{usedOf, unreadOf, onward}
 use Rattle.misc.specs.Parse.{Parse}
 use Rattle.gtid_event.specs.declared.GtidEvent.{GtidEvent}
-use Rattle.gtid_event_read.specs.Read.{gtid}
 use Rattle.gtid_event_read.proofs.ReadLaws.{gtid-inside, gtid-said}
 use Rattle.gtid_event_read.proofs.Telling.{refused-by}
 use Rattle.gtid_event_read.proofs.unread.Statement.{statement}

@@ -1,14 +1,12 @@
 -- `resume_set::offer` meets its contract.
-use Prim.Native.Nat.{_≤_}
-use mathlib.Core.Path.{_≡_, sym}
+use mathlib.Core.Path.{sym}
 use native.Mathlib.Omega.{arith}
 use lib.Seq.{length-take-le}
-use lib.ListN.{length}
 use denote.Ref.{now}
 use borrow.Author.Needs.{needs}
 use Rattle.resume_set.specs.Find.{Fits}
 use Rattle.resume_set.specs.Answers.{eventOf}
-use Rattle.resume_set.proofs.AnswerLaws.{check-told, check-unfit, named-parts, offer-broken, offer-none, offer-some, offer-unfit}
+use Rattle.resume_set.proofs.AnswerLaws.{check-told, check-unfit, KeyParts, named-parts, offer-broken, offer-none, offer-some, offer-unfit}
 use Rattle.resume_set.proofs.offer.Statement.{statement}
 use Rattle.resume_set.proofs.offer.Tie as tie
 
@@ -17,8 +15,7 @@ fits : (c : tie.Else1) → Fits (now (c .before .before .before .before .before 
 fits c = check-told (now (c .before .before .before .before .before .args .set)) (c .before .check .result) (c .before .check .ensures) (c .if1 .left)
 
 -- the parts of the event's key
-parts : (c : tie.Else2)
-    → let e = c .before .read-named .result .event in (length (e .sid) ≡ 16) × (e .«tag_len» ≤ 32) × (length (e .tag) ≡ 32)
+parts : (c : tie.Else2) → KeyParts (c .before .read-named .result .event)
 parts c =
     let a = c .before .before .before .before .before .before .before .args in
     named-parts (a .event-type) (now (a .body)) (c .before .read-named .result) (c .before .read-named .ensures) (c .if2 .left) (λ i. c .before .before .before .before .before .shared-slice-known2 .given i .fits)
