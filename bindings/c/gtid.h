@@ -116,7 +116,8 @@ uint8_t gtid_list(const uint8_t *input, size_t input_len, uint8_t *out, size_t o
 
 /* Reads the body of a GTID event (type 33, 34 or 42): writes its record, GTID_RECORD_LEN bytes, and `*used` is how many bytes
  * of the body it takes. Refuses with 8, with what the body is refused for (1 to 11; then `*used` is 0), and with 13 if there
- * is no room for the record (then `*used` is GTID_RECORD_LEN). */
+ * is no room for the record (then `*used` is GTID_RECORD_LEN). A number that is 0 in the record of a tagged event may have been
+ * sent as 0, or not at all: gtid_read_present tells. */
 uint8_t gtid_read(uint8_t event_type, const uint8_t *body, size_t body_len, uint8_t *record, size_t record_len, size_t *used);
 
 /* The fields of a tagged event (type 42), by MySQL's names: bit k for the field with id k. Where a gno is present,

@@ -89,6 +89,10 @@ smallThen size rest =
 abbrev smallBytes : List ℕ
 smallBytes = smallThen 74 (12 ∷ 0 ∷ 16 ∷ 0 ∷ 18 ∷ 0 ∷ [])
 
+-- with fields 7, 10 and 11
+abbrev moreBytes : List ℕ
+moreBytes = smallThen 86 (12 ∷ 2 ∷ 14 ∷ 4 ∷ 16 ∷ 0 ∷ 18 ∷ 2 ∷ 20 ∷ 4 ∷ 22 ∷ 6 ∷ [])
+
 -- `small` with immediate timestamp and version 1, one original for both, and a ticket
 abbrev smallWith : ℕ → ℕ → GtidEvent
 smallWith original ticket = setNumber 6 1 (setNumber 7 original (setNumber 9 1 (setNumber 10 original (setNumber 11 ticket small))))
@@ -196,11 +200,12 @@ edges =
     ∷ edge (eventBytes (plain 258 80400)) (plainBytes 0 [] [])
     ∷ edge (eventBytes (plain 259 80401)) (plainBytes 0x80 (3 ∷ 1 ∷ replicate 5 0) (0x11 ∷ 0x3A ∷ 1 ∷ 0 ∷ []))
     -- tagged, other originals and a ticket: 43 bytes with fields 7, 10 and 11; equal originals and no ticket: 37 without them
-    ∷ edge (eventBytes (smallWith 2 3)) (smallThen 86 (12 ∷ 2 ∷ 14 ∷ 4 ∷ 16 ∷ 0 ∷ 18 ∷ 2 ∷ 20 ∷ 4 ∷ 22 ∷ 6 ∷ []))
+    ∷ edge (eventBytes (smallWith 2 3)) moreBytes
     ∷ edge (only (length (eventBytes (smallWith 2 3)))) (only 43)
     ∷ edge (eventBytes (smallWith 1 0)) (smallThen 74 (12 ∷ 2 ∷ 16 ∷ 0 ∷ 18 ∷ 2 ∷ []))
-    -- which fields these two are sent with, as reading tells it: 4,095, all twelve; 895, all but 7, 10 and 11. The tag "a" alone: 8. An untagged event: 0
-    ∷ edge (only (present 42 (smallThen 86 (12 ∷ 2 ∷ 14 ∷ 4 ∷ 16 ∷ 0 ∷ 18 ∷ 2 ∷ 20 ∷ 4 ∷ 22 ∷ 6 ∷ [])))) (only 4095)
+    -- which fields were sent, as reading tells it: of the 43 bytes 4,095, all twelve; of `small` 895, all but 7, 10 and 11; of the tag "a" alone 8; of
+    -- an untagged event 0
+    ∷ edge (only (present 42 moreBytes)) (only 4095)
     ∷ edge (only (present 42 smallBytes)) (only 895)
     ∷ edge (only (present 42 (2 ∷ 12 ∷ 0 ∷ 6 ∷ 2 ∷ 97 ∷ []))) (only 8)
     ∷ edge (only (present 33 (replicate 25 0))) (only 0)
