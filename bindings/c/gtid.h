@@ -146,7 +146,8 @@ uint8_t gtid_read_present(uint8_t event_type, const uint8_t *body, size_t body_l
 
 /* Writes the body of the event that a record describes, of type 42 if it has a tag, else 33: at most GTID_LONGEST_EVENT bytes.
  * A typecode counts only if the byte before it isn't 0. Refuses with 12 if the record hasn't exactly GTID_RECORD_LEN bytes, or
- * wouldn't come back equal from the body that would be written; and with 13. */
+ * wouldn't come back equal from the body that would be written; and with 13. A uuid or a number that was absent where the record
+ * was read is written as zeros, and has been sent then: so an event is offered as it came, not written again. */
 uint8_t gtid_write(const uint8_t *record, size_t record_len, uint8_t *out, size_t out_len, size_t *len);
 
 #ifdef __cplusplus

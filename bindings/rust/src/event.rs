@@ -188,6 +188,9 @@ impl GtidEvent {
 
     /// Writes the record as the body of an event of the type that [`event_type`](GtidEvent::event_type) tells.
     ///
+    /// A record doesn't know which fields it was read from: a uuid or a number that was absent is written as zeros, and has been sent then.
+    /// So an event is offered as it came, not written again.
+    ///
     /// # Errors
     ///
     /// [`Refusal::NotWritable`] if the record would not come back equal from what would be written.
