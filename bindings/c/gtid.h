@@ -51,6 +51,27 @@ uint8_t gtid_contains(const uint8_t *set, size_t set_len, const uint8_t *uuid, s
  * entries or 2,560 intervals in all) and 13. */
 uint8_t gtid_take_in(const uint8_t *body, size_t body_len, uint8_t *out, size_t out_len, size_t *len);
 
+/* Write a set made of two, at most GTID_LONGEST_SET bytes: gtid_either the ids that are in either set, gtid_both those that are
+ * in both, gtid_without those of the first that aren't in the second. Sets with the same ids have the same bytes, however they
+ * were made. The two may be the same bytes, or overlap: they are only read.
+ * Each refuses with 14 if the first bytes are no set, and then with 14 if the second are none. The rest is judged of the result
+ * alone: 17 (an entry of it would have more than 1,024 intervals), 16 (it would have more than 384 entries or 2,560 intervals in
+ * all) and 13. What is in both, or is left, can have more intervals than either set: of 1,000 and 1,000 there can be 1,999. A
+ * result that is refused with 17 or 16 isn't empty. */
+uint8_t gtid_either(const uint8_t *first, size_t first_len, const uint8_t *second, size_t second_len,
+                    uint8_t *out, size_t out_len, size_t *len);
+uint8_t gtid_both(const uint8_t *first, size_t first_len, const uint8_t *second, size_t second_len,
+                  uint8_t *out, size_t out_len, size_t *len);
+uint8_t gtid_without(const uint8_t *first, size_t first_len, const uint8_t *second, size_t second_len,
+                     uint8_t *out, size_t out_len, size_t *len);
+
+/* Whether all ids of the first set are in the second: `*within` is 1 or 0. The empty set is within every set, and every set
+ * within itself. The two may be the same bytes, or overlap. Refuses with 14 if the first bytes are no set, and then if the second
+ * are none; then `*within` is 0. No limit is in its way.
+ * So a follower sees a gap where a new binlog file begins: the opening event, taken in, has to be within its set. If it isn't,
+ * gtid_without tells which ids are missing. */
+uint8_t gtid_within(const uint8_t *first, size_t first_len, const uint8_t *second, size_t second_len, uint8_t *within);
+
 /* Writes the entries that the body of a Previous-GTIDs event holds anew, as they stand: with tags only if one of them has
  * one, and every length in its shortest form. These are at most `body_len` bytes. Refuses with 11, 1, 6 and 13. */
 uint8_t gtid_rewrite(const uint8_t *body, size_t body_len, uint8_t *out, size_t out_len, size_t *len);

@@ -70,13 +70,13 @@ static void offer_highest(void)
     EXPECT(len == sizeof event && memcmp(written, event, len) == 0);
 }
 
-/* So many intervals of two numbers each, ten apart, from a first number on. Returns the place behind them. */
-static uint8_t *put_intervals(uint8_t *at, uint64_t count, uint64_t first)
+/* So many intervals of so many numbers each, ten apart, from a first number on. Returns the place behind them. */
+static uint8_t *put_intervals(uint8_t *at, uint64_t count, uint64_t first, uint64_t numbers)
 {
     put(at, count);
     for (uint64_t i = 0; i < count; i++) {
         put(at + 8 + 16 * i, first + 10 * i);
-        put(at + 16 + 16 * i, first + 10 * i + 2);
+        put(at + 16 + 16 * i, first + 10 * i + numbers);
     }
     return at + 8 + 16 * count;
 }
@@ -90,6 +90,15 @@ static void put_tag(uint8_t *at, int number)
     at[31] = (uint8_t)('0' + number % 10);
 }
 
+/* The uuid 07 07 .. with such a tag. Returns the place behind them. */
+static uint8_t *put_tagged_key(uint8_t *at, int number)
+{
+    memset(at, 7, 16);
+    at[16] = 2 * 32; /* the tag's length in its one-byte form */
+    put_tag(at + 17, number);
+    return at + 49;
+}
+
 /* The least number of 19 digits; no number of a set has more digits. */
 #define LONG_NUMBER UINT64_C(1000000000000000000)
 
@@ -101,10 +110,8 @@ static size_t put_longest_set(void)
 
     put(input + 1, (UINT64_C(1) << 56) + (384 << 8) + 1); /* with tags */
     for (int number = 0; number < 384; number++) {
-        memset(at, 7, 16);
-        at[16] = 2 * 32; /* the tag's length in its one-byte form */
-        put_tag(at + 17, number);
-        at = put_intervals(at + 49, number < 256 ? 7 : 6, LONG_NUMBER);
+        at = put_tagged_key(at, number);
+        at = put_intervals(at, number < 256 ? 7 : 6, LONG_NUMBER, 2);
     }
     return (size_t)(at - (input + 1));
 }
@@ -210,6 +217,172 @@ static void refuse_crowded_entry(void)
     EXPECT(memcmp(next, set, sizeof next) == 0);
     EXPECT(gtid_check_set(input + 1, body_len, &entries, &intervals) == 14 && entries == 0 && intervals == 0);
     EXPECT(gtid_offer(input + 1, body_len, 33, event, sizeof event, next, sizeof next, &kind, &len) == 14);
+}
+
+/* Two sets, and the set that they should come to. */
+static uint8_t one[GTID_LONGEST_SET], other[GTID_LONGEST_SET], wanted[GTID_LONGEST_SET];
+
+/* A call that writes a set made of two. */
+typedef uint8_t of_two(const uint8_t *, size_t, const uint8_t *, size_t, uint8_t *, size_t, size_t *);
+
+/* A set of one entry, the uuid 07 07 .., with such intervals. Returns how many bytes it has. */
+static size_t put_set(uint8_t *at, uint64_t count, uint64_t first, uint64_t numbers)
+{
+    put(at, 1);
+    memset(at + 8, 7, 16);
+    return (size_t)(put_intervals(at + 24, count, first, numbers) - at);
+}
+
+/* The number that a call answers with for two sets. What it writes is `next`; the rest of that is as it was. */
+static uint8_t made(of_two *call, const uint8_t *first, size_t first_len, const uint8_t *second, size_t second_len, size_t *len)
+{
+    uint8_t number;
+
+    fill_alike();
+    *len = 9;
+    number = call(first, first_len, second, second_len, next, sizeof next, len);
+    EXPECT(number == 0 || *len == 0);
+    EXPECT(memcmp(next + *len, set + *len, sizeof next - *len) == 0);
+    return number;
+}
+
+/* Whether a call makes so many bytes of `wanted` out of two sets. */
+static int makes(of_two *call, const uint8_t *first, size_t first_len, const uint8_t *second, size_t second_len, size_t wanted_len)
+{
+    size_t len;
+
+    return made(call, first, first_len, second, second_len, &len) == 0 && len == wanted_len && memcmp(next, wanted, len) == 0;
+}
+
+/* Whether all ids of the first set are in the second: 1 or 0, or the number of the refusal. */
+static uint8_t lies_within(const uint8_t *first, size_t first_len, const uint8_t *second, size_t second_len)
+{
+    uint8_t within = 9, number = gtid_within(first, first_len, second, second_len, &within);
+
+    EXPECT(number == 0 || within == 0);
+    return number == 0 ? within : number;
+}
+
+/* The numbers 1 to 5 and 4 to 8. */
+static void work_with_two_sets(void)
+{
+    const uint8_t empty[8] = {0};
+    size_t one_len = put_set(one, 1, 1, 5), other_len = put_set(other, 1, 4, 5);
+
+    EXPECT(makes(gtid_either, one, one_len, other, other_len, put_set(wanted, 1, 1, 8)));
+    EXPECT(lies_within(one, one_len, next, 48) == 1 && lies_within(next, 48, one, one_len) == 0);
+    EXPECT(makes(gtid_both, one, one_len, other, other_len, put_set(wanted, 1, 4, 2)));
+    EXPECT(lies_within(next, 48, one, one_len) == 1 && lies_within(one, one_len, next, 48) == 0);
+    EXPECT(makes(gtid_without, one, one_len, other, other_len, put_set(wanted, 1, 1, 3)));
+    EXPECT(makes(gtid_without, other, other_len, one, one_len, put_set(wanted, 1, 6, 3)));
+    EXPECT(lies_within(one, one_len, other, other_len) == 0 && lies_within(other, other_len, one, one_len) == 0);
+
+    EXPECT(makes(gtid_either, empty, sizeof empty, one, one_len, put_set(wanted, 1, 1, 5)));
+    EXPECT(makes(gtid_without, one, one_len, empty, sizeof empty, put_set(wanted, 1, 1, 5)));
+    EXPECT(lies_within(empty, sizeof empty, one, one_len) == 1 && lies_within(one, one_len, empty, sizeof empty) == 0);
+    memset(wanted, 0, sizeof empty);
+    EXPECT(makes(gtid_both, one, one_len, empty, sizeof empty, sizeof empty));
+    EXPECT(makes(gtid_without, empty, sizeof empty, one, one_len, sizeof empty));
+    EXPECT(lies_within(empty, sizeof empty, empty, sizeof empty) == 1);
+}
+
+/* A set with itself, in the same bytes; and with a part of its own bytes, zeros of its uuid, that is the empty set. */
+static void work_with_the_same_bytes(void)
+{
+    size_t one_len = put_set(one, 2, 1, 5);
+
+    memcpy(wanted, one, one_len);
+    EXPECT(makes(gtid_either, one, one_len, one, one_len, one_len));
+    EXPECT(makes(gtid_both, one, one_len, one, one_len, one_len));
+    EXPECT(lies_within(one, one_len, one, one_len) == 1);
+    memset(wanted, 0, 8);
+    EXPECT(makes(gtid_without, one, one_len, one, one_len, 8));
+
+    memset(one + 8, 0, 16);
+    EXPECT(makes(gtid_both, one, one_len, one + 8, 8, 8));
+    EXPECT(lies_within(one, one_len, one + 8, 8) == 0 && lies_within(one + 8, 8, one, one_len) == 1);
+    memcpy(wanted, one, one_len);
+    EXPECT(makes(gtid_either, one + 8, 8, one, one_len, one_len));
+    EXPECT(makes(gtid_without, one, one_len, one + 8, 8, one_len));
+}
+
+/* Bytes that are no set, as the first, as the second, and as both; and then a lack of room, where the length that is needed is told. */
+static void refuse_two_sets(of_two *call)
+{
+    size_t one_len = put_set(one, 1, 1, 5), other_len = put_set(other, 1, 4, 5), len;
+
+    EXPECT(made(call, one, one_len - 1, other, other_len, &len) == 14);
+    EXPECT(made(call, one, one_len, other, other_len - 1, &len) == 14);
+    EXPECT(made(call, one, 0, other, 0, &len) == 14);
+    EXPECT(call(one, one_len, other, other_len - 1, next, 0, &len) == 14 && len == 0);
+
+    fill_alike();
+    EXPECT(call(one, one_len, other, other_len, next, 47, &len) == 13 && len == 48);
+    EXPECT(memcmp(next, set, sizeof next) == 0);
+    EXPECT(call(one, one_len, other, other_len, next, 48, &len) == 0 && len == 48);
+    EXPECT(memcmp(next + 48, set + 48, sizeof next - 48) == 0);
+}
+
+static void refuse_within(void)
+{
+    size_t one_len = put_set(one, 1, 1, 5), other_len = put_set(other, 1, 1, 5);
+
+    EXPECT(lies_within(one, one_len, other, other_len) == 1);
+    EXPECT(lies_within(one, one_len - 1, other, other_len) == 14);
+    EXPECT(lies_within(one, one_len, other, other_len - 1) == 14);
+    EXPECT(lies_within(one, 0, other, 0) == 14);
+}
+
+/* How many intervals a call makes of the sets `one` and `other`, or the number of its refusal. */
+static uint64_t intervals_made(of_two *call, size_t one_len, size_t other_len)
+{
+    uint64_t entries = 9, intervals = 9;
+    size_t len;
+    uint8_t number = made(call, one, one_len, other, other_len, &len);
+
+    if (number != 0)
+        return number;
+    EXPECT(gtid_check_set(next, len, &entries, &intervals) == 0 && entries == 1);
+    return intervals;
+}
+
+/* Entries with some five hundred intervals come to 1,024, and not to one more. */
+static void crowd_by_two_sets(void)
+{
+    /* 1, 11, .. or 3, 13, .. */
+    EXPECT(intervals_made(gtid_either, put_set(one, 512, 1, 1), put_set(other, 512, 3, 1)) == 1024);
+    EXPECT(intervals_made(gtid_either, put_set(one, 513, 1, 1), put_set(other, 512, 3, 1)) == 17);
+    /* 1 to 6, 11 to 16, .. and 5 to 11, 15 to 21, ..: in both are 5 and 6, 11, 15 and 16, .. */
+    EXPECT(intervals_made(gtid_both, put_set(one, 513, 1, 6), put_set(other, 512, 5, 7)) == 1024);
+    EXPECT(intervals_made(gtid_both, put_set(one, 513, 1, 6), put_set(other, 513, 5, 7)) == 17);
+    /* 1 to 6, 11 to 16, .. without 3, 13, ..: 1 and 2, 4 to 6, .. */
+    EXPECT(intervals_made(gtid_without, put_set(one, 512, 1, 6), put_set(other, 512, 3, 1)) == 1024);
+    EXPECT(intervals_made(gtid_without, put_set(one, 513, 1, 6), put_set(other, 512, 3, 1)) == 17);
+}
+
+/* The longest set and a set of one entry: no entry more, and no interval more, but a longer interval. */
+static void fill_by_two_sets(void)
+{
+    size_t longest_len = put_longest_set(), one_len, len;
+
+    one_len = put_set(one, 1, LONG_NUMBER, 1); /* the uuid without a tag */
+    EXPECT(made(gtid_either, input + 1, longest_len, one, one_len, &len) == 16);
+    EXPECT(made(gtid_either, one, one_len, input + 1, longest_len, &len) == 16);
+
+    put(one, (UINT64_C(1) << 56) + (1 << 8) + 1); /* the last tag, behind its intervals */
+    one_len = (size_t)(put_intervals(put_tagged_key(one + 8, 383), 1, LONG_NUMBER + 54, 1) - one);
+    EXPECT(made(gtid_either, input + 1, longest_len, one, one_len, &len) == 16);
+    EXPECT(gtid_either(input + 1, longest_len, one, one_len, next, 0, &len) == 16 && len == 0);
+
+    put_intervals(put_tagged_key(one + 8, 383), 1, LONG_NUMBER + 52, 1);
+    EXPECT(made(gtid_either, input + 1, longest_len, one, one_len, &len) == 0 && len == GTID_LONGEST_SET);
+    EXPECT(lies_within(input + 1, longest_len, next, len) == 1 && lies_within(next, len, input + 1, longest_len) == 0);
+    memcpy(wanted, one, one_len);
+    memcpy(other, next, len);
+    EXPECT(makes(gtid_without, other, len, input + 1, longest_len, one_len));
+    memcpy(wanted, input + 1, longest_len);
+    EXPECT(makes(gtid_both, other, len, input + 1, longest_len, longest_len));
+    EXPECT(gtid_both(other, sizeof other, input + 1, longest_len, next, sizeof next - 1, &len) == 13 && len == GTID_LONGEST_SET);
 }
 
 /* Fields of a tagged event as they stand in its body: an id and a value. Every integer has its one-byte form, which is twice its value;
@@ -495,6 +668,14 @@ int main(void)
     offer_to_longest_set();
     offer_to_full_entry();
     refuse_crowded_entry();
+    work_with_two_sets();
+    work_with_the_same_bytes();
+    refuse_two_sets(gtid_either);
+    refuse_two_sets(gtid_both);
+    refuse_two_sets(gtid_without);
+    refuse_within();
+    crowd_by_two_sets();
+    fill_by_two_sets();
     read_each_field();
     read_fields();
     read_originals();

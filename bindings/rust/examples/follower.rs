@@ -5,7 +5,7 @@
 //! stands for the planning tool: a file with a line for each transaction, its id and its rows. SET is where the resume set is saved. One
 //! follower at a time may use a TOOL and a SET.
 use gtid_resume::{
-    Entry, GtidEvent, Offered, ResumeSet, ANONYMOUS_GTID_EVENT, GTID_EVENT, GTID_TAGGED_LOG_EVENT,
+    GtidEvent, Offered, ResumeSet, ANONYMOUS_GTID_EVENT, GTID_EVENT, GTID_TAGGED_LOG_EVENT,
     PREVIOUS_GTIDS_EVENT,
 };
 use std::collections::HashSet;
@@ -96,7 +96,7 @@ fn step(
 /// The saved set. Where there is none, all ids before EVENTS: it must be the oldest file that the tool may not have wholly.
 fn start(before: ResumeSet, saved: &Path) -> Result<ResumeSet, Failure> {
     match ResumeSet::load(saved) {
-        Ok(set) if has_all(&set, &before) => Ok(set),
+        Ok(set) if before.is_subset(&set) => Ok(set),
         Ok(_) => Err("transactions before EVENTS are missing: follow an older file first".into()),
         Err(error) if error.kind() == ErrorKind::NotFound => {
             before.save(saved).map_err(|error| named(saved, error))?;
@@ -105,17 +105,6 @@ fn start(before: ResumeSet, saved: &Path) -> Result<ResumeSet, Failure> {
         Err(error) if error.kind() == ErrorKind::InvalidData => Err(error.into()), // it names the file
         Err(error) => Err(named(saved, error).into()),
     }
-}
-
-fn has_all(set: &ResumeSet, listed: &ResumeSet) -> bool {
-    let covers = |mine: Entry, wanted: Entry, (start, end)| {
-        let mut intervals = mine.intervals();
-        (mine.uuid(), mine.tag()) == (wanted.uuid(), wanted.tag())
-            && intervals.any(|(from, to)| from <= start && end <= to)
-    };
-    let has = |wanted: Entry, interval| set.entries().any(|mine| covers(mine, wanted, interval));
-    let mut entries = listed.entries();
-    entries.all(|wanted| wanted.intervals().all(|interval| has(wanted, interval)))
 }
 
 /// The events of a binlog, without a last one that isn't whole yet. In a header the type is at 4, and the whole size at 9.

@@ -44,6 +44,9 @@
 //! # Ok::<(), io::Error>(())
 //! ```
 //!
+//! Two sets are compared by [`ResumeSet::is_subset`], which shows a gap where a new binlog file begins, and by [`ResumeSet::is_superset`]. They
+//! make a third one by [`ResumeSet::union`], [`ResumeSet::intersection`] and [`ResumeSet::difference`], or `&a | &b`, `&a & &b` and `&a - &b`.
+//!
 //! `examples/follower.rs` is a whole follower, with a tool that recognises ids. `tests/kill.rs` kills it two hundred times and looks for what
 //! is missing.
 #![deny(missing_docs)]
@@ -56,6 +59,7 @@ mod refusal;
 mod saved;
 mod set;
 mod sys;
+mod two_sets;
 
 pub use event::{GtidEvent, GtidRead};
 pub use fields::{Field, Fields, FieldsIter};

@@ -168,7 +168,7 @@ impl Offer<'_> {
 
 /// The ids of all transactions that were taken, as the bytes that a follower saves.
 ///
-/// Its members are exactly the ids that were taken in and those of the committed offers that were answered [`Offered::Taken`] or
+/// Its members are exactly the ids that it began with and those of the committed offers that were answered [`Offered::Taken`] or
 /// [`Offered::AlreadyThere`]; that is proved of the bytes. Two sets with the same members have the same bytes.
 ///
 /// A set has at most 384 entries (a uuid with a tag or without), 2,560 intervals of transaction numbers in all, and 1,024 in any one entry.
@@ -201,7 +201,7 @@ impl ResumeSet {
     /// The set of all ids of a Previous-GTIDs event's body (type 35), without the event's header and checksum.
     ///
     /// A binlog file opens with this event, which lists all ids before it. A follower starts from it, and at the next file takes it in as a
-    /// set of its own to see whether it has missed any of them: [`entries`](ResumeSet::entries) shows how. Anonymous transactions aren't
+    /// set of its own to see whether it has missed any of them: [`is_subset`](ResumeSet::is_subset) shows how. Anonymous transactions aren't
     /// listed, so that a lost one can't be seen.
     ///
     /// # Errors
@@ -217,9 +217,14 @@ impl ResumeSet {
     /// # Ok::<(), Refusal>(())
     /// ```
     pub fn take_in(body: &[u8]) -> Result<Self, Refusal> {
-        let bytes = sys::written(LONGEST_SET, |out, len| unsafe {
+        ResumeSet::written(|out, len| unsafe {
             sys::gtid_take_in(body.as_ptr(), body.len(), out.as_mut_ptr(), out.len(), len)
-        })?;
+        })
+    }
+
+    /// The set that a call writes.
+    pub(crate) fn written(call: impl FnOnce(&mut [u8], &mut usize) -> u8) -> Result<Self, Refusal> {
+        let bytes = sys::written(LONGEST_SET, call)?;
         Ok(ResumeSet { bytes })
     }
 
@@ -297,8 +302,8 @@ impl ResumeSet {
         })
     }
 
-    /// Whether an id is a member; no tag is a tag without bytes. What can be no id is no member. To ask for many, compare intervals:
-    /// [`entries`](ResumeSet::entries) shows how.
+    /// Whether an id is a member; no tag is a tag without bytes. What can be no id is no member. Many are asked for at once by a set that has
+    /// them: [`is_subset`](ResumeSet::is_subset).
     ///
     /// ```
     /// assert!(!gtid_resume::ResumeSet::empty().contains(&[0; 16], b"", 1));
@@ -333,34 +338,16 @@ impl ResumeSet {
     /// The entries, in the set's order: rising by uuid, then without a tag before those with one. Intervals rise too, with a gap between
     /// neighbours.
     ///
-    /// So an interval of ids is in the set just if one interval of the set covers it, and a gap at a binlog's rotation is seen so (one call
-    /// that compares two sets will come later):
-    ///
     /// ```
-    /// use gtid_resume::ResumeSet;
+    /// use gtid_resume::{GtidEvent, ResumeSet, GTID_EVENT};
     ///
-    /// fn has_all(set: &ResumeSet, listed: &ResumeSet) -> bool {
-    ///     listed.entries().all(|wanted| {
-    ///         let mine = set.entries().find(|mine| (mine.uuid(), mine.tag()) == (wanted.uuid(), wanted.tag()));
-    ///         wanted.intervals().all(|(start, end)| {
-    ///             mine.map_or(false, |mine| mine.intervals().any(|(from, to)| from <= start && end <= to))
-    ///         })
-    ///     })
+    /// let mut set = ResumeSet::empty();
+    /// for gno in [1, 3, 2, 9] {
+    ///     set.offer(GTID_EVENT, &GtidEvent::new([7; 16], gno).write()?)?.commit();
     /// }
-    ///
-    /// # fn opening(end: u64) -> Vec<u8> {
-    /// #     let mut body = vec![1, 0, 0, 0, 0, 0, 0, 0];
-    /// #     body.extend([7; 16]);
-    /// #     for number in [1, 1, end] {
-    /// #         body.extend(number.to_le_bytes());
-    /// #     }
-    /// #     body
-    /// # }
-    /// # let (set, opening) = (ResumeSet::take_in(&opening(6))?, opening(8));
-    /// // the set has 1 to 5, and the next file's opening event lists 1 to 7: two transactions were missed
-    /// let listed = ResumeSet::take_in(&opening)?;
-    /// assert!(!has_all(&set, &listed));
-    /// assert!(has_all(&listed, &set));
+    /// let entry = set.entries().next().expect("one uuid");
+    /// assert_eq!((entry.uuid(), entry.tag()), (&[7; 16], &b""[..]));
+    /// assert!(entry.intervals().eq([(1, 4), (9, 10)])); // 1 to 3, and 9
     /// # Ok::<(), gtid_resume::Refusal>(())
     /// ```
     pub fn entries(&self) -> impl ExactSizeIterator<Item = Entry<'_>> {

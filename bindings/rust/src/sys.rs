@@ -25,6 +25,40 @@ extern "C" {
         out_len: usize,
         len: *mut usize,
     ) -> u8;
+    pub fn gtid_either(
+        first: *const u8,
+        first_len: usize,
+        second: *const u8,
+        second_len: usize,
+        out: *mut u8,
+        out_len: usize,
+        len: *mut usize,
+    ) -> u8;
+    pub fn gtid_both(
+        first: *const u8,
+        first_len: usize,
+        second: *const u8,
+        second_len: usize,
+        out: *mut u8,
+        out_len: usize,
+        len: *mut usize,
+    ) -> u8;
+    pub fn gtid_without(
+        first: *const u8,
+        first_len: usize,
+        second: *const u8,
+        second_len: usize,
+        out: *mut u8,
+        out_len: usize,
+        len: *mut usize,
+    ) -> u8;
+    pub fn gtid_within(
+        first: *const u8,
+        first_len: usize,
+        second: *const u8,
+        second_len: usize,
+        within: *mut u8,
+    ) -> u8;
     pub fn gtid_rewrite(
         body: *const u8,
         body_len: usize,

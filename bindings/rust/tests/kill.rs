@@ -10,7 +10,7 @@ use std::thread;
 use std::time::{Duration, Instant};
 
 mod common;
-use common::{follower, opening, Binlog, Folder};
+use common::{follower, opening, Binlog, Folder, Random};
 
 const KILLS: usize = 200;
 /// For a run without kills, about.
@@ -36,18 +36,6 @@ impl Clock {
         let left = self.0.saturating_duration_since(Instant::now());
         assert!(!left.is_zero(), "the time is over (see GTID_KILL_SECONDS)");
         left
-    }
-}
-
-/// Xorshift, from a fixed seed.
-struct Random(u64);
-
-impl Random {
-    fn below(&mut self, end: u64) -> u64 {
-        self.0 ^= self.0 << 13;
-        self.0 ^= self.0 >> 7;
-        self.0 ^= self.0 << 17;
-        self.0 % end
     }
 }
 

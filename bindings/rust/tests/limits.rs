@@ -8,51 +8,7 @@ use std::fs;
 use std::path::Path;
 
 mod common;
-use common::{take, Folder};
-
-/// The number of a uuid, a tag, and intervals.
-type Listed<'a> = (u16, &'a [u8], &'a [(u64, u64)]);
-
-/// Uuids rise with their numbers.
-fn uuid(number: u16) -> [u8; 16] {
-    let mut uuid = [7; 16];
-    uuid[..2].copy_from_slice(&number.to_be_bytes());
-    uuid
-}
-
-/// A body with tags only if an entry has one, as a set is saved.
-fn body(entries: &[Listed]) -> Vec<u8> {
-    let tagged = entries.iter().any(|(_, tag, _)| !tag.is_empty());
-    let count = entries.len() as u64;
-    let header = if tagged { with_tags(count) } else { count };
-    let mut body = header.to_le_bytes().to_vec();
-    for (number, tag, intervals) in entries {
-        body.extend(uuid(*number));
-        if tagged {
-            put_tag(&mut body, tag);
-        }
-        put_intervals(&mut body, intervals);
-    }
-    body
-}
-
-/// The header of a body with tags and so many entries.
-fn with_tags(count: u64) -> u64 {
-    1 << 56 | count << 8 | 1
-}
-
-fn put_tag(body: &mut Vec<u8>, tag: &[u8]) {
-    body.push(2 * tag.len() as u8); // the length in its one-byte form
-    body.extend(tag);
-}
-
-fn put_intervals(body: &mut Vec<u8>, intervals: &[(u64, u64)]) {
-    body.extend((intervals.len() as u64).to_le_bytes());
-    for (start, end) in intervals {
-        body.extend(start.to_le_bytes());
-        body.extend(end.to_le_bytes());
-    }
-}
+use common::{body, entries, put_intervals, put_tag, set, take, uuid, with_tags, Folder, Listed};
 
 /// So many intervals of one id: 1, 3, 5 and so on.
 fn odd(count: u64) -> Vec<(u64, u64)> {
@@ -61,17 +17,6 @@ fn odd(count: u64) -> Vec<(u64, u64)> {
 
 /// Behind all of them, and touching none.
 const APART: u64 = 1_000_000;
-
-/// So many entries with an interval each.
-fn entries(count: u16) -> Vec<Listed<'static>> {
-    (0..count)
-        .map(|number| (number, &b""[..], &[(1, 2)][..]))
-        .collect()
-}
-
-fn set(entries: &[Listed]) -> ResumeSet {
-    ResumeSet::take_in(&body(entries)).unwrap()
-}
 
 fn event(number: u16, tag: &[u8], gno: u64) -> GtidEvent {
     match tag {

@@ -46,6 +46,40 @@ mod linked {
             out_len: usize,
             len: *mut usize,
         ) -> u8;
+        pub fn gtid_either(
+            first: *const u8,
+            first_len: usize,
+            second: *const u8,
+            second_len: usize,
+            out: *mut u8,
+            out_len: usize,
+            len: *mut usize,
+        ) -> u8;
+        pub fn gtid_both(
+            first: *const u8,
+            first_len: usize,
+            second: *const u8,
+            second_len: usize,
+            out: *mut u8,
+            out_len: usize,
+            len: *mut usize,
+        ) -> u8;
+        pub fn gtid_without(
+            first: *const u8,
+            first_len: usize,
+            second: *const u8,
+            second_len: usize,
+            out: *mut u8,
+            out_len: usize,
+            len: *mut usize,
+        ) -> u8;
+        pub fn gtid_within(
+            first: *const u8,
+            first_len: usize,
+            second: *const u8,
+            second_len: usize,
+            within: *mut u8,
+        ) -> u8;
         pub fn gtid_rewrite(
             body: *const u8,
             body_len: usize,
@@ -157,6 +191,35 @@ mod ours {
     over_output!(rewrite, gtid_rewrite);
     over_output!(list, gtid_list);
     over_output!(write, gtid_write);
+
+    macro_rules! over_two_sets {
+        ($name:ident, $call:ident) => {
+            #[inline(always)]
+            pub fn $name(first: &[u8], second: &[u8], out: &mut [u8]) -> Answer {
+                let mut number = 0;
+                let refusal = unsafe {
+                    linked::$call(
+                        first.as_ptr(),
+                        first.len(),
+                        second.as_ptr(),
+                        second.len(),
+                        out.as_mut_ptr(),
+                        out.len(),
+                        &raw mut number,
+                    )
+                };
+                Answer {
+                    refusal,
+                    number,
+                    kind: 0,
+                }
+            }
+        };
+    }
+
+    over_two_sets!(either, gtid_either);
+    over_two_sets!(both, gtid_both);
+    over_two_sets!(without, gtid_without);
 
     #[inline(always)]
     pub fn read(event_type: u8, body: &[u8], record: &mut [u8]) -> Answer {
@@ -293,13 +356,28 @@ mod ours {
         };
         (refusal, present)
     }
+
+    #[inline(always)]
+    pub fn within(first: &[u8], second: &[u8]) -> (u8, u8) {
+        let mut within = 0;
+        let refusal = unsafe {
+            linked::gtid_within(
+                first.as_ptr(),
+                first.len(),
+                second.as_ptr(),
+                second.len(),
+                &raw mut within,
+            )
+        };
+        (refusal, within)
+    }
 }
 
 // ---- what is counted ----
 
 /// A word for it, what it is, and the smaller number of turns; the other is twice that.
 #[rustfmt::skip]
-const TABLE: [(&str, &str, u64); 59] = [
+const TABLE: [(&str, &str, u64); 67] = [
     ("varint-1", "read 64 variable-length integers of 1 byte", 1000),
     ("varint-2", "read 64 variable-length integers of 2 bytes", 1000),
     ("varint-3", "read 64 variable-length integers of 3 bytes", 1000),
@@ -359,13 +437,21 @@ const TABLE: [(&str, &str, u64); 59] = [
     ("check-set-longest", "check_set, the longest set", 10),
     ("contains", "contains, 2,048 intervals of two uuids, 1,024 each, the last id", 10),
     ("list-35", "list, type 35, a set of 2,048 intervals of two uuids, 1,024 each", 10),
+    ("either-2560", "either, 2,560 intervals of three uuids, and as many that begin within them and end behind them: 2,560", 10),
+    ("both-2560", "both, the same two sets: 2,560", 10),
+    ("without-2560", "without, the same two sets: 2,560", 10),
+    ("within-2560", "within, the first of them in the result of either: yes", 10),
+    ("within-no", "within, the first of them in the second: no, the first id is missing", 10),
+    ("either-uuids", "either, 192 uuids and 192 others between them, 1 interval each", 10),
+    ("either-tags", "either, 384 tags of one uuid and the same tags with other intervals, 1 each: 2 each", 10),
+    ("either-longest", "either, the longest set and itself", 10),
 ];
 
 type Turns = Box<dyn FnMut(u64)>;
 
 /// One thing that can be counted, checked.
 struct Made {
-    /// The bytes of its input; for an offer those of the set.
+    /// The bytes of its input; for an offer those of the set, for two sets those of both.
     bytes: usize,
     ours: Turns,
     theirs: Option<Turns>,
@@ -446,6 +532,27 @@ fn made(what: &str) -> Option<Made> {
         "check-set-longest" => checking(&longest()),
         "contains" => containing(&two_uuids()),
         "list-35" => listing(35, &body(&two_uuids()), &text(&two_uuids())),
+        "either-2560" => of_two(ours::either, &tens(11, 16), &tens(14, 19), &tens(11, 19)),
+        "both-2560" => of_two(ours::both, &tens(11, 16), &tens(14, 19), &tens(14, 16)),
+        "without-2560" => of_two(ours::without, &tens(11, 16), &tens(14, 19), &tens(11, 14)),
+        "within-2560" => lying_within(&tens(11, 16), &tens(11, 19), 1),
+        "within-no" => lying_within(&tens(11, 16), &tens(14, 19), 0),
+        "either-uuids" => of_two(
+            ours::either,
+            &every_second(0),
+            &every_second(1),
+            &uuids(384, false),
+        ),
+        "either-tags" => of_two(
+            ours::either,
+            &tags(384, 1),
+            &second_of_tags(),
+            &tags(384, 2),
+        ),
+        "either-longest" => of_two(ours::either, &longest(), &longest(), &longest()),
+        "both-longest" => of_two(ours::both, &longest(), &longest(), &longest()),
+        "without-longest" => of_two(ours::without, &longest(), &longest(), &[]),
+        "within-longest" => lying_within(&longest(), &longest(), 1),
         "list-35-merged" => listing(35, &body(&touching()), &text(&merged())),
         "list-35-tags" => listing(35, &body(&reversed(tags(256, 2))), &text(&tags(256, 2))),
         "list-33" => listing(
@@ -818,6 +925,42 @@ fn containing(entries: &[Entry]) -> Made {
     }
 }
 
+/// A set made of two.
+fn of_two(
+    call: impl Fn(&[u8], &[u8], &mut [u8]) -> ours::Answer + 'static,
+    first: &[Entry],
+    second: &[Entry],
+    expected: &[Entry],
+) -> Made {
+    let (first, second) = (body(first), body(second));
+    let mut out = vec![0; LONGEST];
+    let answer = call(&first, &second, &mut out);
+    assert_eq!(answer.refusal, 0);
+    assert_eq!(&out[..answer.number], body(expected));
+
+    Made {
+        bytes: first.len() + second.len(),
+        ours: turns(move || {
+            let (first, second) = (black_box(&first), black_box(&second));
+            black_box(call(first, second, black_box(&mut out)));
+        }),
+        theirs: None,
+    }
+}
+
+fn lying_within(first: &[Entry], second: &[Entry], expected: u8) -> Made {
+    let (first, second) = (body(first), body(second));
+    assert_eq!(ours::within(&first, &second), (0, expected));
+
+    Made {
+        bytes: first.len() + second.len(),
+        ours: turns(move || {
+            black_box(ours::within(black_box(&first), black_box(&second)));
+        }),
+        theirs: None,
+    }
+}
+
 fn listing(event_type: u8, body: &[u8], expected: &str) -> Made {
     let mut input = vec![event_type];
     input.extend(body);
@@ -1049,6 +1192,31 @@ fn falling() -> Vec<Entry> {
     vec![entry(b"", (0..MOST).rev().map(interval).collect())]
 }
 
+/// Three uuids with 2,560 intervals: of every ten ids those from a first one on, up to an end that isn't reached. With 11 to 15 in one set
+/// and 14 to 18 in the other an interval of either begins or ends by turns.
+fn tens(first: u64, end: u64) -> Vec<Entry> {
+    let one = |place: u64| (first + 10 * place, end + 10 * place);
+    several(&[1024, 1024, 512].map(|count| (0..count).map(one).collect()))
+}
+
+/// Of 384 uuids the first, the third and so on, or the others.
+fn every_second(place: usize) -> Vec<Entry> {
+    uuids(384, false)
+        .into_iter()
+        .skip(place)
+        .step_by(2)
+        .collect()
+}
+
+/// The second interval of each of 384 tags.
+fn second_of_tags() -> Vec<Entry> {
+    let mut entries = tags(384, 2);
+    for entry in &mut entries {
+        entry.intervals.remove(0);
+    }
+    entries
+}
+
 /// The entries as a Previous-GTIDs body; tags have fewer than 128 bytes.
 fn body(entries: &[Entry]) -> Vec<u8> {
     let tagged = entries.iter().any(|entry| !entry.tag.is_empty());
@@ -1235,7 +1403,7 @@ impl Sent {
 
 #[rustfmt::skip]
 fn stack() {
-    let rows: [(&str, &[&str]); 12] = [
+    let rows: [(&str, &[&str]); 16] = [
         ("gtid_read_varlen_uint", &["varint-1", "varint-7", "varint-9"]),
         ("gtid_read", &["read-untagged", "read-short", "read-tagged", "read-tagged-32"]),
         ("gtid_read_present", &["read-present", "read-present-32"]),
@@ -1247,6 +1415,10 @@ fn stack() {
         ("gtid_contains", &["contains"]),
         ("gtid_offer", &["offer-1", "offer-1023", "offer-first", "offer-there", "offer-2559", "offer-383-tagged", "offer-longest"]),
         ("gtid_take_in", &["take-in-set", "take-in-longest", "take-in-worst", "take-in-covered", "take-in-merged", "take-in-uuids", "take-in-tags"]),
+        ("gtid_either", &["either-2560", "either-uuids", "either-tags", "either-longest"]),
+        ("gtid_both", &["both-2560", "both-longest"]),
+        ("gtid_without", &["without-2560", "without-longest"]),
+        ("gtid_within", &["within-2560", "within-no", "within-longest"]),
         ("gtid_list", &["list-35", "list-35-merged", "list-35-tags", "list-33", "list-42"]),
     ];
     println!("| call | bytes of stack | on the input |");

@@ -9,6 +9,7 @@ use Rattle.previous_gtids_event.specs.declared.EntryRead.{EntryRead}
 use Rattle.resume_set.specs.declared.SetRead.{SetRead}
 use Rattle.resume_set.specs.declared.Contained.{Contained}
 use Rattle.resume_set.specs.declared.Offered.{Offered}
+use Rattle.two_sets.specs.declared.AllWithin.{AllWithin}
 use Rattle.abi.specs.declared.OfferNumbers.{OfferNumbers}
 use Rattle.abi.specs.Answers.{numbersOf, bit}
 
@@ -37,6 +38,9 @@ set-parts w v e =
 
 pub contained-parts : (w v : Contained) → w ≡ v → (w .refusal ≡ v .refusal) × (bit (w .present) ≡ bit (v .present))
 contained-parts w v e = (ap (λ (x : Contained). x .refusal) e, ap (λ (x : Contained). bit (x .present)) e)
+
+pub within-parts : (w v : AllWithin) → w ≡ v → (w .refusal ≡ v .refusal) × (bit (w .all) ≡ bit (v .all))
+within-parts w v e = (ap (λ (x : AllWithin). x .refusal) e, ap (λ (x : AllWithin). bit (x .all)) e)
 
 pub offer-parts : (n : OfferNumbers) (answer wanted : Offered) (l m : List ℕ)
     → n ≡ numbersOf answer

@@ -22,6 +22,8 @@ ghost use Rattle.previous_gtids_event.specs.Rewrite.{rewritten};
 ghost use Rattle.gtid_event_read.specs.Read.{seen, gtid};
 ghost use Rattle.gtid_sets.specs.Lent.{lentSet};
 ghost use Rattle.resume_set.specs.Answers.{setRead, contained, takeInAnswers, takeInLeaves, offerAnswers, offerLeaves};
+ghost use Rattle.gtid_sets.specs.Combine.{either, both, without};
+ghost use Rattle.two_sets.specs.Answers.{combineAnswers, combineLeaves, withinAnswers};
 ghost use Rattle.listing.specs.EventText.{listing};
 ghost use Rattle.abi.specs.Answers.{numbersOf, bit, entryIn};
 ghost use Rattle.abi.specs.Flat.{readOutput, readUsed, readPresent, writeOutput};
@@ -201,6 +203,53 @@ pub extern "C" fn gtid_offer(
     let said = numbers_of(answer);
     *kind = said.kind;
     *len = said.len;
+    said.refusal
+}
+
+// The ids in either of two sets, written as a set. Both may be the same bytes.
+#[no_mangle]
+pub extern "C" fn gtid_either(first: &[u8], second: &[u8], out: &mut [u8], len: &mut usize) -> u8
+    ensures { λ r. ⌜ r ≡ combineAnswers either (now (first .entry)) (now (second .entry)) (now (out .entry)) .refusal ⌝ }
+    ensures { λ _. ⌜ now (len .exit) ≡ combineAnswers either (now (first .entry)) (now (second .entry)) (now (out .entry)) .len ⌝ }
+    ensures { λ _. ⌜ now (out .exit) ≡ combineLeaves either (now (first .entry)) (now (second .entry)) (now (out .entry)) ⌝ }
+{
+    let wrote = two_sets::either(first, second, out);
+    *len = wrote.len;
+    wrote.refusal
+}
+
+// The ids in both sets.
+#[no_mangle]
+pub extern "C" fn gtid_both(first: &[u8], second: &[u8], out: &mut [u8], len: &mut usize) -> u8
+    ensures { λ r. ⌜ r ≡ combineAnswers both (now (first .entry)) (now (second .entry)) (now (out .entry)) .refusal ⌝ }
+    ensures { λ _. ⌜ now (len .exit) ≡ combineAnswers both (now (first .entry)) (now (second .entry)) (now (out .entry)) .len ⌝ }
+    ensures { λ _. ⌜ now (out .exit) ≡ combineLeaves both (now (first .entry)) (now (second .entry)) (now (out .entry)) ⌝ }
+{
+    let wrote = two_sets::both(first, second, out);
+    *len = wrote.len;
+    wrote.refusal
+}
+
+// The ids of the first set that are not in the second.
+#[no_mangle]
+pub extern "C" fn gtid_without(first: &[u8], second: &[u8], out: &mut [u8], len: &mut usize) -> u8
+    ensures { λ r. ⌜ r ≡ combineAnswers without (now (first .entry)) (now (second .entry)) (now (out .entry)) .refusal ⌝ }
+    ensures { λ _. ⌜ now (len .exit) ≡ combineAnswers without (now (first .entry)) (now (second .entry)) (now (out .entry)) .len ⌝ }
+    ensures { λ _. ⌜ now (out .exit) ≡ combineLeaves without (now (first .entry)) (now (second .entry)) (now (out .entry)) ⌝ }
+{
+    let wrote = two_sets::without(first, second, out);
+    *len = wrote.len;
+    wrote.refusal
+}
+
+// Whether all ids of the first set are in the second: 1 if they are, else 0.
+#[no_mangle]
+pub extern "C" fn gtid_within(first: &[u8], second: &[u8], within: &mut u8) -> u8
+    ensures { λ r. ⌜ r ≡ withinAnswers (now (first .entry)) (now (second .entry)) .refusal ⌝ }
+    ensures { λ _. ⌜ now (within .exit) ≡ bit (withinAnswers (now (first .entry)) (now (second .entry)) .all) ⌝ }
+{
+    let said = two_sets::within(first, second);
+    *within = said.all as u8;
     said.refusal
 }
 

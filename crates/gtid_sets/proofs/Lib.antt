@@ -11,3 +11,5 @@ pub mod ByteLaws
 pub mod LentLaws
 pub mod SavedLaws
 pub mod SpliceLaws
+pub mod SweepLaws
+pub mod CombineLaws

@@ -12,7 +12,7 @@ use Rattle.packets.specs.Gno.{Interval}
 use Rattle.packets.specs.Key.{Key}
 use Rattle.packets.proofs.Tests.{split, clash, and-true}
 use Rattle.previous_gtids_event.specs.Entry.{Entry, entry}
-use Rattle.gtid_sets.specs.Limits.{maxEntries, maxIntervals, maxOfEntry, summed, intervals, over, crowds, Judged, fine, breaks, isFine, limits, isFull, longestSet, EntryOver}
+use Rattle.gtid_sets.specs.Limits.{maxEntries, maxIntervals, maxOfEntry, summed, intervals, over, crowds, Judged, fine, breaks, isFine, judged, limits, isFull, longestSet, EntryOver}
 
 pub maxEntries-is : maxEntries ≡ 384
 unfolding maxEntries
@@ -76,6 +76,32 @@ over-entry (entry k is ∷ s) some = split (leb (length is) maxOfEntry)
     (λ h. later maxOfEntry k is s (over-entry s (λ none. some (rw (h, none)))))
     (λ h. record { front = []; key = k; is = is; back = s; stands = refl; many = leb-false (length is) maxOfEntry h })
 
+-- ---- what is judged, by the counts
+
+module _ (entries total : ℕ) where
+  pub judged-crowded : (crowd : ℕ) → (crowd ≡ 0 → ⊥) → judged crowd entries total ≡ breaks crowded
+  unfolding judged
+  judged-crowded crowd f = rw (ne-eqb crowd 0 f)
+
+  module _ (crowd : ℕ) (fair : crowd ≡ 0) where
+    pub judged-fine : entries ≤ maxEntries → total ≤ maxIntervals → judged crowd entries total ≡ fine
+    unfolding judged
+    judged-fine h k = rw (fair, le-leb _ _ h, le-leb _ _ k)
+
+    pub judged-entries : maxEntries < entries → judged crowd entries total ≡ breaks full
+    unfolding judged
+    judged-entries h = rw (fair, lt-leb _ _ h)
+
+    pub judged-intervals : maxIntervals < total → judged crowd entries total ≡ breaks full
+    unfolding judged
+    judged-intervals h = rw (fair, lt-leb _ _ h, and-false (leb entries maxEntries))
+
+-- these are the counts of a set
+pub limits-judged : (s : List Entry) (crowd entries total : ℕ) → crowd ≡ crowds s → entries ≡ length s → total ≡ intervals s
+    → judged crowd entries total ≡ limits s
+unfolding limits
+limits-judged s crowd entries total c e t = rw (c, e, t)
+
 -- ---- within the limits, or not
 
 module _ (s : List Entry) where
@@ -84,17 +110,17 @@ module _ (s : List Entry) where
 
   -- each way they come out; what they refuse with is a refusal for full
   pub limits-cases : {P : Type 0} → (limits s ≡ fine → P) → ((r : Refusal) → limits s ≡ breaks r → isFull r ≡ true → P) → P
-  unfolding limits isFull
+  unfolding limits judged isFull
   limits-cases good bad = split (eqb (crowds s) 0)
       (λ f. split few (λ t. good (rw (f, t))) (λ t. bad full (rw (f, t)) refl))
       (λ f. bad crowded (rw f) refl)
 
   pub limits-fair : limits s ≡ fine → crowds s ≡ 0
-  unfolding limits
+  unfolding limits judged
   limits-fair h = split (eqb (crowds s) 0) (λ f. eqb-true (crowds s) 0 f) (λ f. clash (ap isFine h) (rw f))
 
   pub limits-says : limits s ≡ fine → (length s ≤ maxEntries) × (intervals s ≤ maxIntervals)
-  unfolding limits
+  unfolding limits judged
   limits-says h = split few
       (λ t. let (a, b) = and-true (leb (length s) maxEntries) (leb (intervals s) maxIntervals) t in (leb-true _ _ a, leb-true _ _ b))
       (λ t. clash (ap isFine h) (rw (limits-fair h, t)))
@@ -102,17 +128,17 @@ module _ (s : List Entry) where
   -- 17 if some entry has too many
   pub limits-crowded : (crowds s ≡ 0 → ⊥) → limits s ≡ breaks crowded
   unfolding limits
-  limits-crowded f = rw (ne-eqb (crowds s) 0 f)
+  limits-crowded f = judged-crowded (length s) (intervals s) (crowds s) f
 
   module _ (fair : crowds s ≡ 0) where
     pub limits-from : length s ≤ maxEntries → intervals s ≤ maxIntervals → limits s ≡ fine
     unfolding limits
-    limits-from h k = rw (fair, le-leb _ _ h, le-leb _ _ k)
+    limits-from h k = judged-fine (length s) (intervals s) (crowds s) fair h k
 
     pub too-many-entries : maxEntries < length s → limits s ≡ breaks full
     unfolding limits
-    too-many-entries h = rw (fair, lt-leb _ _ h)
+    too-many-entries h = judged-entries (length s) (intervals s) (crowds s) fair h
 
     pub too-many-intervals : maxIntervals < intervals s → limits s ≡ breaks full
     unfolding limits
-    too-many-intervals h = rw (fair, lt-leb _ _ h, and-false (leb (length s) maxEntries))
+    too-many-intervals h = judged-intervals (length s) (intervals s) (crowds s) fair h

@@ -9,3 +9,4 @@ pub mod Run
 pub mod Lent
 pub mod Saved
 pub mod Splice
+pub mod Combine

@@ -49,12 +49,22 @@ abbrev pub isFine : Judged → Bool
 isFine fine = true
 isFine (breaks r) = false
 
--- this is judged where a set is lent, and where one is a result: each entry first, then all together
-unfoldable pub limits : List Entry → Judged
-limits s =
-    pick (eqb (crowds s) 0)
-    (pick (leb (length s) maxEntries && leb (intervals s) maxIntervals) fine (breaks full))
+-- the same as a number: the refusal's, or 0
+abbrev pub judgedAs : Judged → ℕ
+judgedAs fine = 0
+judgedAs (breaks r) = number r
+
+-- what the limits say of a set, by how many of its entries have too many intervals, and how many entries and intervals it has: each entry
+-- first, then all together
+unfoldable pub judged : ℕ → ℕ → ℕ → Judged
+judged crowd entries total =
+    pick (eqb crowd 0)
+    (pick (leb entries maxEntries && leb total maxIntervals) fine (breaks full))
     (breaks crowded)
+
+-- this is judged where a set is lent, and where one is a result
+unfoldable pub limits : List Entry → Judged
+limits s = judged (crowds s) (length s) (intervals s)
 
 -- whether a refusal is one for the set limits
 unfoldable pub isFull : Refusal → Bool

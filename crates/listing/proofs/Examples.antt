@@ -11,7 +11,7 @@ use Rattle.previous_gtids_event.specs.Previous.{tagAt, keyAt, headAt, intervalA
 use Rattle.previous_gtids_event.specs.Rewrite.{intervalsBytes, entryBytes, entriesBytes, anyTag, headerBytes, bodyBytes}
 use Rattle.gtid_event_read.specs.Untagged.{openingAt, untagged}
 use Rattle.gtid_event_read.specs.Read.{seen, named}
-use Rattle.gtid_sets.specs.Limits.{maxEntries, maxIntervals, maxOfEntry, limits}
+use Rattle.gtid_sets.specs.Limits.{maxEntries, maxIntervals, maxOfEntry, judged, limits}
 use Rattle.gtid_sets.specs.Lent.{lentSet}
 use Rattle.resume_set.specs.Answers.{eventOf}
 use Rattle.listing.specs.Digits.{decimalIn, decimal, hexDigit, hex}
@@ -65,7 +65,7 @@ lines =
 
 -- the ids 1 to 5 and 9
 listed : listing (previousOf 2 (eight 1 ++ eight 6 ++ eight 9 ++ eight 10)) ≡ lines
-unfolding lines eventText setText entriesText entryText intervalsText keyText uuidText hex hexDigit decimal decimalIn uuidOf tagOf bodyLimit leOf leBytes leAt many bytesAt gnoTop tagAt keyAt headAt intervalAt entryAt saysTagged saysCount previous intervalsBytes entryBytes entriesBytes anyTag headerBytes bodyBytes maxEntries maxIntervals maxOfEntry limits lentSet
+unfolding lines eventText setText entriesText entryText intervalsText keyText uuidText hex hexDigit decimal decimalIn uuidOf tagOf bodyLimit leOf leBytes leAt many bytesAt gnoTop tagAt keyAt headAt intervalAt entryAt saysTagged saysCount previous intervalsBytes entryBytes entriesBytes anyTag headerBytes bodyBytes maxEntries maxIntervals maxOfEntry limits judged lentSet
 listed = refl
 
 -- flags 0, the uuid, gno 6: 25 bytes

@@ -36,6 +36,9 @@ fn answer_by_call(
     if call < 48 {
         return probe_previous::answer(call, a, out, line);
     }
+    if (52 <= call) & (call < 56) {
+        return probe_two_sets::answer(call, head.number, a, b, out, line);
+    }
     if (call < 64) | (call == 66) {
         return probe_sets::answer(call, head.event_type, head.number, a, b, c, out, line);
     }

@@ -44,7 +44,7 @@ unfoldable pub spread : ℕ → ℕ → List Interval
 spread zero from = []
 spread (suc n) from = interval from (from + 1) ∷ spread n (from + 2)
 
-spread-length : (n from : ℕ) → length (spread n from) ≡ n
+pub spread-length : (n from : ℕ) → length (spread n from) ≡ n
 unfolding spread
 spread-length zero from = refl
 spread-length (suc n) from = ap suc (spread-length n (from + 2))
@@ -65,10 +65,10 @@ spread-before (suc n) from a b h = ap length (insert-before a b from (from + 1) 
 abbrev zeros : Key
 zeros = replicate 16 0
 
-abbrev most : List Interval
+abbrev pub most : List Interval
 most = spread 1024 3
 
-abbrev entryFull : List Entry
+abbrev pub entryFull : List Entry
 entryFull = entry zeros most ∷ []
 
 gaps : Gapped 2 most
@@ -81,7 +81,7 @@ keyed : GoodKeys entryFull
 unfolding uuidOf tagOf
 keyed = (record { uuid = refl; rule = refl }, tt)
 
-laid : SetLaid (bodyBytes entryFull) entryFull
+pub laid : SetLaid (bodyBytes entryFull) entryFull
 laid =
     let few = spread-length 1024 3 in
     record {

@@ -10,9 +10,8 @@ use borrow.Author.Tests.{leb-true, leb-false, eqb-true, eqb-false}
 use Rattle.misc.specs.Refusal.{Refusal, full, crowded}
 use Rattle.packets.proofs.Tests.{split}
 use Rattle.previous_gtids_event.specs.Entry.{Entry}
-use Rattle.gtid_sets.specs.Limits.{maxEntries, maxIntervals, intervals, crowds, fine, breaks, limits, EntryOver}
+use Rattle.gtid_sets.specs.Limits.{maxEntries, maxIntervals, intervals, crowds, fine, breaks, judgedAs, limits, EntryOver}
 use Rattle.gtid_sets.proofs.LimitLaws.{maxEntries-is, maxIntervals-is, maxOfEntry-is, entry-over, over-entry, limits-crowded, limits-from, too-many-entries, too-many-intervals}
-use Rattle.resume_set.specs.Answers.{judgedAs}
 use Rattle.promises.specs.Exact.{Exactly}
 
 module _ (s : List Entry) where

@@ -46,7 +46,7 @@ use Rattle.gtid_event_write.proofs.TotalsLaws.{total-is}
 use Rattle.gtid_event_write.proofs.TotalsReached.{totals}
 use Rattle.gtid_event.specs.Fits.{Fits}
 use Rattle.gtid_event_laws.proofs.EventBack.{event-alone}
-use Rattle.gtid_sets.specs.Limits.{maxEntries, maxIntervals, maxOfEntry, limits}
+use Rattle.gtid_sets.specs.Limits.{maxEntries, maxIntervals, maxOfEntry, judged, limits}
 use Rattle.gtid_sets.specs.Lent.{form, unfit, lentSet}
 use Rattle.resume_set.specs.Answers.{eventOf}
 use Rattle.resume_set.specs.declared.Offered.the-variants.{NoId, Taken, Refused}
@@ -283,7 +283,7 @@ abbrev pub none : List ℕ
 none = replicate 8 0
 
 none-taken-in : TakesIn none [] none
-unfolding outputOf answerOf previous bodyLimit leAt leOf bytesAt saysTagged saysCount many limits maxEntries maxIntervals maxOfEntry bodyBytes anyTag headerBytes entriesBytes leBytes
+unfolding outputOf answerOf previous bodyLimit leAt leOf bytesAt saysTagged saysCount many limits judged maxEntries maxIntervals maxOfEntry bodyBytes anyTag headerBytes entriesBytes leBytes
 none-taken-in = record {
   are-bytes = zeros-bytes 8;
   used = 8;
@@ -307,7 +307,7 @@ offer gno room = record { type = 33; body = bodyOf gno; out = replicate room 0 }
 
 -- one that copies its set
 pub copies-its-set-out : TellsHistory copiesItsSet → ⊥
-unfolding eventOf read-specs.named seen bodyLimit untagged openingAt byteAt bytesAt leAt leOf outputOf lentSet previous saysTagged saysCount many limits maxEntries maxIntervals maxOfEntry bodyBytes anyTag headerBytes entriesBytes leBytes
+unfolding eventOf read-specs.named seen bodyLimit untagged openingAt byteAt bytesAt leAt leOf outputOf lentSet previous saysTagged saysCount many limits judged maxEntries maxIntervals maxOfEntry bodyBytes anyTag headerBytes entriesBytes leBytes
 copies-its-set-out history =
     let (_, members) = history none [] none (offer 1 8 ∷ []) none-taken-in (body-bytes 1 small-1, tt) in
     let clash : false ≡ true = members (replicate 16 0) 1 in
@@ -315,7 +315,7 @@ copies-its-set-out history =
 
 -- one that adds an id to the empty set only
 pub adds-only-the-first-out : TellsHistory addsOnlyTheFirst → ⊥
-unfolding eventOf read-specs.named seen bodyLimit untagged openingAt byteAt bytesAt leAt leOf outputOf lentSet previous saysTagged saysCount many limits maxEntries maxIntervals maxOfEntry bodyBytes anyTag headerBytes entriesBytes leBytes entryBytes intervalsBytes uuidOf tagOf entryAt headAt keyAt previous-specs.tagAt intervalAt gnoTop
+unfolding eventOf read-specs.named seen bodyLimit untagged openingAt byteAt bytesAt leAt leOf outputOf lentSet previous saysTagged saysCount many limits judged maxEntries maxIntervals maxOfEntry bodyBytes anyTag headerBytes entriesBytes leBytes entryBytes intervalsBytes uuidOf tagOf entryAt headAt keyAt previous-specs.tagAt intervalAt gnoTop
 adds-only-the-first-out history =
     let (_, members) = history none [] none (offer 1 48 ∷ offer 3 48 ∷ []) none-taken-in (body-bytes 1 small-1, (body-bytes 3 small-3, tt)) in
     let clash : false ≡ true = members (replicate 16 0) 3 in
@@ -326,7 +326,7 @@ abbrev top : Turn
 top = record { type = 33; body = replicate 17 0 ++ leBytes 8 gnoTop; out = replicate 48 0 }
 
 pub takes-top-out : TellsHistory takesTop → ⊥
-unfolding eventOf read-specs.named seen bodyLimit untagged openingAt byteAt bytesAt leAt leOf outputOf lentSet previous saysTagged saysCount many limits maxEntries maxIntervals maxOfEntry bodyBytes anyTag headerBytes entriesBytes leBytes entryBytes intervalsBytes uuidOf tagOf entryAt headAt keyAt previous-specs.tagAt intervalAt gnoTop
+unfolding eventOf read-specs.named seen bodyLimit untagged openingAt byteAt bytesAt leAt leOf outputOf lentSet previous saysTagged saysCount many limits judged maxEntries maxIntervals maxOfEntry bodyBytes anyTag headerBytes entriesBytes leBytes entryBytes intervalsBytes uuidOf tagOf entryAt headAt keyAt previous-specs.tagAt intervalAt gnoTop
 takes-top-out history =
     let ((s, lent), _) = history none [] none (top ∷ []) none-taken-in (below-bytes (top .body) refl, tt) in
     let same : unfit ≡ form s = lent in
@@ -345,7 +345,7 @@ same-answer : (f : Offering) → OffersExactly f → (gno : ℕ) → Bytes (gno 
 same-answer f exactly gno small room = same-offers offers-exactly exactly none (offer gno room) (body-bytes gno small) .0
 
 takes-1 : ours .answers none (offer 1 48) ≡ Taken 48
-unfolding eventOf read-specs.named seen bodyLimit untagged openingAt byteAt bytesAt leAt leOf lentSet previous saysTagged saysCount many limits maxEntries maxIntervals maxOfEntry bodyBytes anyTag headerBytes entriesBytes leBytes entryBytes intervalsBytes uuidOf tagOf gnoTop
+unfolding eventOf read-specs.named seen bodyLimit untagged openingAt byteAt bytesAt leAt leOf lentSet previous saysTagged saysCount many limits judged maxEntries maxIntervals maxOfEntry bodyBytes anyTag headerBytes entriesBytes leBytes entryBytes intervalsBytes uuidOf tagOf gnoTop
 takes-1 = refl
 
 -- one that says "no id" to all
@@ -356,7 +356,7 @@ always-no-id-out exactly =
     omega arith
 
 pub refuses-0 : ours .answers none (offer 0 48) ≡ Refused 15 0
-unfolding eventOf read-specs.named seen bodyLimit untagged openingAt byteAt bytesAt leAt leOf lentSet previous saysTagged saysCount many limits maxEntries maxIntervals maxOfEntry bodyBytes anyTag headerBytes entriesBytes leBytes
+unfolding eventOf read-specs.named seen bodyLimit untagged openingAt byteAt bytesAt leAt leOf lentSet previous saysTagged saysCount many limits judged maxEntries maxIntervals maxOfEntry bodyBytes anyTag headerBytes entriesBytes leBytes
 refuses-0 = refl
 
 names-zero : noIdForZero .answers none (offer 0 48) ≡ NoId 8
@@ -372,7 +372,7 @@ no-id-for-zero-out exactly =
 
 -- one that asks only for ids with a tag: the set holds gno 1 of the zero uuid
 one-member : member (bodyBytes (entry (replicate 16 0) (interval 1 2 ∷ []) ∷ [])) (replicate 16 0) 1 ≡ true
-unfolding bodyLimit byteAt bytesAt leAt leOf lentSet previous saysTagged saysCount many limits maxEntries maxIntervals maxOfEntry bodyBytes anyTag headerBytes entriesBytes leBytes entryBytes intervalsBytes uuidOf tagOf entryAt headAt keyAt previous-specs.tagAt intervalAt gnoTop
+unfolding bodyLimit byteAt bytesAt leAt leOf lentSet previous saysTagged saysCount many limits judged maxEntries maxIntervals maxOfEntry bodyBytes anyTag headerBytes entriesBytes leBytes entryBytes intervalsBytes uuidOf tagOf entryAt headAt keyAt previous-specs.tagAt intervalAt gnoTop
 one-member = refl
 
 pub asks-tagged-only-out : AsksExactly asksTaggedOnly → ⊥

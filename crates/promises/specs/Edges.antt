@@ -21,6 +21,7 @@ use Rattle.gtid_event_read.specs.Read.{seen, gtidRead}
 use Rattle.gtid_event_write.specs.Size.{payloadSize, sizeIn64}
 use Rattle.gtid_event_write.specs.Write.{eventBytes}
 use Rattle.gtid_sets.specs.Set.{add}
+use Rattle.gtid_sets.specs.Combine.{either, both, without, combined, within}
 use Rattle.abi.specs.Answers.{bit}
 use Rattle.abi.specs.Flat.{flat, flatRead}
 
@@ -132,6 +133,19 @@ fullBytes =
     ++ (16 ∷ 15 ∷ 0 ∷ 0 ∷ 18 ∷ 17 ∷ 0 ∷ 0 ∷ [])
     ++ eight 20 19
 
+-- {1-5, 8-9} and {3-7, 20}; of the zero uuid, and with the tag "a"
+abbrev oneList : List Interval
+oneList = interval 1 6 ∷ interval 8 10 ∷ []
+
+abbrev otherList : List Interval
+otherList = interval 3 8 ∷ interval 20 21 ∷ []
+
+abbrev ofZeros : List Interval → List Entry
+ofZeros is = entry (replicate 16 0) is ∷ []
+
+abbrev ofTag : List Interval → List Entry
+ofTag is = entry (replicate 16 0 ++ (97 ∷ [])) is ∷ []
+
 -- ---- the table
 
 abbrev edge : List ℕ → List ℕ → Edge
@@ -170,6 +184,18 @@ edges =
     ∷ edge (only (length smallBytes)) (only 37)
     -- {1-5, 7} with 6 becomes {1-7}
     ∷ edge (firstPairs (add (replicate 16 0) 6 (entry (replicate 16 0) (interval 1 6 ∷ interval 7 8 ∷ []) ∷ []))) (1 ∷ 8 ∷ [])
+    -- {1-5, 8-9} and {3-7, 20}: either is {1-9, 20}, both {3-5}, the first without the second {1-2, 8-9}
+    ∷ edge (firstPairs (combined either (ofZeros oneList) (ofZeros otherList))) (1 ∷ 10 ∷ 20 ∷ 21 ∷ [])
+    ∷ edge (firstPairs (combined both (ofZeros oneList) (ofZeros otherList))) (3 ∷ 6 ∷ [])
+    ∷ edge (firstPairs (combined without (ofZeros oneList) (ofZeros otherList))) (1 ∷ 3 ∷ 8 ∷ 10 ∷ [])
+    -- {3-5} is in the first, which isn't in the second; the empty set is in each
+    ∷ edge (truth (within (ofZeros (interval 3 6 ∷ [])) (ofZeros oneList))) (only 1)
+    ∷ edge (truth (within (ofZeros oneList) (ofZeros otherList))) (only 0)
+    ∷ edge (truth (within [] (ofZeros oneList))) (only 1)
+    -- the same uuid with a tag is another key: none is in both, two entries in either; and an entry that is left empty goes
+    ∷ edge (only (length (combined both (ofZeros oneList) (ofTag oneList)))) (only 0)
+    ∷ edge (only (length (combined either (ofZeros oneList) (ofTag oneList)))) (only 2)
+    ∷ edge (only (length (combined without (ofZeros oneList) (ofZeros oneList)))) (only 0)
     -- tagged header for one entry: 01 01 00 00 00 00 00 01
     ∷ edge (headerBytes true 1) (1 ∷ 1 ∷ 0 ∷ 0 ∷ 0 ∷ 0 ∷ 0 ∷ 1 ∷ [])
     -- "a", "a0" and "z_9" are tags; nothing, "A" and a digit first aren't

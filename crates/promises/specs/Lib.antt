@@ -19,6 +19,7 @@ pub mod BodyFaults
 pub mod PlainFaults
 pub mod SetFaults
 pub mod Exact
+pub mod TwoSets
 pub mod Told
 pub mod Orders
 pub mod Answers

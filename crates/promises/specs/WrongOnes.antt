@@ -1,13 +1,13 @@
--- Wrong programs that the demands shut out: `ShutOut`, `Crowding` and `Absent` of proofs/.
+-- Wrong programs that the demands shut out: `ShutOut`, `Crowding`, `Absent` and `TwoShut` of proofs/.
 use Prim.Native.Nat.{ℕ, _+_}
 use mathlib.Core.Bool.{Bool, false, _&&_}
 use mathlib.Core.List.{List, [], _∷_, _++_}
 use lib.ListN.{length, set, replicate}
-use lib.Dec.{eqb, ltb}
+use lib.Dec.{eqb, ltb, leb}
 use Rattle.misc.specs.Pick.{pick}
 use Rattle.misc.specs.Refusal.{ended, notWritable}
 use Rattle.misc.specs.Parse.{Parse, refuse, parsed, mapped}
-use Rattle.misc.specs.Output.{refused, bytes, outputOf}
+use Rattle.misc.specs.Output.{refused, bytes, outputOf, answerOf}
 use Rattle.misc.specs.Varlen.{itemOf, varlenBytes}
 use Rattle.packets.specs.Gno.{gnoTop, interval}
 use Rattle.previous_gtids_event.specs.Entry.{entry}
@@ -23,7 +23,9 @@ use Rattle.gtid_event_write.specs.Layout.{fieldBytes}
 use Rattle.gtid_event_write.specs.Write.{eventOutput}
 use Rattle.gtid_sets.specs.Run.{Event, anonymous, broken, names}
 use Rattle.gtid_sets.specs.Lent.{lentSet}
-use Rattle.resume_set.specs.Answers.{says, eventOf, offered, output}
+use Rattle.gtid_sets.specs.Combine.{either, both, without}
+use Rattle.resume_set.specs.Answers.{setRead, says, eventOf, offered, output}
+use Rattle.two_sets.specs.declared.AllWithin.{AllWithin}
 use Rattle.resume_set.specs.declared.Offered.{Offered}
 use Rattle.resume_set.specs.declared.Offered.the-variants.{NoId, AlreadyThere, Taken, Refused}
 use Rattle.resume_set_laws.specs.History.{Offering}
@@ -32,6 +34,8 @@ use Rattle.packets.specs.Key.{same}
 use Rattle.promises.specs.TaggedLayout.{the-tag, seenIn}
 use Rattle.promises.specs.Meaning.{EventReader, EventWriter, EntriesReader}
 use Rattle.promises.specs.Exact.{Asking, asks}
+use Rattle.promises.specs.TwoSets as two-sets
+use Rattle.promises.specs.TwoSets.{Combiner}
 
 -- refuses whatever comes
 abbrev pub refusesAll : EventReader
@@ -210,3 +214,52 @@ crowdedEarly = onlyFor 4 (record { answers = λ set t. Refused 17 0; leaves = λ
 -- finds no id without a tag
 abbrev pub asksTaggedOnly : Asking
 asksTaggedOnly set uuid tag gno = ltb 0 (length tag) && asks set uuid tag gno
+
+-- ---- calls over two sets
+
+-- the set of one id of the zero uuid; and with the tag "a"
+abbrev pub alone : ℕ → List ℕ
+alone n = bodyBytes (entry (replicate 16 0) (interval n (n + 1) ∷ []) ∷ [])
+
+abbrev pub aloneTagged : ℕ → List ℕ
+aloneTagged n = bodyBytes (entry (replicate 16 0 ++ (97 ∷ [])) (interval n (n + 1) ∷ []) ∷ [])
+
+-- writes these bytes for two sets, and is like another call for all others
+abbrev pub onlyOf : List ℕ → List ℕ → List ℕ → Combiner → Combiner
+onlyOf first second bs f =
+    record {
+      answers = λ a b out. pick (same a first && same b second) (answerOf out (bytes bs)) (f .answers a b out);
+      leaves = λ a b out. pick (same a first && same b second) (outputOf out (bytes bs)) (f .leaves a b out);
+    }
+
+-- leaves pieces apart that touch: 1 and 2 are two intervals
+abbrev pub staysApart : Combiner
+staysApart = onlyOf (alone 1) (alone 2) (bodyBytes (entry (replicate 16 0) (interval 1 2 ∷ interval 2 3 ∷ []) ∷ [])) (two-sets.ours either)
+
+-- keeps an entry that is left empty
+abbrev pub keepsEmpty : Combiner
+keepsEmpty = onlyOf (alone 1) (alone 1) (bodyBytes (entry (replicate 16 0) [] ∷ [])) (two-sets.ours without)
+
+-- takes the same uuid with a tag for the same key
+abbrev pub ignoresTag : Combiner
+ignoresTag = onlyOf (alone 1) (aloneTagged 1) (alone 1) (two-sets.ours both)
+
+-- takes the first set away from the second
+abbrev pub swapsSets : Combiner
+swapsSets = record { answers = λ a b out. two-sets.ours without .answers b a out; leaves = λ a b out. two-sets.ours without .leaves b a out }
+
+-- says 17 where the two sets have more than 1,024 intervals together, whatever the result has
+abbrev pub countsInputs : Combiner
+countsInputs =
+    record {
+      answers = λ a b out. pick (ltb 1024 (setRead (lentSet a) .intervals + setRead (lentSet b) .intervals)) (record { refusal = 17; len = 0 })
+          (two-sets.ours either .answers a b out);
+      leaves = two-sets.ours either .leaves;
+    }
+
+-- compares lengths, or whether the sets are the same, for "all of the first are in the second"
+abbrev pub comparesLengths : List ℕ → List ℕ → AllWithin
+comparesLengths first second = record { refusal = 0; all = leb (length first) (length second) }
+
+abbrev pub wantsSame : List ℕ → List ℕ → AllWithin
+wantsSame first second = record { refusal = 0; all = same first second }

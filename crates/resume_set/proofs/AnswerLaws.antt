@@ -1,12 +1,12 @@
 -- Laws of answers and outputs.
-use Prim.Native.Nat.{ℕ, _+_, _<_, _≤_}
+use Prim.Native.Nat.{ℕ, _<_, _≤_}
 use mathlib.Core.Path.{_≡_, refl, sym, ap, _∙_}
 use mathlib.Core.Logic.{_⊎_, inl, inr}
 use mathlib.Core.Bool.{Bool, true, false, _&&_}
 use mathlib.Core.List.{List, _++_}
 use native.Mathlib.Omega.{arith}
-use borrow.Author.Tests.{eq-eqb, ne-eqb, ltb-true, ltb-false}
-use lib.Dec.{leb, ltb}
+use borrow.Author.Tests.{eq-eqb, ne-eqb}
+use lib.Dec.{leb}
 use lib.ListN.{length, take, length-append, length-replicate}
 use Rattle.misc.specs.Refusal.{Refusal, refusal, number}
 use Rattle.misc.specs.Parse.{refuse, parsed}
@@ -29,17 +29,17 @@ use Rattle.gtid_event_read.proofs.Telling.{refused-by, gtid-told}
 use Rattle.gtid_event_read.proofs.PresentLaws.{named-record}
 use Rattle.gtid_event_read.proofs.Ranges.{UntaggedRange, TaggedRange, gtid-range}
 use Rattle.gtid_sets.specs.Set.{has, join, add}
-use Rattle.gtid_sets.specs.Limits.{Judged, fine, breaks, limits, intervals, over, crowds}
+use Rattle.gtid_sets.specs.Limits.{Judged, fine, breaks, judgedAs, judged, limits, intervals, over, crowds}
 use Rattle.gtid_sets.specs.Run.{Event, names}
 use Rattle.gtid_sets.specs.Lent.{Lent, form, unfit, lentSet}
-use Rattle.gtid_sets.proofs.LimitLaws.{maxEntries-is, maxIntervals-is, limits-fair, limits-crowded, limits-from, too-many-entries, too-many-intervals}
+use Rattle.gtid_sets.proofs.LimitLaws.{limits-judged, limits-fair}
 use Rattle.gtid_sets.proofs.LentLaws.{lent-is}
 use Rattle.set_check.specs.Check.{checkedOf}
 use Rattle.set_check.specs.declared.Checked.{Checked}
 use Rattle.set_check.proofs.PlaceLaws.{Bytes}
-use Rattle.resume_set.specs.Answers.{setRead, contained, eventOf, fitting, offeredOf, outputFor, offered, output, saved, caseOf, judgedAs, acceptedAs}
+use Rattle.resume_set.specs.Answers.{setRead, contained, eventOf, fitting, offeredOf, outputFor, offered, output, saved, caseOf, acceptedAs}
 use Rattle.resume_set.specs.Find.{setOf, Counted, Fits}
-use Rattle.resume_set.specs.Join.{extra, PlanIs}
+use Rattle.resume_set.specs.Join.{PlanIs}
 use Rattle.resume_set.specs.declared.SetRead.{SetRead}
 use Rattle.resume_set.specs.declared.Contained.{Contained}
 use Rattle.resume_set.specs.declared.Offered.{Offered}
@@ -49,7 +49,6 @@ use Rattle.resume_set.specs.declared.Plan.{Plan}
 use Rattle.resume_set.specs.declared.Kind.{Kind}
 use Rattle.resume_set.specs.declared.Kind.the-variants as kind
 use Rattle.resume_set.proofs.SetOfLaws.{lent-set}
-use Rattle.resume_set.proofs.JoinLaws.{extra-over}
 
 -- ---- what the check told
 
@@ -113,47 +112,17 @@ told-bytes : (k : Kind) (l bs : List ℕ) → acceptedAs k (answerOf l (bytes bs
 unfolding answerOf
 told-bytes k l bs = split (leb (length bs) (length l)) (λ h. rw h) (λ h. rw h)
 
--- ---- what the limits say of a set
+-- ---- what the limits say of a set that was made, and of one that is planned
 
-module _ (s : List Entry) (crowd : Bool) (e i : ℕ) (c : (crowd ≡ ltb 0 (crowds s)) × (e ≡ length s) × (i ≡ intervals s)) where
-  pub judged-crowded : crowd ≡ true → 17 ≡ judgedAs (limits s)
-  judged-crowded h = rw (limits-crowded s (λ none. omega (arith, ltb-true 0 (crowds s) (sym (c .0) ∙ h))))
+pub counts-judged : (s : List Entry) (h : Held) → Counted s h → judged (h .crowded) (h .entries) (h .intervals) ≡ limits s
+counts-judged s h c = limits-judged s (h .crowded) (h .entries) (h .intervals) (c .crowd) (c .count) (c .total)
 
-  module _ (fair : crowd ≡ false) where
-    none : crowds s ≡ 0
-    none = omega (arith, ltb-false 0 (crowds s) (sym (c .0) ∙ fair))
-
-    pub judged-entries : 384 < e → 16 ≡ judgedAs (limits s)
-    judged-entries many = rw (too-many-entries s none (omega (arith, maxEntries-is)))
-
-    pub judged-intervals : 2560 < i → 16 ≡ judgedAs (limits s)
-    judged-intervals many = rw (too-many-intervals s none (omega (arith, maxIntervals-is)))
-
-    pub judged-fine : e ≤ 384 → i ≤ 2560 → 0 ≡ judgedAs (limits s)
-    judged-fine few less = rw (limits-from s none (omega (arith, maxEntries-is)) (omega (arith, maxIntervals-is)))
-
--- an entry with so many intervals is the only one that can have too many
-pub only-crowd : (n held m : ℕ) → n ≡ m + over held → m ≡ 0 → ltb 1024 held ≡ ltb 0 n
-only-crowd n held m is none =
-    let alone : n ≡ extra (ltb 1024 held) 1 = omega (arith, extra-over held) in
-    rw alone (some (ltb 1024 held))
-  where
-    some : (b : Bool) → b ≡ ltb 0 (extra b 1)
-    some true = refl
-    some false = refl
-
--- what is known of a set that was made, and of one that is planned
-pub counts : (s : List Entry) (h : Held) → Counted s h → (ltb 0 (h .crowded) ≡ ltb 0 (crowds s)) × (h .entries ≡ length s) × (h .intervals ≡ intervals s)
-counts s h c = (ap (ltb 0) (c .crowd), c .count, c .total)
-
-pub planned : (bs u t : List ℕ) (a b : ℕ) (p : Plan) → PlanIs bs u t a b p → crowds (setOf bs) ≡ 0
-    → let s : List Entry = join (u ++ t) a b (setOf bs) in
-    (ltb 1024 (p .held) ≡ ltb 0 (crowds s)) × (p .entries ≡ length s) × (p .intervals ≡ intervals s)
-planned bs u t a b p is none = (
-  only-crowd _ (p .held) (is .others) (is .crowd-is) (omega (arith, is .crowd-was)),
-  is .entries-is,
-  is .intervals-is,
-)
+-- the entry that the interval goes into is the only one that can have too many
+pub plan-judged : (bs u t : List ℕ) (a b : ℕ) (p : Plan) → PlanIs bs u t a b p → crowds (setOf bs) ≡ 0 → (crowd : ℕ) → crowd ≡ over (p .held)
+    → judged crowd (p .entries) (p .intervals) ≡ limits (join (u ++ t) a b (setOf bs))
+plan-judged bs u t a b p is none crowd e =
+    limits-judged (join (u ++ t) a b (setOf bs)) crowd (p .entries) (p .intervals)
+    (omega (arith, is .crowd-was, is .crowd-is)) (is .entries-is) (is .intervals-is)
 
 -- ---- a set that was made, or is to be written
 

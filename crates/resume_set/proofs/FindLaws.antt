@@ -1,127 +1,38 @@
 -- Laws of `find`: entries before a key are passed, one after another.
-use Prim.Native.Nat.{ℕ, _+_, _-_, _*_, _/_, _^_, _<_, _≤_}
+use Prim.Native.Nat.{ℕ, _+_, _-_, _^_, _<_, _≤_}
 use mathlib.Core.Path.{_≡_, refl, sym, ap, _∙_}
-use mathlib.Core.Bool.{Bool, true, false, _||_, or-assoc, or-false}
+use mathlib.Core.Bool.{Bool, true, false, _||_, or-assoc}
 use mathlib.Core.List.{List, [], _∷_, _++_, append-assoc}
 use native.Mathlib.Omega.{arith}
 use lib.Dec.{ltb}
-use lib.ListN.{length, drop, getD, length-append, length-drop}
-use lib.Seq.{drop-at, append-snoc}
+use lib.ListN.{length, drop, length-append, length-drop}
+use lib.Seq.{append-snoc}
 use Rattle.misc.specs.Parse.{part}
-use Rattle.misc.specs.Le.{leBytes}
 use Rattle.misc.proofs.ParseLaws.{part-length}
-use Rattle.misc.proofs.LeLaws.{length-leBytes}
 use Rattle.packets.specs.Gno.{Interval}
 use Rattle.packets.specs.Key.{Key, order, orElse, orderRead, _≺_}
 use Rattle.packets.specs.declared.KeyOrder.{KeyOrder}
 use Rattle.packets.specs.declared.KeyOrder.the-variants.{Before, Same, After}
 use Rattle.packets.proofs.Tests.{clash}
 use Rattle.packets.proofs.Keys.{flip, order-eq, order-flip, order-append, after-not-same}
-use Rattle.previous_gtids_event.specs.Entry.{Entry, entry, uuidOf, tagOf}
+use Rattle.previous_gtids_event.specs.Entry.{Entry, entry, tagOf}
 use Rattle.previous_gtids_event.specs.Previous.{GoodKey}
-use Rattle.previous_gtids_event.specs.Rewrite.{intervalsBytes, tagBytes, entriesBytes, anyTag, headerBytes, bodyBytes}
+use Rattle.previous_gtids_event.specs.Rewrite.{entriesBytes, anyTag}
 use Rattle.gtid_sets.specs.Interval.{insert}
 use Rattle.gtid_sets.specs.Set.{has, join, SetForm}
 use Rattle.gtid_sets.specs.Limits.{summed}
 use Rattle.gtid_sets.specs.Lent.{GoodKeys}
-use Rattle.gtid_sets.proofs.Bools.{or-false-parts}
 use Rattle.gtid_sets.proofs.LimitLaws.{summed-append}
 use Rattle.gtid_sets.proofs.SetLaws.{join-before, join-into, join-after, above-misses, entry-has}
-use Rattle.previous_gtids_event.proofs.Reading.{none-or-tag-short, key-whole}
-use Rattle.previous_gtids_event.proofs.Writing.{length-header, length-intervals-bytes}
-use Rattle.gtid_sets.proofs.ByteLaws.{entries-least, entriesBytes-append}
-use Rattle.gtid_sets.proofs.LentLaws.{gapped-wide}
-use Rattle.set_check.specs.Places.{numberAt, intervalsAt}
-use Rattle.set_check.specs.Head.{headBytes, KeyOk}
-use Rattle.set_check.proofs.PlaceLaws.{part-there, after-there, left-there, byte-there, number-there, intervals-there, one-byte}
+use Rattle.previous_gtids_event.proofs.Reading.{key-whole}
+use Rattle.gtid_sets.proofs.ByteLaws.{entriesBytes-append}
+use Rattle.set_check.specs.Places.{intervalsAt, placeAt, placeIn}
+use Rattle.set_check.specs.declared.EntryPlace.{EntryPlace}
 use Rattle.set_check.proofs.OrderLaws.{says-before, says-same, says-after}
-use Rattle.set_check.proofs.RestLaws.{entries-head}
-use Rattle.resume_set.specs.Find.{setOf, IsSet, placeFrom, placeAt, FoundIs}
-use Rattle.resume_set.specs.declared.EntryPlace.{EntryPlace}
+use Rattle.set_check.proofs.EntryPlaces.{EntryHere, place-here, untagged-parts, first-ok, first-here, first-intervals, first-next}
+use Rattle.resume_set.specs.Find.{setOf, IsSet, FoundIs}
 use Rattle.resume_set.specs.declared.Found.{Found}
-
--- ---- the entry at a place
-
--- an entry with this key and these intervals stands there, before other bytes
-pub record EntryHere (bs : List ℕ) (at : ℕ) (k : Key) (is : List Interval) (rest : List ℕ) (p : EntryPlace) : Type 0 where
-  pub uuid-there : part bs at 16 ≡ uuidOf k
-  pub tag-there : part bs (p .«tag_at») (p .«tag_len») ≡ tagOf k
-  pub count : p .count ≡ length is
-  pub after : drop (p .first) bs ≡ intervalsBytes is ++ rest
-  pub place : at + 16 ≤ p .«tag_at»
-  pub first-is : p .first ≡ p .«tag_at» + p .«tag_len» + 8
-  pub next-is : p .next ≡ p .first + 16 * p .count
-  pub inside : p .next ≤ length bs
-
-module _ (bs : List ℕ) (at : ℕ) (k : Key) (is : List Interval) (rest : List ℕ) (small : length is < 2 ^ 64) where
-  abbrev counted : List ℕ
-  counted = leBytes 8 (length is) ++ (intervalsBytes is ++ rest)
-
-  from-tag : (from len : ℕ) → part bs at 16 ≡ uuidOf k → at + 16 ≤ from → length (tagOf k) ≡ len → drop from bs ≡ tagOf k ++ counted
-      → EntryHere bs at k is rest (placeFrom bs from len)
-  from-tag from len u h l e =
-      let c : drop (from + len) bs ≡ counted = after-there bs from len (tagOf k) counted e l in
-      let n : numberAt bs (from + len) ≡ length is = number-there bs (from + len) (length is) (intervalsBytes is ++ rest) c small in
-      let size = left-there bs (from + len) (leBytes 8 (length is)) (intervalsBytes is ++ rest) c in
-      record {
-        uuid-there = u;
-        tag-there = part-there bs from len (tagOf k) counted e l;
-        count = n;
-        after = after-there bs (from + len) 8 (leBytes 8 (length is)) (intervalsBytes is ++ rest) c (length-leBytes 8 (length is));
-        place = h;
-        first-is = refl;
-        next-is = refl;
-        inside = omega (arith, n, size, length-leBytes 8 (length is), length-append (intervalsBytes is) rest, length-intervals-bytes is);
-      }
-
-  pub entry-here : (w : Bool) → KeyOk w k → drop at bs ≡ headBytes w k (length is) (intervalsBytes is ++ rest)
-      → EntryHere bs at k is rest (placeAt w bs at)
-  entry-here w ok e = go w ok (part-there bs at 16 (uuidOf k) _ e long) (after-there bs at 16 (uuidOf k) _ e long)
-    where
-      long : length (uuidOf k) ≡ 16
-      long = ok .good .uuid
-
-      none : (t : List ℕ) → length t ≡ 0 → counted ≡ t ++ counted
-      none [] h = refl
-      none (x ∷ t) h = absurd (omega arith)
-
-      go : (w : Bool) → KeyOk w k → part bs at 16 ≡ uuidOf k → drop (at + 16) bs ≡ tagBytes w (tagOf k) ++ counted
-          → EntryHere bs at k is rest (placeAt w bs at)
-      go false ok u d = from-tag (at + 16) 0 u (omega arith) (ok .plain refl) (d ∙ none (tagOf k) (ok .plain refl))
-      go true ok u d =
-          let short = none-or-tag-short (tagOf k) (ok .good .rule) in
-          let d′ : drop (at + 16) bs ≡ (2 * length (tagOf k) ∷ []) ++ (tagOf k ++ counted) = d ∙ rw (one-byte (length (tagOf k)) (omega arith)) in
-          let b : getD bs (at + 16) 0 ≡ 2 * length (tagOf k) = byte-there bs (at + 16) (2 * length (tagOf k)) (tagOf k ++ counted) d′ in
-          let m : at + 16 + 1 ≡ at + 17 = omega arith in
-          from-tag (at + 17) (getD bs (at + 16) 0 / 2) u (omega arith) (omega arith)
-          (rw m at (after-there bs (at + 16) 1 (2 * length (tagOf k) ∷ []) (tagOf k ++ counted) d′ refl))
-
--- ---- what the code makes of an entry
-
-pub place-made : (bs : List ℕ) (at len n : ℕ) → n ≡ numberAt bs (at + len)
-    → _≡_ {A = EntryPlace} (record { «tag_at» = at; «tag_len» = len; count = n; first = at + len + 8; next = at + len + 8 + 16 * n }) (placeFrom bs at len)
-place-made bs at len n e = rw e
-
-module _ (bs : List ℕ) (w : Bool) (at : ℕ) where
-  pub tagged-inside : (b : ℕ) → w ≡ true → b ≡ getD bs (at + 16) 0 → placeAt w bs at .next ≤ length bs → placeFrom bs (at + 17) (b / 2) .next ≤ length bs
-  tagged-inside b e d h = rw d (rw e at h)
-
-  pub plain-inside : w ≡ false → placeAt w bs at .next ≤ length bs → placeFrom bs (at + 16) 0 .next ≤ length bs
-  plain-inside e h = rw e at h
-
-  pub place-tagged : (p : EntryPlace) (b : ℕ) → w ≡ true → b ≡ getD bs (at + 16) 0 → p ≡ placeFrom bs (at + 17) (b / 2) → p ≡ placeAt w bs at
-  place-tagged p b e d h = h ∙ rw (e, d)
-
-  pub place-plain : (p : EntryPlace) → w ≡ false → p ≡ placeFrom bs (at + 16) 0 → p ≡ placeAt w bs at
-  place-plain p e h = h ∙ rw e
-
-  -- some bytes at least are there
-  pub place-far : placeAt w bs at .next ≤ length bs → at + 24 ≤ length bs
-  place-far h = go w h
-    where
-      go : (v : Bool) → placeAt v bs at .next ≤ length bs → at + 24 ≤ length bs
-      go true k = omega arith
-      go false k = omega arith
+use Rattle.resume_set.proofs.SetOfLaws.{set-bytes}
 
 -- ---- entries one after another
 
@@ -133,13 +44,6 @@ any-append (entry k is ∷ s) t = rw (any-append s t) (sym (or-assoc (ltb 0 (len
 good-snoc : (k : Key) (is : List Interval) (s : List Entry) → GoodKeys s → GoodKey k → GoodKeys (s ++ (entry k is ∷ []))
 good-snoc k is [] h g = (g, tt)
 good-snoc k is (entry j js ∷ s) h g = (h .0, good-snoc k is s (h .1) g)
-
--- an entry without a tag before others without
-untagged-parts : (k : Key) (is : List Interval) (s : List Entry) → anyTag (entry k is ∷ s) ≡ false → (anyTag (entry k is ∷ []) ≡ false) × (anyTag s ≡ false)
-unfolding anyTag
-untagged-parts k is s h =
-    let (a, b) = or-false-parts (ltb 0 (length (tagOf k))) (anyTag s) h in
-    (or-false (ltb 0 (length (tagOf k))) ∙ a, b)
 
 -- the entries of front are before the key and end at a place; those of back stand from there on
 pub record Stand (bs : List ℕ) (w : Bool) (k : Key) (s : List Entry) (done at : ℕ) (front back : List Entry) : Type 0 where
@@ -165,11 +69,9 @@ pub record Passed (bs : List ℕ) (w : Bool) (k : Key) (s : List Entry) (done at
   pub stand : Stand bs w k s done at front back
 
 pub passed-none : (bs : List ℕ) (w : Bool) (n : ℕ) (k : Key) → IsSet bs w n → Passed bs w k (setOf bs) 0 8
-unfolding bodyBytes entriesBytes anyTag
+unfolding entriesBytes anyTag
 passed-none bs w n k h =
     let s : List Entry = setOf bs in
-    let e : bs ≡ headerBytes w (length s) ++ entriesBytes w s = h .written ∙ ap (λ (v : Bool). headerBytes v (length s) ++ entriesBytes v s) (h .tags) in
-    let size : length bs ≡ length (headerBytes w (length s)) + length (entriesBytes w s) = ap length e ∙ length-append (headerBytes w (length s)) (entriesBytes w s) in
     record {
       front = [];
       back = s;
@@ -178,7 +80,7 @@ passed-none bs w n k h =
         total = λ f. omega arith;
         count = refl;
         bytes = refl;
-        rest = ap (drop 8) e ∙ drop-at (headerBytes w (length s)) (entriesBytes w s) 8 (length-header w (length s));
+        rest = set-bytes bs w n h .1;
         joins = λ a b. refl;
         member = λ n. refl;
         formed = h .formed;
@@ -188,7 +90,7 @@ passed-none bs w n k h =
         tags = λ f. h .tags ∙ f;
         small = h .small;
         place = refl;
-        inside = omega (arith, length-header w (length s));
+        inside = set-bytes bs w n h .0;
       };
     }
 
@@ -246,37 +148,22 @@ module _ (bs : List ℕ) (w : Bool) (k : Key) (s : List Entry) (done at : ℕ) w
     abbrev v : Stand bs w k s done at (x .front) (entry (x .key) (x .is) ∷ x .back)
     v = x .stand
 
-    ok : KeyOk w (x .key)
-    unfolding anyTag
-    ok = record {
-      good = v .keyed .0;
-      plain = λ f.
-          let a = or-false-parts (ltb 0 (length (tagOf (x .key)))) (anyTag (x .back)) (v .tags f) .0 in
-          let b = borrow.Author.Tests.ltb-false 0 (length (tagOf (x .key))) a in
-          omega arith;
-    }
+    here : EntryHere bs at (x .key) (x .is) (entriesBytes w (x .back)) (placeAt w bs at)
+    here = first-here bs w at (x .key) (x .is) (x .back) (v .rest) (v .formed) (v .keyed) (v .tags) (v .small)
 
-    -- its intervals stand in the bytes, 16 to each
-    few : length (x .is) < 2 ^ 64
-    few = omega (arith, v .small, entries-least w (entry (x .key) (x .is) ∷ x .back) (v .keyed), ap length (v .rest), length-drop at bs)
+    module _ (p : EntryPlace) (e : p ≡ placeIn w bs at) where
+      same-place : p ≡ placeAt w bs at
+      same-place = e ∙ place-here bs w at (here .inside)
 
-    pub here : EntryHere bs at (x .key) (x .is) (entriesBytes w (x .back)) (placeAt w bs at)
-    here = entry-here bs at (x .key) (x .is) (entriesBytes w (x .back)) few w ok
-        (v .rest ∙ entries-head w (x .key) (x .is) (x .back))
-
-    module _ (p : EntryPlace) (e : p ≡ placeAt w bs at) where
       pub stands : EntryHere bs at (x .key) (x .is) (entriesBytes w (x .back)) p
-      stands = rw e here
+      stands = rw same-place here
 
       same-intervals : intervalsAt (p .count) bs (p .first) ≡ x .is
       same-intervals =
-          rw (stands .count) (intervals-there bs (p .first) (x .is) (entriesBytes w (x .back)) (stands .after) (gapped-wide 0 (x .is) (v .formed .1)))
+          rw same-place (first-intervals bs w at (x .key) (x .is) (x .back) (v .rest) (v .formed) (v .keyed) (v .tags) (v .small))
 
       next-bytes : drop (p .next) bs ≡ entriesBytes w (x .back)
-      next-bytes =
-          rw (stands .next-is)
-          (after-there bs (p .first) (16 * p .count) (intervalsBytes (x .is)) (entriesBytes w (x .back)) (stands .after)
-          (length-intervals-bytes (x .is) ∙ ap (λ (m : ℕ). 16 * m) (sym (stands .count))))
+      next-bytes = rw same-place (first-next bs w at (x .key) (x .is) (x .back) (v .rest) (v .formed) (v .keyed) (v .tags) (v .small))
 
       module _ (u t : List ℕ) (made : k ≡ u ++ t) (long : length u ≡ 16) (told : KeyOrder)
           (is : told ≡ orderRead (orElse (order (part bs at 16) u) (order (part bs (p .«tag_at») (p .«tag_len»)) t))) where
@@ -347,7 +234,7 @@ module _ (bs : List ℕ) (w : Bool) (k : Key) (s : List Entry) (done at : ℕ) w
               inside = h .inside;
               keyed = (v .before-keyed, v .keyed .1);
               tags = (v .before-tags, λ f. untagged-parts (x .key) (x .is) (x .back) (v .tags f) .1);
-              plain = λ _ f. rw mine at (ok .plain f);
+              plain = λ _ f. rw mine at (first-ok bs w at (x .key) (x .is) (x .back) (v .rest) (v .formed) (v .keyed) (v .tags) (v .small) .plain f);
               length-front = v .place;
             }
 

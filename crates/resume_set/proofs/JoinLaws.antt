@@ -4,7 +4,7 @@ use mathlib.Core.Path.{_≡_, refl, sym, ap, _∙_}
 use mathlib.Core.Bool.{Bool, true, false, not, _&&_, _||_, or-comm}
 use mathlib.Core.List.{List, [], _∷_, _++_, append-assoc, append-nil}
 use native.Mathlib.Omega.{arith}
-use borrow.Author.Tests.{le-ltb, ltb-true, ltb-false}
+use borrow.Author.Tests.{le-ltb, ltb-false}
 use lib.Dec.{ltb}
 use lib.ListN.{length, take, drop, length-append, length-drop}
 use lib.Seq.{take-at, drop-at, drop-length}
@@ -24,7 +24,7 @@ use Rattle.gtid_sets.specs.Limits.{summed, intervals, over, crowds}
 use Rattle.gtid_sets.specs.Lent.{GoodKeys}
 use Rattle.gtid_sets.specs.Splice.{earlier, takenUp, reach, from}
 use Rattle.gtid_sets.proofs.Bools.{or-swap, or-false-parts}
-use Rattle.gtid_sets.proofs.LimitLaws.{maxOfEntry-is, summed-append, over-none, over-one}
+use Rattle.gtid_sets.proofs.LimitLaws.{summed-append, over-none}
 use Rattle.gtid_sets.proofs.SetLaws.{join-before, join-into, join-after}
 use Rattle.gtid_sets.proofs.SpliceLaws.{insert-splice}
 use Rattle.previous_gtids_event.proofs.Writing.{length-header, length-intervals-bytes}
@@ -206,11 +206,6 @@ implied false x e = clash e refl
 added-is : (h : Bool) → added h ≡ extra (not h) 1
 added-is true = refl
 added-is false = refl
-
-pub extra-over : (n : ℕ) → extra (ltb 1024 n) 1 ≡ over n
-extra-over n = split (ltb 1024 n)
-    (λ h. rw (h, over-one n (omega (arith, maxOfEntry-is, ltb-true 1024 n h))))
-    (λ h. rw (h, over-none n (omega (arith, maxOfEntry-is, ltb-false 1024 n h))))
 
 added-few : (h : Bool) → added h ≤ 1
 added-few true = omega arith

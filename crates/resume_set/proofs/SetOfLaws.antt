@@ -1,17 +1,22 @@
 -- Laws of `setOf`: bytes that were written for a set in set form are that set, within the limits or not.
 use Prim.Native.Nat.{ℕ, _^_, _≤_}
 use mathlib.Core.Path.{_≡_, sym, ap, _∙_}
-use mathlib.Core.List.{List}
+use mathlib.Core.Bool.{Bool}
+use mathlib.Core.List.{List, _++_}
 use native.Mathlib.Omega.{arith}
-use lib.ListN.{length}
+use lib.ListN.{length, drop, length-append}
+use lib.Seq.{drop-at}
 use Rattle.previous_gtids_event.specs.Entry.{Entry}
-use Rattle.previous_gtids_event.specs.Rewrite.{anyTag, bodyBytes}
+use Rattle.previous_gtids_event.specs.Rewrite.{entriesBytes, anyTag, headerBytes, bodyBytes}
+use Rattle.previous_gtids_event.proofs.Writing.{length-header}
 use Rattle.previous_gtids_event.proofs.RoundTrip.{rewritten-in}
 use Rattle.gtid_sets.specs.Set.{SetForm}
 use Rattle.gtid_sets.specs.Lent.{form, lentSet, GoodKeys, SetLaid}
 use Rattle.gtid_sets.proofs.LimitLaws.{longestSet-is}
 use Rattle.gtid_sets.proofs.ByteLaws.{body-least}
 use Rattle.gtid_sets.proofs.LentLaws.{well-formed, lent-is, lent-short}
+use Rattle.set_check.specs.Places.{entriesAt, EntriesIn}
+use Rattle.set_check.proofs.EntryPlaces.{entries-stand}
 use Rattle.resume_set.specs.Find.{entriesOf, setOf, IsSet}
 
 pub set-of : (s : List Entry) → SetForm s → GoodKeys s → length (bodyBytes s) ≤ 2 ^ 40 → setOf (bodyBytes s) ≡ s
@@ -38,3 +43,18 @@ pub lent-set : (bs : List ℕ) (s : List Entry) → lentSet bs ≡ form s → Is
 lent-set bs s h =
     let l : SetLaid bs s = lent-is bs s h in
     set-is bs s (l .written) (l .formed) (l .keyed) (omega (arith, lent-short bs s h, longestSet-is))
+
+-- its entries stand after the header
+pub set-bytes : (bs : List ℕ) (w : Bool) (n : ℕ) → IsSet bs w n → (8 ≤ length bs) × (drop 8 bs ≡ entriesBytes w (setOf bs))
+unfolding bodyBytes
+set-bytes bs w n h =
+    let s : List Entry = setOf bs in
+    let e : bs ≡ headerBytes w (length s) ++ entriesBytes w s = h .written ∙ ap (λ (v : Bool). headerBytes v (length s) ++ entriesBytes v s) (h .tags) in (
+      omega (arith, ap length e, length-append (headerBytes w (length s)) (entriesBytes w s), length-header w (length s)),
+      ap (drop 8) e ∙ drop-at (headerBytes w (length s)) (entriesBytes w s) 8 (length-header w (length s)),
+    )
+
+-- they are those that are read from there on, one after another
+pub set-stands : (bs : List ℕ) (w : Bool) (n : ℕ) → IsSet bs w n → (entriesAt n w bs 8 ≡ setOf bs) × EntriesIn n w bs 8
+set-stands bs w n h =
+    rw (← h .count) (entries-stand bs w (setOf bs) 8 (set-bytes bs w n h .1) (h .formed) (h .keyed) (λ f. h .tags ∙ f) (h .small))

@@ -125,10 +125,5 @@ caseOf kind.NoId = offered-as.NoId
 caseOf kind.AlreadyThere = offered-as.AlreadyThere
 caseOf kind.Taken = offered-as.Taken
 
--- what the limits say of a set: the refusal's number, or 0
-abbrev pub judgedAs : Judged → ℕ
-judgedAs fine = 0
-judgedAs (breaks r) = number r
-
 abbrev pub acceptedAs : Kind → Wrote → Offered
 acceptedAs k w = pick (eqb (w .refusal) 0) (caseOf k (w .len)) (offered-as.Refused (w .refusal) (w .len))

@@ -1,9 +1,9 @@
 -- Where a key stands in a lent set, or would stand.
-use Prim.Native.Nat.{ℕ, _+_, _*_, _/_, _^_, _≤_}
+use Prim.Native.Nat.{ℕ, _+_, _*_, _^_, _≤_}
 use mathlib.Core.Path.{_≡_}
 use mathlib.Core.Bool.{Bool, true, false}
 use mathlib.Core.List.{List, [], _∷_, _++_}
-use lib.ListN.{length, drop, getD}
+use lib.ListN.{length, drop}
 use Rattle.misc.specs.Parse.{Parse, refuse, parsed}
 use Rattle.packets.specs.Gno.{Interval}
 use Rattle.packets.specs.Key.{Key}
@@ -14,9 +14,8 @@ use Rattle.gtid_sets.specs.Interval.{covers, Gapped, insert}
 use Rattle.gtid_sets.specs.Set.{has, SetForm, join}
 use Rattle.gtid_sets.specs.Limits.{summed, intervals, crowds}
 use Rattle.gtid_sets.specs.Lent.{form, lentSet, GoodKeys}
-use Rattle.set_check.specs.Places.{numberAt, intervalsAt}
+use Rattle.set_check.specs.Places.{intervalsAt}
 use Rattle.set_check.specs.declared.Checked.{Checked}
-use Rattle.resume_set.specs.declared.EntryPlace.{EntryPlace}
 use Rattle.resume_set.specs.declared.Found.{Found}
 use Rattle.resume_set.specs.declared.Held.{Held}
 
@@ -50,23 +49,6 @@ pub record Fits (bs : List ℕ) (c : Checked) : Type 0 where
   pub set : IsSet bs (c .tagged) (c .entries)
   pub total : intervals (setOf bs) ≡ c .intervals
   pub lent : lentSet bs ≡ form (setOf bs)
-
--- ---- an entry
-
-abbrev pub placeFrom : List ℕ → ℕ → ℕ → EntryPlace
-placeFrom bs at len =
-    record {
-      «tag_at» = at;
-      «tag_len» = len;
-      count = numberAt bs (at + len);
-      first = at + len + 8;
-      next = at + len + 8 + 16 * numberAt bs (at + len);
-    }
-
--- the entry at a place; a tag's length is one byte, twice the length
-abbrev pub placeAt : Bool → List ℕ → ℕ → EntryPlace
-placeAt true bs at = placeFrom bs (at + 17) (getD bs (at + 16) 0 / 2)
-placeAt false bs at = placeFrom bs (at + 16) 0
 
 -- ---- what `find` tells
 

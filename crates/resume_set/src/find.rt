@@ -1,49 +1,12 @@
 // Where a key stands in a set. The set has been checked.
-use crate::EntryPlace;
 use crate::Found;
 use packets::KeyOrder;
-use set_check::places::number_at;
 use set_check::places::parts_order;
+use set_check::places::place_at;
 ghost use mathlib.Core.Path.{_≡_};
 ghost use mathlib.Core.List.{_++_};
-ghost use Prim.Native.Nat.{_+_, _*_, _≤_};
 ghost use lib.ListN.{length};
-ghost use Rattle.resume_set.specs.Find.{placeFrom, placeAt, setOf, IsSet, FoundIs};
-
-fn wide(b: u8) -> usize
-    ensures { λ r. ⌜ r ≡ b ⌝ }
-{
-    b as usize
-}
-
-// The entry whose tag is in so many bytes from `tag_at` on.
-fn place_from(set: &[u8], tag_at: usize, tag_len: usize) -> EntryPlace
-    requires { ⌜ placeFrom (now set) «tag_at» «tag_len» .next ≤ length (now set) ⌝ }
-    ensures { λ r. ⌜ r ≡ placeFrom (now (set .entry)) «tag_at» «tag_len» ⌝ }
-{
-    let counted = tag_at + tag_len;
-    let count = number_at(set, counted) as usize;
-    let first = counted + 8;
-    EntryPlace {
-        tag_at,
-        tag_len,
-        count,
-        first,
-        next: first + 16 * count,
-    }
-}
-
-// The entry at a place.
-fn place_at(set: &[u8], at: usize, tagged: bool) -> EntryPlace
-    requires { ⌜ placeAt tagged (now set) at .next ≤ length (now set) ⌝ }
-    ensures { λ r. ⌜ r ≡ placeAt tagged (now (set .entry)) at ⌝ }
-{
-    if tagged {
-        let twice = wide(set[at + 16]);
-        return place_from(set, at + 17, twice / 2);
-    }
-    place_from(set, at + 16, 0)
-}
+ghost use Rattle.resume_set.specs.Find.{setOf, IsSet, FoundIs};
 
 pub(crate) fn find(set: &[u8], tagged: bool, count: usize, uuid: &[u8], tag: &[u8]) -> Found
     requires { ⌜ IsSet (now set) tagged count ⌝ }

@@ -8,24 +8,19 @@ use crate::put::put_head;
 use crate::put::put_spliced;
 use misc::Wrote;
 use misc::bytes::write_bytes;
-use misc::refusal::CROWDED;
-use misc::refusal::FULL;
 use misc::refusal::NO_ROOM;
 use previous_gtids_event::rewrite::put_header;
-use set_check::MAX_ENTRIES;
-use set_check::MAX_INTERVALS;
-use set_check::MAX_OF_ENTRY;
+use set_check::limits::judge;
+use set_check::limits::over;
 ghost use mathlib.Core.Path.{_≡_};
-ghost use mathlib.Core.List.{List, _++_};
+ghost use mathlib.Core.List.{_++_};
 ghost use Prim.Native.Nat.{_+_, _≤_, _<_};
-ghost use lib.Dec.{ltb};
 ghost use lib.ListN.{length};
 ghost use Rattle.misc.specs.Output.{outputOf, answerOf, WhereFits};
-ghost use Rattle.previous_gtids_event.specs.Entry.{Entry};
 ghost use Rattle.previous_gtids_event.specs.Rewrite.{bodyBytes};
 ghost use Rattle.gtid_sets.specs.Set.{join};
-ghost use Rattle.gtid_sets.specs.Limits.{intervals, over, crowds, limits};
-ghost use Rattle.resume_set.specs.Answers.{saved, judgedAs};
+ghost use Rattle.gtid_sets.specs.Limits.{intervals, crowds};
+ghost use Rattle.resume_set.specs.Answers.{saved};
 ghost use Rattle.resume_set.specs.Find.{setOf, IsSet, Counted};
 ghost use Rattle.resume_set.specs.Join.{extra, PlanIs, Runs, planRuns};
 
@@ -37,13 +32,6 @@ fn gained(wanted: bool, count: usize) -> usize
         return count;
     }
     0
-}
-
-// 1 for more intervals than one entry may have.
-pub(crate) fn over(count: usize) -> usize
-    ensures { λ r. ⌜ (r ≡ over count) × (r ≤ 1) ⌝ }
-{
-    gained(MAX_OF_ENTRY < count, 1)
 }
 
 // How the set grows by the interval from a up to b of a key.
@@ -111,29 +99,13 @@ pub(crate) fn put_joined(set: &[u8], uuid: &[u8], tag: &[u8], plan: Plan, out: &
     put_entries(set, found.next, set.len(), left, plan.widen, out, at3)
 }
 
-// What the limits say of a set: 17 if an entry has too many intervals, else 16 if there are too many entries or intervals, else 0.
-fn judge(crowded: bool, entries: usize, total: usize) -> u8
-    ensures { λ r. ⌜ ((s : List Entry) → (crowded ≡ ltb 0 (crowds s)) × (entries ≡ length s) × (total ≡ intervals s) → r ≡ judgedAs (limits s)) ⌝ }
-{
-    if crowded {
-        return CROWDED;
-    }
-    if MAX_ENTRIES < entries {
-        return FULL;
-    }
-    if MAX_INTERVALS < total {
-        return FULL;
-    }
-    0
-}
-
 // Writes a set that has been made, if it is within the limits and there is room.
 pub(crate) fn write_set(set: &[u8], is: Held, out: &mut [u8]) -> Wrote
     requires { ⌜ (bodyBytes (setOf (now set)) ≡ now set) × Counted (setOf (now set)) is ⌝ }
     ensures { λ r. ⌜ r ≡ answerOf (now (out .entry)) (saved (setOf (now (set .entry)))) ⌝ }
     ensures { λ _. ⌜ now (out .exit) ≡ outputOf (now (out .entry)) (saved (setOf (now (set .entry)))) ⌝ }
 {
-    let refusal = judge(0 < is.crowded, is.entries, is.intervals);
+    let refusal = judge(is.crowded, is.entries, is.intervals);
     if refusal != 0 {
         return Wrote { refusal, len: 0 };
     }
@@ -155,7 +127,7 @@ pub(crate) fn write_joined(
     ensures { λ _. ⌜ now (out .exit) ≡ outputOf (now (out .entry)) (saved (join (now (uuid .entry) ++ now (tag .entry)) a b (setOf (now (set .entry))))) ⌝ }
 {
     let len = plan.len;
-    let refusal = judge(MAX_OF_ENTRY < plan.held, plan.entries, plan.intervals);
+    let refusal = judge(over(plan.held), plan.entries, plan.intervals);
     if refusal != 0 {
         return Wrote { refusal, len: 0 };
     }

@@ -57,15 +57,6 @@ pub(crate) enum Kind {
     Taken,
 }
 
-// Where an entry's tag and its intervals stand, how many intervals there are, and where they end.
-pub(crate) struct EntryPlace {
-    pub(crate) tag_at: usize,
-    pub(crate) tag_len: usize,
-    pub(crate) count: usize,
-    pub(crate) first: usize,
-    pub(crate) next: usize,
-}
-
 // Where a key stands in a set: how many entries are before it, and where they end; its intervals, none if it isn't there; and where the
 // entries after it begin.
 pub(crate) struct Found {

@@ -1,7 +1,6 @@
 // Taking in the body of a Previous-GTIDs event. A body that is a set already is copied; the intervals of any other are joined to a
 // set that grows in a work buffer, one after another. A second work buffer receives each next set.
 use crate::Held;
-use crate::join::over;
 use crate::join::plan_join;
 use crate::join::put_joined;
 use crate::join::write_set;
@@ -14,6 +13,7 @@ use previous_gtids_event::read::entry_at;
 use previous_gtids_event::read::header_of;
 use previous_gtids_event::read::read;
 use set_check::check::check;
+use set_check::limits::over;
 use set_check::places::number_at;
 ghost use mathlib.Core.Path.{_≡_};
 ghost use mathlib.Core.Bool.{true};

@@ -5,4 +5,5 @@ pub mod HeadLaws
 pub mod GappedWalk
 pub mod HeaderLaws
 pub mod RestLaws
+pub mod EntryPlaces
 pub mod CheckLaws

@@ -2,18 +2,12 @@
 use crate::Head;
 use crate::TagPlace;
 use crate::places::number_at;
+use crate::places::wide;
 use misc::bytes::left_at;
 use previous_gtids_event::read::none_or_tag;
-ghost use mathlib.Core.Path.{_≡_};
 ghost use Prim.Native.Nat.{_≤_};
 ghost use lib.ListN.{length};
 ghost use Rattle.set_check.specs.Head.{Told, TagIs, NoTag, HeadIs, NoHead};
-
-fn wide(b: u8) -> usize
-    ensures { λ r. ⌜ r ≡ b ⌝ }
-{
-    b as usize
-}
 
 // The tag after a uuid: its length is one byte, twice the length, and it obeys the tag rule or has no bytes.
 fn tag_place(set: &[u8], at: usize, tagged: bool) -> TagPlace

@@ -1,8 +1,9 @@
 // The check of a lent set: whether its bytes are a Previous-GTIDs body in set form and within the set limits, and if so, how many
 // entries and intervals it has. It promises `checkedOf (lentSet ..)`. Beside it stands what any walk over a set's bytes needs: the
-// number at a place, the rule of a tag that may be none, and the order of two keys in parts.
+// number and the entry at a place, and the order of two keys in parts. `limits` judges the counts of a set that is to be written.
 pub mod check;
 mod heads;
+pub mod limits;
 pub mod places;
 
 // A set has so many entries at most,
@@ -23,6 +24,15 @@ pub struct Checked {
     pub tagged: bool,
     pub entries: usize,
     pub intervals: usize,
+}
+
+// Where an entry stands: where its tag begins and how long it is, how many intervals it has, where they begin and where they end.
+pub struct EntryPlace {
+    pub tag_at: usize,
+    pub tag_len: usize,
+    pub count: usize,
+    pub first: usize,
+    pub next: usize,
 }
 
 // ---- inside

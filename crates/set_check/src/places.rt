@@ -1,10 +1,13 @@
-// Numbers and keys in the bytes of a set.
+// Numbers, keys and entries in the bytes of a set.
+use crate::EntryPlace;
+use misc::bytes::left_at;
 use misc::le::read_u64_le;
 use packets::KeyOrder;
 use packets::key_order;
 ghost use mathlib.Core.Path.{_≡_};
+ghost use Prim.Native.Nat.{_<_};
 ghost use Rattle.packets.specs.Key.{order, orElse, orderRead};
-ghost use Rattle.set_check.specs.Places.{numberAt};
+ghost use Rattle.set_check.specs.Places.{numberAt, placeFrom, nowhere, orNowhere, placeIn};
 
 // The number in the eight bytes from `at` on, 0 where they aren't all there.
 pub fn number_at(s: &[u8], at: usize) -> u64
@@ -24,4 +27,60 @@ pub fn parts_order(uuid: &[u8], tag: &[u8], other_uuid: &[u8], other_tag: &[u8])
         KeyOrder::Same => key_order(tag, other_tag),
         KeyOrder::After => KeyOrder::After,
     }
+}
+
+pub(crate) fn wide(b: u8) -> usize
+    ensures { λ r. ⌜ r ≡ b ⌝ }
+{
+    b as usize
+}
+
+fn nowhere() -> EntryPlace
+    ensures { λ r. ⌜ r ≡ nowhere ⌝ }
+{
+    EntryPlace {
+        tag_at: 0,
+        tag_len: 0,
+        count: 0,
+        first: 0,
+        next: 0,
+    }
+}
+
+// The entry whose tag is in so many bytes from `tag_at` on.
+fn place_from(set: &[u8], tag_at: usize, tag_len: usize) -> EntryPlace
+    requires { ⌜ «tag_len» < 256 ⌝ }
+    ensures { λ r. ⌜ r ≡ orNowhere (now (set .entry)) (placeFrom (now (set .entry)) «tag_at» «tag_len») ⌝ }
+{
+    if left_at(set, tag_at) < tag_len + 8 {
+        return nowhere();
+    }
+    let counted = tag_at + tag_len;
+    let count = number_at(set, counted) as usize;
+    let first = counted + 8;
+    if left_at(set, first) / 16 < count {
+        return nowhere();
+    }
+    EntryPlace {
+        tag_at,
+        tag_len,
+        count,
+        first,
+        next: first + 16 * count,
+    }
+}
+
+// Where the entry at a place of a set stands: its tag, how many intervals it has, where they begin and where they end. All zero where no
+// whole entry stands.
+pub fn place_at(set: &[u8], at: usize, tagged: bool) -> EntryPlace
+    ensures { λ r. ⌜ r ≡ placeIn tagged (now (set .entry)) at ⌝ }
+{
+    if left_at(set, at) < 24 {
+        return nowhere();
+    }
+    if tagged {
+        let twice = wide(set[at + 16]);
+        return place_from(set, at + 17, twice / 2);
+    }
+    place_from(set, at + 16, 0)
 }

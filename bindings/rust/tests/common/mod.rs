@@ -1,4 +1,5 @@
-//! What the tests share: a folder for files, an offer that is committed, and the follower of `examples` with a binlog for it.
+//! What the tests share: a folder for files, random numbers, an offer that is committed, sets with many entries or intervals, and the follower
+//! of `examples` with a binlog for it.
 #![allow(dead_code)] // no test uses all of it
 use gtid_resume::{Offered, Refusal, ResumeSet};
 use std::env;
@@ -34,12 +35,79 @@ impl Drop for Folder {
     }
 }
 
+/// Xorshift, from a fixed seed.
+pub struct Random(pub u64);
+
+impl Random {
+    pub fn below(&mut self, end: u64) -> u64 {
+        self.0 ^= self.0 << 13;
+        self.0 ^= self.0 >> 7;
+        self.0 ^= self.0 << 17;
+        self.0 % end
+    }
+}
+
 /// Offers an event and commits the offer.
 pub fn take(set: &mut ResumeSet, event_type: u8, body: &[u8]) -> Result<Offered, Refusal> {
     let offer = set.offer(event_type, body)?;
     let answer = offer.answer();
     offer.commit();
     Ok(answer)
+}
+
+/// The number of a uuid, a tag, and intervals.
+pub type Listed<'a> = (u16, &'a [u8], &'a [(u64, u64)]);
+
+/// Uuids rise with their numbers.
+pub fn uuid(number: u16) -> [u8; 16] {
+    let mut uuid = [7; 16];
+    uuid[..2].copy_from_slice(&number.to_be_bytes());
+    uuid
+}
+
+/// A body with tags only if an entry has one, as a set is saved.
+pub fn body(entries: &[Listed]) -> Vec<u8> {
+    let tagged = entries.iter().any(|(_, tag, _)| !tag.is_empty());
+    let count = entries.len() as u64;
+    let header = if tagged { with_tags(count) } else { count };
+    let mut body = header.to_le_bytes().to_vec();
+    for (number, tag, intervals) in entries {
+        body.extend(uuid(*number));
+        if tagged {
+            put_tag(&mut body, tag);
+        }
+        put_intervals(&mut body, intervals);
+    }
+    body
+}
+
+/// The header of a body with tags and so many entries.
+pub fn with_tags(count: u64) -> u64 {
+    1 << 56 | count << 8 | 1
+}
+
+pub fn put_tag(body: &mut Vec<u8>, tag: &[u8]) {
+    body.push(2 * tag.len() as u8); // the length in its one-byte form
+    body.extend(tag);
+}
+
+pub fn put_intervals(body: &mut Vec<u8>, intervals: &[(u64, u64)]) {
+    body.extend((intervals.len() as u64).to_le_bytes());
+    for (start, end) in intervals {
+        body.extend(start.to_le_bytes());
+        body.extend(end.to_le_bytes());
+    }
+}
+
+/// So many entries with an interval each.
+pub fn entries(count: u16) -> Vec<Listed<'static>> {
+    (0..count)
+        .map(|number| (number, &b""[..], &[(1, 2)][..]))
+        .collect()
+}
+
+pub fn set(entries: &[Listed]) -> ResumeSet {
+    ResumeSet::take_in(&body(entries)).unwrap()
 }
 
 /// A binlog without checksums.

@@ -1,5 +1,5 @@
 -- `resume_set::find::find` meets its contract.
-use Prim.Native.Nat.{_+_, _-_, _≤_}
+use Prim.Native.Nat.{_-_, _≤_}
 use mathlib.Core.List.{_++_}
 use mathlib.Core.Path.{_≡_, refl}
 use native.Mathlib.Omega.{arith}
@@ -9,8 +9,9 @@ use borrow.Author.Needs.{needs}
 use Rattle.misc.specs.Parse.{part}
 use Rattle.packets.specs.Key.{order, orElse, orderRead}
 use Rattle.previous_gtids_event.specs.Rewrite.{entriesBytes}
+use Rattle.set_check.proofs.EntryPlaces.{EntryHere}
 use Rattle.resume_set.specs.Find.{setOf}
-use Rattle.resume_set.proofs.FindLaws.{EntryHere, Passed, passed-none, Ahead, ahead, passed-all, here, stands, passed-next, found-here, found-absent}
+use Rattle.resume_set.proofs.FindLaws.{Passed, passed-none, Ahead, ahead, passed-all, stands, passed-next, found-here, found-absent}
 use Rattle.resume_set.proofs.find.find.Statement.{statement}
 use Rattle.resume_set.proofs.find.find.Tie as tie
 
@@ -55,10 +56,7 @@ loop-holds c =
     (omega arith, passed-none (now (a .set)) (a .tagged) (a .count) (now (a .uuid) ++ now (a .tag)) (c .before .before .before .pre .0))
 
 place-at-requires : tie.Need-place-at-requires Inv-loop μ-loop
-place-at-requires c κs =
-    let a = c .before .before .before .before .before .args in
-    let l = c .before .loop in
-    here (now (a .set)) (a .tagged) (now (a .uuid) ++ now (a .tag)) (setOf (now (a .set))) (l .done) (l .at) (next c) .inside
+place-at-requires c κs = search needs
 
 add-tag-end : tie.Need-add-tag-end Inv-loop μ-loop
 add-tag-end c = let h = place (c .before) in record { fits = omega (arith, h .first-is, h .next-is, h .inside) }

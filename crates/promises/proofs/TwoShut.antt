@@ -1,0 +1,159 @@
+-- Wrong calls over two sets are shut out.
+use Prim.Native.Nat.{ℕ, _+_, _≤_, _<_}
+use mathlib.Core.Path.{_≡_, refl, sym, ap, _∙_}
+use mathlib.Core.Bool.{Bool, true, false}
+use mathlib.Core.List.{List, [], _∷_, _++_}
+use native.Mathlib.Omega.{arith}
+use lib.Dec.{ltb}
+use lib.ListN.{length, getD, replicate}
+use Rattle.misc.specs.Parse.{many, bytesAt, byteAt}
+use Rattle.misc.specs.Body.{bodyLimit}
+use Rattle.misc.specs.Le.{leOf, leBytes, leAt}
+use Rattle.misc.specs.Varlen.{trailingOnes, itemValue, varlenAt, varlenSize, sizeFrom, varlenBytes, itemOf}
+use Rattle.misc.specs.Output.{bytes, outputOf, answerOf}
+use Rattle.misc.specs.declared.Wrote.{Wrote}
+use Rattle.packets.specs.Gno.{gnoTop, interval}
+use Rattle.packets.specs.Tag.{allTagBytes, isTag}
+use Rattle.packets.proofs.Tests.{clash}
+use Rattle.packets.proofs.Keys.{same-self}
+use Rattle.previous_gtids_event.specs.Entry.{Entry, entry, uuidOf, tagOf}
+use Rattle.previous_gtids_event.specs.Previous.{tagAt, keyAt, headAt, intervalAt, entryAt, saysTagged, saysCount, previous}
+use Rattle.previous_gtids_event.specs.Rewrite.{intervalsBytes, entryBytes, entriesBytes, anyTag, headerBytes, bodyBytes}
+use Rattle.gtid_sets.specs.Limits.{maxEntries, maxIntervals, maxOfEntry, judged, limits}
+use Rattle.gtid_sets.specs.Lent.{Lent, lentSet}
+use Rattle.gtid_sets.specs.Combine.{either, both, without}
+use Rattle.gtid_sets.proofs.LentLaws.{is-lent}
+use Rattle.resume_set.specs.Answers.{setRead}
+use Rattle.two_sets.specs.Answers.{combineAnswers, combineLeaves, withinAnswers}
+use Rattle.two_sets.specs.declared.AllWithin.{AllWithin}
+use Rattle.promises.specs.TwoSets.{CombineAnswer, Combiner, CombinesExactly, ours, ComparesExactly}
+use Rattle.promises.specs.WrongOnes.{alone, aloneTagged, onlyOf, staysApart, keepsEmpty, ignoresTag, swapsSets, countsInputs, comparesLengths, wantsSame}
+use Rattle.promises.proofs.TwoSetsHold.{results-exactly, compares-exactly, two-sets}
+use Rattle.promises.proofs.Crowding.{spread-length, entryFull, laid}
+
+-- two calls that answer exactly by the cases are one
+same-calls : (op : Bool → Bool → Bool) {f g : Combiner} → CombinesExactly op f → CombinesExactly op g → (first second out : List ℕ)
+    → (f .answers first second out ≡ g .answers first second out) × (f .leaves first second out ≡ g .leaves first second out)
+same-calls op {f} {g} a b first second out =
+    a first second out (g .answers first second out) (g .leaves first second out) .1
+    (b first second out (g .answers first second out) (g .leaves first second out) .0 (refl, refl))
+
+same-says : {f g : List ℕ → List ℕ → AllWithin} → ComparesExactly f → ComparesExactly g → (first second : List ℕ) → f first second ≡ g first second
+same-says {f} {g} a b first second = a first second (g first second) .1 (b first second (g first second) .0 refl)
+
+abbrev room : List ℕ
+room = replicate 64 0
+
+-- what a call that writes other bytes for two sets comes to there
+module _ (op : Bool → Bool → Bool) (none : op false false ≡ false) (first second bs : List ℕ) where
+  only-says : CombinesExactly op (onlyOf first second bs (ours op)) → outputOf room (bytes bs) ≡ combineLeaves op first second room
+  only-says exactly =
+      let (_, left) = same-calls op exactly (results-exactly op none) first second room in
+      rw (same-self first, same-self second) at left
+
+-- ---- pieces that touch: one interval, 1-2
+
+touching : getD (combineLeaves either (alone 1) (alone 2) room) 24 0 ≡ 1
+unfolding outputOf many bytesAt byteAt bodyLimit leOf leBytes leAt gnoTop uuidOf tagOf tagAt keyAt headAt intervalAt entryAt saysTagged saysCount previous intervalsBytes entryBytes entriesBytes anyTag headerBytes bodyBytes maxEntries maxIntervals maxOfEntry judged limits lentSet
+touching = refl
+
+apart-says : getD (outputOf room (bytes (bodyBytes (entry (replicate 16 0) (interval 1 2 ∷ interval 2 3 ∷ []) ∷ [])))) 24 0 ≡ 2
+unfolding outputOf leBytes uuidOf tagOf intervalsBytes entryBytes entriesBytes anyTag headerBytes bodyBytes
+apart-says = refl
+
+pub stays-apart-out : CombinesExactly either staysApart → ⊥
+stays-apart-out exactly =
+    let e = only-says either refl (alone 1) (alone 2) (bodyBytes (entry (replicate 16 0) (interval 1 2 ∷ interval 2 3 ∷ []) ∷ [])) exactly in
+    let differs : _≡_ {A = ℕ} 2 1 = sym apart-says ∙ ap (λ (l : List ℕ). getD l 24 0) e ∙ touching in
+    omega arith
+
+-- ---- an entry that is left empty: none is written, and 8 bytes have no entry
+
+left-empty : getD (combineLeaves without (alone 1) (alone 1) room) 0 7 ≡ 0
+unfolding outputOf many bytesAt byteAt bodyLimit leOf leBytes leAt gnoTop uuidOf tagOf tagAt keyAt headAt intervalAt entryAt saysTagged saysCount previous intervalsBytes entryBytes entriesBytes anyTag headerBytes bodyBytes maxEntries maxIntervals maxOfEntry judged limits lentSet
+left-empty = refl
+
+empty-says : getD (outputOf room (bytes (bodyBytes (entry (replicate 16 0) [] ∷ [])))) 0 7 ≡ 1
+unfolding outputOf leBytes uuidOf tagOf intervalsBytes entryBytes entriesBytes anyTag headerBytes bodyBytes
+empty-says = refl
+
+pub keeps-empty-out : CombinesExactly without keepsEmpty → ⊥
+keeps-empty-out exactly =
+    let e = only-says without refl (alone 1) (alone 1) (bodyBytes (entry (replicate 16 0) [] ∷ [])) exactly in
+    let differs : _≡_ {A = ℕ} 1 0 = sym empty-says ∙ ap (λ (l : List ℕ). getD l 0 7) e ∙ left-empty in
+    omega arith
+
+-- ---- the same uuid with a tag: no id is in both
+
+other-key : getD (combineLeaves both (alone 1) (aloneTagged 1) room) 0 7 ≡ 0
+unfolding outputOf many bytesAt byteAt bodyLimit leOf leBytes leAt gnoTop uuidOf tagOf tagAt keyAt headAt intervalAt entryAt saysTagged saysCount previous intervalsBytes entryBytes entriesBytes anyTag headerBytes bodyBytes maxEntries maxIntervals maxOfEntry judged limits lentSet varlenAt trailingOnes itemValue isTag allTagBytes varlenBytes varlenSize sizeFrom itemOf
+other-key = refl
+
+tag-says : getD (outputOf room (bytes (alone 1))) 0 7 ≡ 1
+unfolding outputOf leBytes uuidOf tagOf intervalsBytes entryBytes entriesBytes anyTag headerBytes bodyBytes
+tag-says = refl
+
+pub ignores-tag-out : CombinesExactly both ignoresTag → ⊥
+ignores-tag-out exactly =
+    let e = only-says both refl (alone 1) (aloneTagged 1) (alone 1) exactly in
+    let differs : _≡_ {A = ℕ} 1 0 = sym tag-says ∙ ap (λ (l : List ℕ). getD l 0 7) e ∙ other-key in
+    omega arith
+
+-- ---- the first set taken away from the second: {1} without the empty set is {1}
+
+none-away : combineAnswers without (alone 1) (bodyBytes []) room .len ≡ 48
+unfolding answerOf many bytesAt byteAt bodyLimit leOf leBytes leAt gnoTop uuidOf tagOf tagAt keyAt headAt intervalAt entryAt saysTagged saysCount previous intervalsBytes entryBytes entriesBytes anyTag headerBytes bodyBytes maxEntries maxIntervals maxOfEntry judged limits lentSet
+none-away = refl
+
+all-away : combineAnswers without (bodyBytes []) (alone 1) room .len ≡ 8
+unfolding answerOf many bytesAt byteAt bodyLimit leOf leBytes leAt gnoTop uuidOf tagOf tagAt keyAt headAt intervalAt entryAt saysTagged saysCount previous intervalsBytes entryBytes entriesBytes anyTag headerBytes bodyBytes maxEntries maxIntervals maxOfEntry judged limits lentSet
+all-away = refl
+
+pub swaps-sets-out : CombinesExactly without swapsSets → ⊥
+swaps-sets-out exactly =
+    let (e, _) = same-calls without exactly (results-exactly without refl) (alone 1) (bodyBytes []) room in
+    let differs : _≡_ {A = ℕ} 8 48 = sym all-away ∙ ap (λ (w : Wrote). w .len) e ∙ none-away in
+    omega arith
+
+-- ---- limits of the sets that are lent: an entry with 1,024 intervals and itself
+
+abbrev most-bytes : List ℕ
+most-bytes = bodyBytes entryFull
+
+has-most : setRead (lentSet most-bytes) .intervals ≡ 1024
+has-most = ap (λ (l : Lent). setRead l .intervals) (is-lent most-bytes entryFull laid) ∙ omega (arith, spread-length 1024 3)
+
+pub counts-inputs-out : CombinesExactly either countsInputs → ⊥
+counts-inputs-out exactly =
+    let whole = two-sets .twice most-bytes entryFull laid .0 in
+    let (e, _) = exactly most-bytes most-bytes most-bytes _ _ .1 (CombineAnswer.written whole (omega arith)) in
+    let more : ltb 1024 (setRead (lentSet most-bytes) .intervals + setRead (lentSet most-bytes) .intervals) ≡ true = rw has-most in
+    let differs : _≡_ {A = ℕ} 17 0 = sym (rw more) ∙ ap (λ (w : Wrote). w .refusal) e in
+    omega arith
+
+-- ---- yes or no
+
+-- {1} isn't in {2}, which has as many bytes; and the empty set is in {1}
+other-id : withinAnswers (alone 1) (alone 2) .all ≡ false
+unfolding many bytesAt byteAt bodyLimit leOf leBytes leAt gnoTop uuidOf tagOf tagAt keyAt headAt intervalAt entryAt saysTagged saysCount previous intervalsBytes entryBytes entriesBytes anyTag headerBytes bodyBytes maxEntries maxIntervals maxOfEntry judged limits lentSet
+other-id = refl
+
+as-long : comparesLengths (alone 1) (alone 2) .all ≡ true
+unfolding leBytes uuidOf tagOf intervalsBytes entryBytes entriesBytes anyTag headerBytes bodyBytes
+as-long = refl
+
+pub compares-lengths-out : ComparesExactly comparesLengths → ⊥
+compares-lengths-out exactly =
+    clash (sym (ap (λ (r : AllWithin). r .all) (same-says exactly compares-exactly (alone 1) (alone 2))) ∙ as-long) other-id
+
+none-in : withinAnswers (bodyBytes []) (alone 1) .all ≡ true
+unfolding many bytesAt byteAt bodyLimit leOf leBytes leAt gnoTop uuidOf tagOf tagAt keyAt headAt intervalAt entryAt saysTagged saysCount previous intervalsBytes entryBytes entriesBytes anyTag headerBytes bodyBytes maxEntries maxIntervals maxOfEntry judged limits lentSet
+none-in = refl
+
+not-same : wantsSame (bodyBytes []) (alone 1) .all ≡ false
+unfolding leBytes uuidOf tagOf intervalsBytes entryBytes entriesBytes anyTag headerBytes bodyBytes
+not-same = refl
+
+pub wants-same-out : ComparesExactly wantsSame → ⊥
+wants-same-out exactly =
+    clash none-in (sym (ap (λ (r : AllWithin). r .all) (same-says exactly compares-exactly (bodyBytes []) (alone 1))) ∙ not-same)

@@ -1,0 +1,5 @@
+-- Laws that the functions of this crate cite.
+pub mod MarkLaws
+pub mod PairLaws
+pub mod WriteLaws
+pub mod AnswerLaws

@@ -1,0 +1,79 @@
+-- The marks of two entries, as they stand in the bytes of two sets, and how the sweep goes over them.
+use Prim.Native.Nat.{ℕ, zero, suc, _+_, _-_, _*_, _^_, _<_, _≤_}
+use mathlib.Core.Path.{_≡_}
+use mathlib.Core.Bool.{Bool, true, false}
+use mathlib.Core.List.{List, [], _∷_, _++_}
+use lib.ListN.{length}
+use Rattle.misc.specs.Le.{leBytes}
+use Rattle.gtid_sets.specs.Combine.{either, both, without, sweep, Rising}
+use Rattle.set_check.specs.Places.{numberAt}
+use Rattle.two_sets.specs.declared.Operation.{Operation}
+use Rattle.two_sets.specs.declared.Operation.the-variants as operation
+use Rattle.two_sets.specs.declared.Side.{Side}
+use Rattle.two_sets.specs.declared.Sides.{Sides}
+use Rattle.two_sets.specs.declared.Turn.{Turn}
+
+-- what each operation says of an id
+abbrev pub saidBy : Operation → Bool → Bool → Bool
+saidBy operation.Either = either
+saidBy operation.Both = both
+saidBy operation.Without = without
+
+-- n numbers from a place on
+abbrev pub marksAt : ℕ → List ℕ → ℕ → List ℕ
+marksAt zero bs at = []
+marksAt (suc n) bs at = numberAt bs at ∷ marksAt n bs (at + 8)
+
+abbrev pub marksOf : List ℕ → Side → List ℕ
+marksOf bs s = marksAt (s .left) bs (s .at)
+
+-- the first mark, or a number above all
+abbrev pub nextMark : List ℕ → ℕ
+nextMark [] = 2 ^ 64 - 1
+nextMark (m ∷ ms) = m
+
+abbrev pub passedSide : Bool → Side → Side
+passedSide true s = record { at = s .at + 8; left = s .left - 1 }
+passedSide false s = s
+
+abbrev pub leftOf : Sides → ℕ
+leftOf s = s .one .left + s .two .left
+
+-- the marks of the result that are left
+abbrev pub going : (Bool → Bool → Bool) → List ℕ → List ℕ → Sides → List ℕ
+going op bs cs s = sweep op (marksOf bs (s .one)) (marksOf cs (s .two))
+
+-- a mark in front, if it is one of the result
+abbrev pub flipped : Bool → ℕ → List ℕ → List ℕ
+flipped true m ms = m ∷ ms
+flipped false m ms = ms
+
+abbrev pub oneIf : Bool → ℕ
+oneIf true = 1
+oneIf false = 0
+
+-- marks stand there, and rise
+pub record SideIs (bs : List ℕ) (s : Side) : Type 0 where
+  pub there : s .at + 8 * s .left ≤ length bs
+  pub rises : Rising 0 (marksOf bs s)
+
+pub record SidesAre (bs cs : List ℕ) (s : Sides) : Type 0 where
+  pub first : SideIs bs (s .one)
+  pub second : SideIs cs (s .two)
+
+-- one mark is passed
+pub record TurnIs (op : Bool → Bool → Bool) (bs cs : List ℕ) (s : Sides) (r : Turn) : Type 0 where
+  pub goes : going op bs cs s ≡ flipped (r .flips) (r .mark) (going op bs cs (r .sides))
+  pub sides : SidesAre bs cs (r .sides)
+  pub less : leftOf (r .sides) < leftOf s
+
+-- marks are passed up to the next one of the result, or all of them
+pub record NextIs (op : Bool → Bool → Bool) (bs cs : List ℕ) (s : Sides) (r : Turn) : Type 0 where
+  pub goes : going op bs cs s ≡ flipped (r .flips) (r .mark) (going op bs cs (r .sides))
+  pub none : r .flips ≡ false → going op bs cs (r .sides) ≡ []
+  pub sides : SidesAre bs cs (r .sides)
+  pub less : oneIf (r .flips) + leftOf (r .sides) ≤ leftOf s
+
+unfoldable pub marksBytes : List ℕ → List ℕ
+marksBytes [] = []
+marksBytes (m ∷ ms) = leBytes 8 m ++ marksBytes ms

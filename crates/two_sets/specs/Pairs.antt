@@ -1,0 +1,131 @@
+-- The entries of two sets, one key after another, as they stand in the bytes.
+use Prim.Native.Nat.{ℕ, _+_, _-_, _*_, _<_, _≤_, Ordering, Ordering·lt, Ordering·gt}
+use mathlib.Core.Path.{_≡_}
+use mathlib.Core.Bool.{Bool, true, false}
+use mathlib.Core.List.{List, [], _∷_, _++_}
+use lib.ListN.{length}
+use Rattle.misc.specs.Pick.{pick}
+use Rattle.misc.specs.Parse.{part}
+use Rattle.packets.specs.Key.{Key, order}
+use Rattle.packets.specs.declared.KeyOrder.{KeyOrder}
+use Rattle.packets.specs.declared.KeyOrder.the-variants.{Before, Same, After}
+use Rattle.previous_gtids_event.specs.Entry.{Entry, entry}
+use Rattle.previous_gtids_event.specs.Previous.{GoodKey}
+use Rattle.gtid_sets.specs.Set.{SetForm}
+use Rattle.gtid_sets.specs.Lent.{GoodKeys}
+use Rattle.gtid_sets.specs.Combine.{spans, isOpen, keep, combined}
+use Rattle.set_check.specs.Places.{entriesAt, EntriesIn}
+use Rattle.set_check.specs.declared.EntryPlace.{EntryPlace}
+use Rattle.two_sets.specs.Marks.{going, leftOf, SidesAre}
+use Rattle.two_sets.specs.declared.Side.{Side}
+use Rattle.two_sets.specs.declared.Cursor.{Cursor}
+use Rattle.two_sets.specs.declared.Cursors.{Cursors}
+use Rattle.two_sets.specs.declared.KeyPlace.{KeyPlace}
+use Rattle.two_sets.specs.declared.Pair.{Pair}
+
+-- the entries that are left
+abbrev pub entriesLeft : List ℕ → Cursor → List Entry
+entriesLeft bs c = entriesAt (c .left) (c .tagged) bs (c .at)
+
+-- they are all there, and in set form
+pub record CursorIs (bs : List ℕ) (c : Cursor) : Type 0 where
+  pub there : EntriesIn (c .left) (c .tagged) bs (c .at)
+  pub formed : SetForm (entriesLeft bs c)
+  pub keyed : GoodKeys (entriesLeft bs c)
+  pub small : length bs ≤ 65536
+  pub inside : c .at ≤ length bs
+
+pub record CursorsAre (bs cs : List ℕ) (c : Cursors) : Type 0 where
+  pub first : CursorIs bs (c .first)
+  pub second : CursorIs cs (c .second)
+
+-- how many entries are left, and where the cursors stand, of both together
+abbrev pub entriesOfBoth : Cursors → ℕ
+entriesOfBoth c = c .first .left + c .second .left
+
+abbrev pub placesOfBoth : Cursors → ℕ
+placesOfBoth c = c .first .at + c .second .at
+
+-- the ids that are kept of what is left
+abbrev pub combining : (Bool → Bool → Bool) → List ℕ → List ℕ → Cursors → List Entry
+combining op bs cs c = combined op (entriesLeft bs (c .first)) (entriesLeft cs (c .second))
+
+-- ---- what `next_order` and `pair_of` make
+
+-- which of two sets has the next key; the first where neither has one
+abbrev pub nextOrder : List Entry → List Entry → Ordering
+nextOrder s [] = Ordering·lt
+nextOrder [] (e ∷ t) = Ordering·gt
+nextOrder (entry k is ∷ s) (entry j js ∷ t) = order k j
+
+abbrev pub sideOf : EntryPlace → Side
+sideOf p = record { at = p .first; left = 2 * p .count }
+
+abbrev pub noSide : Side
+noSide = record { at = 0; left = 0 }
+
+abbrev pub keyPlace : Bool → Cursor → EntryPlace → KeyPlace
+keyPlace first c p = record { «of_first» = first; at = c .at; «tag_at» = p .«tag_at»; «tag_len» = p .«tag_len» }
+
+abbrev pub beyondOf : Cursor → EntryPlace → Cursor
+beyondOf c p = record { tagged = c .tagged; at = p .next; left = c .left - 1 }
+
+abbrev pub pairOf : Cursors → EntryPlace → EntryPlace → KeyOrder → Pair
+pairOf c p q Before =
+    record {
+      key = keyPlace true (c .first) p;
+      sides = record { one = sideOf p; two = noSide };
+      after = record { first = beyondOf (c .first) p; second = c .second };
+    }
+pairOf c p q Same =
+    record {
+      key = keyPlace true (c .first) p;
+      sides = record { one = sideOf p; two = sideOf q };
+      after = record { first = beyondOf (c .first) p; second = beyondOf (c .second) q };
+    }
+pairOf c p q After =
+    record {
+      key = keyPlace false (c .second) q;
+      sides = record { one = noSide; two = sideOf q };
+      after = record { first = c .first; second = beyondOf (c .second) q };
+    }
+
+-- there is an entry to pass, and its intervals aren't many
+abbrev pub Moves : Cursor → EntryPlace → Type 0
+Moves c p = (0 < c .left) × (p .count ≤ 65536)
+
+abbrev pub Moving : Cursors → EntryPlace → EntryPlace → KeyOrder → Type 0
+Moving c p q Before = Moves (c .first) p
+Moving c p q Same = Moves (c .first) p × Moves (c .second) q
+Moving c p q After = Moves (c .second) q
+
+-- ---- what `next_pair` tells
+
+-- a key's uuid and tag, in one of the two sets
+abbrev pub sourceOf : List ℕ → List ℕ → KeyPlace → List ℕ
+sourceOf bs cs k = pick (k .«of_first») bs cs
+
+abbrev pub uuidIn : List ℕ → List ℕ → KeyPlace → List ℕ
+uuidIn bs cs k = part (sourceOf bs cs k) (k .at) 16
+
+abbrev pub tagIn : List ℕ → List ℕ → KeyPlace → List ℕ
+tagIn bs cs k = part (sourceOf bs cs k) (k .«tag_at») (k .«tag_len»)
+
+abbrev pub keyIn : List ℕ → List ℕ → KeyPlace → Key
+keyIn bs cs k = uuidIn bs cs k ++ tagIn bs cs k
+
+pub record KeyIs (bs cs : List ℕ) (k : KeyPlace) : Type 0 where
+  pub uuid-inside : k .at + 16 ≤ length (sourceOf bs cs k)
+  pub tag-inside : k .«tag_at» + k .«tag_len» ≤ length (sourceOf bs cs k)
+  pub short : k .«tag_len» ≤ 32
+  pub good : GoodKey (keyIn bs cs k)
+
+-- the next entry of any result, unless it is empty, and what is left then
+pub record PairIs (bs cs : List ℕ) (c : Cursors) (r : Pair) : Type 0 where
+  pub goes : (op : Bool → Bool → Bool) → combining op bs cs c ≡ keep (keyIn bs cs (r .key)) (spans (going op bs cs (r .sides))) (combining op bs cs (r .after))
+  pub shut : (op : Bool → Bool → Bool) → op false false ≡ false → isOpen (going op bs cs (r .sides)) ≡ false
+  pub sides : SidesAre bs cs (r .sides)
+  pub after : CursorsAre bs cs (r .after)
+  pub key : KeyIs bs cs (r .key)
+  pub less : entriesOfBoth (r .after) < entriesOfBoth c
+  pub grows : placesOfBoth c + (24 + r .key .«tag_len» + 8 * leftOf (r .sides)) ≤ placesOfBoth (r .after)

@@ -1,0 +1,208 @@
+// Work with two sets: the ids in either, in both, and in the first without the second, each written as a set; and whether all of the
+// first are in the second. What they answer is said by `combineAnswers` and `withinAnswers` of specs/Answers.antt, and what is written by
+// `combineLeaves`, on `lentSet` and `combined` of gtid_sets. Both sets are only read, so that they may be the same bytes.
+use marks::next_mark;
+use misc::Wrote;
+use pairs::next_pair;
+use set_check::Checked;
+use set_check::check::check;
+use write::write_combined;
+ghost use mathlib.Core.Path.{_≡_};
+ghost use Rattle.gtid_sets.specs.Combine.{either, both, without, within};
+ghost use Rattle.two_sets.specs.Marks.{saidBy};
+ghost use Rattle.two_sets.specs.Pairs.{entriesLeft, CursorsAre};
+ghost use Rattle.two_sets.specs.Answers.{combineAnswers, combineLeaves, withinAnswers, begun};
+
+mod marks;
+mod pairs;
+mod write;
+
+// Whether all ids of a set are in another. Either is refused (14) if it is none.
+pub struct AllWithin {
+    pub refusal: u8,
+    pub all: bool,
+}
+
+// ---- inside
+
+// Which ids are kept.
+pub(crate) enum Operation {
+    Either,
+    Both,
+    Without,
+}
+
+// What a pass over both sets has to do: which ids are kept, and whether entries are written with tags.
+pub(crate) struct Work {
+    pub(crate) operation: Operation,
+    pub(crate) tags: bool,
+}
+
+// The marks of an entry that are left, the starts and ends of its intervals: where they stand, and how many there are.
+pub(crate) struct Side {
+    pub(crate) at: usize,
+    pub(crate) left: usize,
+}
+
+// Those of an entry of the first set, and of one of the second.
+pub(crate) struct Sides {
+    pub(crate) one: Side,
+    pub(crate) two: Side,
+}
+
+// A mark that was passed: what is left behind it, and whether it is one of the result.
+pub(crate) struct Turn {
+    pub(crate) sides: Sides,
+    pub(crate) flips: bool,
+    pub(crate) mark: u64,
+}
+
+// The entries of a set that are left: whether they have tags, where they begin, and how many there are.
+pub(crate) struct Cursor {
+    pub(crate) tagged: bool,
+    pub(crate) at: usize,
+    pub(crate) left: usize,
+}
+
+// Those of the first set, and of the second.
+pub(crate) struct Cursors {
+    pub(crate) first: Cursor,
+    pub(crate) second: Cursor,
+}
+
+// Where a key stands: in the first set or the second, its uuid and its tag.
+pub(crate) struct KeyPlace {
+    pub(crate) of_first: bool,
+    pub(crate) at: usize,
+    pub(crate) tag_at: usize,
+    pub(crate) tag_len: usize,
+}
+
+// The next key of two sets: where it stands, its marks in either, none where a set doesn't have it, and the entries after it.
+pub(crate) struct Pair {
+    pub(crate) key: KeyPlace,
+    pub(crate) sides: Sides,
+    pub(crate) after: Cursors,
+}
+
+// How large a result is: whether it has tags; how many entries, intervals, and entries with too many intervals it has; and the place behind
+// its entries.
+pub(crate) struct Made {
+    pub(crate) tagged: bool,
+    pub(crate) entries: usize,
+    pub(crate) intervals: usize,
+    pub(crate) crowded: usize,
+    pub(crate) end: usize,
+}
+
+// The entries of a set that has been checked.
+fn begin(checked: Checked) -> Cursor
+    ensures { λ r. ⌜ r ≡ begun checked ⌝ }
+{
+    Cursor {
+        tagged: checked.tagged,
+        at: 8,
+        left: checked.entries,
+    }
+}
+
+// The ids that are kept of two sets, written as a set.
+fn combine(operation: Operation, first: &[u8], second: &[u8], out: &mut [u8]) -> Wrote
+    ensures { λ r. ⌜ r ≡ combineAnswers (saidBy operation) (now (first .entry)) (now (second .entry)) (now (out .entry)) ⌝ }
+    ensures { λ _. ⌜ now (out .exit) ≡ combineLeaves (saidBy operation) (now (first .entry)) (now (second .entry)) (now (out .entry)) ⌝ }
+{
+    let one = check(first);
+    let unfit = one.refusal;
+    if unfit != 0 {
+        return Wrote {
+            refusal: unfit,
+            len: 0,
+        };
+    }
+    let two = check(second);
+    let also_unfit = two.refusal;
+    if also_unfit != 0 {
+        return Wrote {
+            refusal: also_unfit,
+            len: 0,
+        };
+    }
+    let from = Cursors {
+        first: begin(one),
+        second: begin(two),
+    };
+    write_combined(operation, first, second, from, out)
+}
+
+// The ids in either set. Refused are bytes that are no set (14), the first before the second, a result with an entry (17) or as a whole
+// (16) too great, and an output that is too short (13).
+pub fn either(first: &[u8], second: &[u8], out: &mut [u8]) -> Wrote
+    ensures { λ r. ⌜ r ≡ combineAnswers either (now (first .entry)) (now (second .entry)) (now (out .entry)) ⌝ }
+    ensures { λ _. ⌜ now (out .exit) ≡ combineLeaves either (now (first .entry)) (now (second .entry)) (now (out .entry)) ⌝ }
+{
+    combine(Operation::Either, first, second, out)
+}
+
+// The ids in both sets. Refused likewise: what is left of two sets may have more intervals than either.
+pub fn both(first: &[u8], second: &[u8], out: &mut [u8]) -> Wrote
+    ensures { λ r. ⌜ r ≡ combineAnswers both (now (first .entry)) (now (second .entry)) (now (out .entry)) ⌝ }
+    ensures { λ _. ⌜ now (out .exit) ≡ combineLeaves both (now (first .entry)) (now (second .entry)) (now (out .entry)) ⌝ }
+{
+    combine(Operation::Both, first, second, out)
+}
+
+// The ids of the first set that are not in the second. Refused likewise.
+pub fn without(first: &[u8], second: &[u8], out: &mut [u8]) -> Wrote
+    ensures { λ r. ⌜ r ≡ combineAnswers without (now (first .entry)) (now (second .entry)) (now (out .entry)) ⌝ }
+    ensures { λ _. ⌜ now (out .exit) ≡ combineLeaves without (now (first .entry)) (now (second .entry)) (now (out .entry)) ⌝ }
+{
+    combine(Operation::Without, first, second, out)
+}
+
+// Whether no id of the first set is missing in the second; the first that is ends the walk.
+fn none_missing(first: &[u8], second: &[u8], from: Cursors) -> bool
+    requires { ⌜ CursorsAre (now first) (now second) from ⌝ }
+    ensures { λ r. ⌜ r ≡ within (entriesLeft (now (first .entry)) (from .first)) (entriesLeft (now (second .entry)) (from .second)) ⌝ }
+{
+    let mut left = from;
+    while (0 < left.first.left) | (0 < left.second.left) {
+        let pair = next_pair(first, second, left);
+        let sides = pair.sides;
+        let next = next_mark(Operation::Without, first, second, sides);
+        if next.flips {
+            return false;
+        }
+        left = pair.after;
+    }
+    true
+}
+
+// Whether all ids of the first set are in the second. Refused are bytes that are no set (14), the first before the second.
+pub fn within(first: &[u8], second: &[u8]) -> AllWithin
+    ensures { λ r. ⌜ r ≡ withinAnswers (now (first .entry)) (now (second .entry)) ⌝ }
+{
+    let one = check(first);
+    let unfit = one.refusal;
+    if unfit != 0 {
+        return AllWithin {
+            refusal: unfit,
+            all: false,
+        };
+    }
+    let two = check(second);
+    let also_unfit = two.refusal;
+    if also_unfit != 0 {
+        return AllWithin {
+            refusal: also_unfit,
+            all: false,
+        };
+    }
+    let from = Cursors {
+        first: begin(one),
+        second: begin(two),
+    };
+    AllWithin {
+        refusal: 0,
+        all: none_missing(first, second, from),
+    }
+}
