@@ -1,6 +1,7 @@
 -- Laws of the answers over two sets.
 use Prim.Native.Nat.{ℕ, _+_, _<_, _≤_}
 use mathlib.Core.Path.{_≡_, refl, sym, ap, _∙_}
+use mathlib.Core.Logic.{inl, inr}
 use mathlib.Core.Bool.{Bool, true, false}
 use mathlib.Core.List.{List, [], _∷_, _++_}
 use native.Mathlib.Omega.{arith}
@@ -24,19 +25,20 @@ use Rattle.gtid_sets.proofs.ByteLaws.{entries-least}
 use Rattle.gtid_sets.proofs.LimitLaws.{longestSet-is, limits-judged}
 use Rattle.gtid_sets.proofs.LentLaws.{lent-short}
 use Rattle.gtid_sets.proofs.CombineLaws.{combined-good}
+use Rattle.set_check.specs.Check.{checkedOf}
 use Rattle.set_check.specs.declared.Checked.{Checked}
 use Rattle.set_check.proofs.PlaceLaws.{one-byte}
 use Rattle.resume_set.specs.Answers.{saved}
 use Rattle.resume_set.specs.Find.{setOf, Fits}
 use Rattle.resume_set.proofs.SetOfLaws.{set-bytes, set-stands}
-use Rattle.resume_set.proofs.AnswerLaws.{saved-refused, joined-short, joined-fits}
-use Rattle.two_sets.specs.Answers.{combineAnswers, combineLeaves, withinAnswers, begun}
+use Rattle.resume_set.proofs.AnswerLaws.{check-told, check-unfit, saved-refused, joined-short, joined-fits}
+use Rattle.two_sets.specs.Answers.{combineAnswers, combineLeaves, withinAnswers, begun, OneUnfit, BeginningIs}
 use Rattle.two_sets.specs.Marks.{going, NextIs}
 use Rattle.two_sets.specs.Pairs.{entriesLeft, CursorIs, CursorsAre, placesOfBoth, combining, keyIn, PairIs}
 use Rattle.two_sets.specs.Write.{MadeIs, lengthOf}
-use Rattle.two_sets.specs.declared.Cursor.{Cursor}
 use Rattle.two_sets.specs.declared.Cursors.{Cursors}
 use Rattle.two_sets.specs.declared.AllWithin.{AllWithin}
+use Rattle.two_sets.specs.declared.Beginning.{Beginning}
 use Rattle.two_sets.specs.declared.Turn.{Turn}
 use Rattle.two_sets.specs.declared.Pair.{Pair}
 use Rattle.two_sets.specs.declared.Made.{Made}
@@ -45,10 +47,9 @@ use Rattle.two_sets.proofs.PairLaws.{none-combined}
 -- ---- where the walk begins
 
 -- a set that was checked: its entries, from place 8 on
-pub starts : (bs : List ℕ) (c : Checked) → Fits bs c → (d : Cursor) → d ≡ begun c → CursorIs bs d × (entriesLeft bs d ≡ setOf bs)
-starts bs c f d e =
-    let (are, there) = set-stands bs (c .tagged) (c .entries) (f .set) in
-    rw e (
+starts : (bs : List ℕ) (c : Checked) → Fits bs c → CursorIs bs (begun c) × (lentSet bs ≡ form (entriesLeft bs (begun c)))
+starts bs c f =
+    let (are, there) = set-stands bs (c .tagged) (c .entries) (f .set) in (
       record {
         there = there;
         formed = rw are (f .set .formed);
@@ -56,46 +57,59 @@ starts bs c f d e =
         small = omega (arith, lent-short bs (setOf bs) (f .lent), longestSet-is);
         inside = set-bytes bs (c .tagged) (c .entries) (f .set) .0;
       },
-      are,
+      f .lent ∙ ap form (sym are),
     )
 
-pub begins : (bs cs : List ℕ) (c d : Checked) → Fits bs c → Fits cs d → (from : Cursors) → from .first ≡ begun c → from .second ≡ begun d
-    → CursorsAre bs cs from × (8 ≤ placesOfBoth from)
-begins bs cs c d f g from p q =
-    (record { first = starts bs c f (from .first) p .0; second = starts cs d g (from .second) q .0 }, omega (arith, ap (λ (x : Cursor). x .at) p))
+module _ (bs cs : List ℕ) (c : Checked) (p : c ≡ checkedOf (lentSet bs)) (from : Cursors) where
+  -- the first bytes are none
+  pub first-none : (c .refusal ≡ 0 → ⊥) → BeginningIs bs cs (record { refusal = c .refusal; from = from })
+  first-none some =
+      let (none, this) = check-unfit bs c p some in
+      record { lent = λ z. absurd (some z); unfit = λ _. (this, inl none) }
 
--- what is left then is all
-pub begins-all : (op : Bool → Bool → Bool) (bs cs : List ℕ) (c d : Checked) → Fits bs c → Fits cs d → (from : Cursors) → from .first ≡ begun c → from .second ≡ begun d
-    → combining op bs cs from ≡ combined op (setOf bs) (setOf cs)
-begins-all op bs cs c d f g from p q = rw (starts bs c f (from .first) p .1, starts cs d g (from .second) q .1)
+  -- they are a set, and the second decides
+  pub second-decides : c .refusal ≡ 0 → (d : Checked) → d ≡ checkedOf (lentSet cs) → from .first ≡ begun c → from .second ≡ begun d
+      → BeginningIs bs cs (record { refusal = d .refusal; from = from })
+  second-decides fine d q one two =
+      let f = check-told bs c p fine in
+      let (first, here) = starts bs c f in
+      record {
+        lent = λ z. let (second, there) = starts cs d (check-told cs d q z) in record {
+          first = rw one here;
+          second = rw two there;
+          cursors = record { first = rw one first; second = rw two second };
+          far = rw (one, two) (omega arith);
+        };
+        unfit = λ some. let (none, this) = check-unfit cs d q some in (this, inr (entriesLeft bs (begun c), here, none));
+      }
 
--- ---- which of the sets was judged
+-- ---- what the calls answer then
 
-module _ (op : Bool → Bool → Bool) (bs cs out : List ℕ) where
-  pub first-unfit : (r : ℕ) → lentSet bs ≡ unfit → r ≡ 14
-      → (_≡_ {A = Wrote} (record { refusal = r; len = 0 }) (combineAnswers op bs cs out)) × (out ≡ combineLeaves op bs cs out)
-  first-unfit r p e = rw (p, e) (output-refused out notASet)
+module _ (bs cs : List ℕ) (r : Beginning) (i : BeginningIs bs cs r) where
+  module _ (op : Bool → Bool → Bool) (out : List ℕ) where
+    pub combine-unfit : (r .refusal ≡ 0 → ⊥)
+        → (_≡_ {A = Wrote} (record { refusal = r .refusal; len = 0 }) (combineAnswers op bs cs out)) × (out ≡ combineLeaves op bs cs out)
+    combine-unfit some = let (this, one) = i .unfit some in rw this (go one)
+      where
+        go : OneUnfit bs cs → (_≡_ {A = Wrote} (record { refusal = 14; len = 0 }) (combineAnswers op bs cs out)) × (out ≡ combineLeaves op bs cs out)
+        go (inl p) = rw p (output-refused out notASet)
+        go (inr (s, p, q)) = rw (p, q) (output-refused out notASet)
 
-  module _ (lent : lentSet bs ≡ form (setOf bs)) where
-    pub second-unfit : (r : ℕ) → lentSet cs ≡ unfit → r ≡ 14
-        → (_≡_ {A = Wrote} (record { refusal = r; len = 0 }) (combineAnswers op bs cs out)) × (out ≡ combineLeaves op bs cs out)
-    second-unfit r p e = rw (lent, p, e) (output-refused out notASet)
+    pub combine-lent : r .refusal ≡ 0 → (w : Wrote) (l : List ℕ)
+        → (w ≡ answerOf out (saved (combining op bs cs (r .from)))) × (l ≡ outputOf out (saved (combining op bs cs (r .from))))
+        → (w ≡ combineAnswers op bs cs out) × (l ≡ combineLeaves op bs cs out)
+    combine-lent fine w l h = let b = i .lent fine in rw (b .first, b .second) h
 
-    pub both-lent : lentSet cs ≡ form (setOf cs) → (s : List Entry) → s ≡ combined op (setOf bs) (setOf cs) → (w : Wrote) (l : List ℕ)
-        → (w ≡ answerOf out (saved s)) × (l ≡ outputOf out (saved s)) → (w ≡ combineAnswers op bs cs out) × (l ≡ combineLeaves op bs cs out)
-    both-lent other s is w l h = rw (lent, other) (rw is at h)
+  pub within-unfit : (r .refusal ≡ 0 → ⊥) → _≡_ {A = AllWithin} (record { refusal = r .refusal; all = false }) (withinAnswers bs cs)
+  within-unfit some = let (this, one) = i .unfit some in rw this (go one)
+    where
+      go : OneUnfit bs cs → _≡_ {A = AllWithin} (record { refusal = 14; all = false }) (withinAnswers bs cs)
+      go (inl p) = rw p
+      go (inr (s, p, q)) = rw (p, q)
 
-module _ (bs cs : List ℕ) where
-  pub within-unfit : (r : ℕ) → lentSet bs ≡ unfit → r ≡ 14 → _≡_ {A = AllWithin} (record { refusal = r; all = false }) (withinAnswers bs cs)
-  within-unfit r p e = rw (p, e)
-
-  module _ (lent : lentSet bs ≡ form (setOf bs)) where
-    pub within-second-unfit : (r : ℕ) → lentSet cs ≡ unfit → r ≡ 14 → _≡_ {A = AllWithin} (record { refusal = r; all = false }) (withinAnswers bs cs)
-    within-second-unfit r p e = rw (lent, p, e)
-
-    pub within-told : lentSet cs ≡ form (setOf cs) → (s : List Entry) → s ≡ combined without (setOf bs) (setOf cs) → (b : Bool) → b ≡ isEmpty s
-        → _≡_ {A = AllWithin} (record { refusal = 0; all = b }) (withinAnswers bs cs)
-    within-told other s is b e = rw (lent, other, e, is)
+  pub within-lent : r .refusal ≡ 0 → (b : Bool) → b ≡ isEmpty (combining without bs cs (r .from))
+      → _≡_ {A = AllWithin} (record { refusal = 0; all = b }) (withinAnswers bs cs)
+  within-lent fine b e = let l = i .lent fine in rw (l .first, l .second, e)
 
 -- ---- whether an id is missing
 

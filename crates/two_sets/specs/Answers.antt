@@ -1,10 +1,13 @@
 -- What the calls over two sets answer, and what they write.
-use Prim.Native.Nat.{ℕ}
+use Prim.Native.Nat.{ℕ, _≤_}
+use mathlib.Core.Path.{_≡_}
+use mathlib.Core.Logic.{_⊎_}
 use mathlib.Core.Bool.{Bool, false}
 use mathlib.Core.List.{List}
 use Rattle.misc.specs.Refusal.{number, notASet}
 use Rattle.misc.specs.Output.{Output, refused, outputOf, answerOf}
 use Rattle.misc.specs.declared.Wrote.{Wrote}
+use Rattle.previous_gtids_event.specs.Entry.{Entry}
 use Rattle.gtid_sets.specs.Combine as sets
 use Rattle.gtid_sets.specs.Combine.{combined}
 use Rattle.gtid_sets.specs.Lent.{Lent, form, unfit, lentSet}
@@ -12,6 +15,9 @@ use Rattle.resume_set.specs.Answers.{saved}
 use Rattle.set_check.specs.declared.Checked.{Checked}
 use Rattle.two_sets.specs.declared.AllWithin.{AllWithin}
 use Rattle.two_sets.specs.declared.Cursor.{Cursor}
+use Rattle.two_sets.specs.declared.Cursors.{Cursors}
+use Rattle.two_sets.specs.declared.Beginning.{Beginning}
+use Rattle.two_sets.specs.Pairs.{entriesLeft, CursorsAre, placesOfBoth}
 
 -- ---- `either`, `both`, `without`
 
@@ -43,3 +49,18 @@ withinAnswers first second = withinRead (lentSet first) (lentSet second)
 -- the entries of a set that was checked
 abbrev pub begun : Checked → Cursor
 begun c = record { tagged = c .tagged; at = 8; left = c .entries }
+
+-- the first bytes are no set, or they are one and the second are none
+abbrev pub OneUnfit : List ℕ → List ℕ → Type 0
+OneUnfit bs cs = (lentSet bs ≡ unfit) ⊎ ((s : List Entry) × (lentSet bs ≡ form s) × (lentSet cs ≡ unfit))
+
+-- both are sets, and these are all of their entries
+pub record BothLent (bs cs : List ℕ) (c : Cursors) : Type 0 where
+  pub first : lentSet bs ≡ form (entriesLeft bs (c .first))
+  pub second : lentSet cs ≡ form (entriesLeft cs (c .second))
+  pub cursors : CursorsAre bs cs c
+  pub far : 8 ≤ placesOfBoth c
+
+pub record BeginningIs (bs cs : List ℕ) (r : Beginning) : Type 0 where
+  pub lent : r .refusal ≡ 0 → BothLent bs cs (r .from)
+  pub unfit : (r .refusal ≡ 0 → ⊥) → (r .refusal ≡ 14) × OneUnfit bs cs

@@ -1,6 +1,6 @@
 -- What `two_sets` promises is said by the definitions of `Answers`, on `lentSet` and `combined` of gtid_sets. The others are what functions inside
 -- promise.
-pub mod Answers
 pub mod Marks
 pub mod Pairs
 pub mod Write
+pub mod Answers

@@ -11,7 +11,7 @@ ghost use mathlib.Core.Path.{_≡_};
 ghost use Rattle.gtid_sets.specs.Combine.{either, both, without, within};
 ghost use Rattle.two_sets.specs.Marks.{saidBy};
 ghost use Rattle.two_sets.specs.Pairs.{entriesLeft, CursorsAre};
-ghost use Rattle.two_sets.specs.Answers.{combineAnswers, combineLeaves, withinAnswers, begun};
+ghost use Rattle.two_sets.specs.Answers.{combineAnswers, combineLeaves, withinAnswers, begun, BeginningIs};
 
 mod marks;
 mod pairs;
@@ -70,6 +70,12 @@ pub(crate) struct Cursors {
     pub(crate) second: Cursor,
 }
 
+// Where the walk over two sets begins, or the refusal of what is none.
+pub(crate) struct Beginning {
+    pub(crate) refusal: u8,
+    pub(crate) from: Cursors,
+}
+
 // Where a key stands: in the first set or the second, its uuid and its tag.
 pub(crate) struct KeyPlace {
     pub(crate) of_first: bool,
@@ -96,7 +102,7 @@ pub(crate) struct Made {
 }
 
 // The entries of a set that has been checked.
-fn begin(checked: Checked) -> Cursor
+fn cursor_of(checked: Checked) -> Cursor
     ensures { λ r. ⌜ r ≡ begun checked ⌝ }
 {
     Cursor {
@@ -106,31 +112,43 @@ fn begin(checked: Checked) -> Cursor
     }
 }
 
+// Judges the first bytes, and then the second.
+fn begin(first: &[u8], second: &[u8]) -> Beginning
+    ensures { λ r. ⌜ BeginningIs (now (first .entry)) (now (second .entry)) r ⌝ }
+{
+    let one = check(first);
+    let first_cursor = cursor_of(one);
+    let unfit = one.refusal;
+    if unfit != 0 {
+        return Beginning {
+            refusal: unfit,
+            from: Cursors {
+                first: first_cursor,
+                second: first_cursor,
+            },
+        };
+    }
+    let two = check(second);
+    Beginning {
+        refusal: two.refusal,
+        from: Cursors {
+            first: first_cursor,
+            second: cursor_of(two),
+        },
+    }
+}
+
 // The ids that are kept of two sets, written as a set.
 fn combine(operation: Operation, first: &[u8], second: &[u8], out: &mut [u8]) -> Wrote
     ensures { λ r. ⌜ r ≡ combineAnswers (saidBy operation) (now (first .entry)) (now (second .entry)) (now (out .entry)) ⌝ }
     ensures { λ _. ⌜ now (out .exit) ≡ combineLeaves (saidBy operation) (now (first .entry)) (now (second .entry)) (now (out .entry)) ⌝ }
 {
-    let one = check(first);
-    let unfit = one.refusal;
-    if unfit != 0 {
-        return Wrote {
-            refusal: unfit,
-            len: 0,
-        };
+    let beginning = begin(first, second);
+    let refusal = beginning.refusal;
+    if refusal != 0 {
+        return Wrote { refusal, len: 0 };
     }
-    let two = check(second);
-    let also_unfit = two.refusal;
-    if also_unfit != 0 {
-        return Wrote {
-            refusal: also_unfit,
-            len: 0,
-        };
-    }
-    let from = Cursors {
-        first: begin(one),
-        second: begin(two),
-    };
+    let from = beginning.from;
     write_combined(operation, first, second, from, out)
 }
 
@@ -181,26 +199,15 @@ fn none_missing(first: &[u8], second: &[u8], from: Cursors) -> bool
 pub fn within(first: &[u8], second: &[u8]) -> AllWithin
     ensures { λ r. ⌜ r ≡ withinAnswers (now (first .entry)) (now (second .entry)) ⌝ }
 {
-    let one = check(first);
-    let unfit = one.refusal;
-    if unfit != 0 {
+    let beginning = begin(first, second);
+    let refusal = beginning.refusal;
+    if refusal != 0 {
         return AllWithin {
-            refusal: unfit,
+            refusal,
             all: false,
         };
     }
-    let two = check(second);
-    let also_unfit = two.refusal;
-    if also_unfit != 0 {
-        return AllWithin {
-            refusal: also_unfit,
-            all: false,
-        };
-    }
-    let from = Cursors {
-        first: begin(one),
-        second: begin(two),
-    };
+    let from = beginning.from;
     AllWithin {
         refusal: 0,
         all: none_missing(first, second, from),
