@@ -13,7 +13,7 @@ use Rattle.gtid_sets.specs.Interval.{covers, Gapped}
 use Rattle.gtid_sets.specs.Set.{has, Above, SetForm}
 use Rattle.gtid_sets.specs.Lent.{GoodKeys}
 use Rattle.gtid_sets.specs.TakeIn.{Lawful, union, takeIn}
-use Rattle.gtid_sets.specs.Combine.{either, without, swept, keep, combined, isEmpty, within}
+use Rattle.gtid_sets.specs.Combine.{either, without, swept, keep, combined, isEmpty, subset}
 use Rattle.gtid_sets.proofs.SetLaws.{above-down, above-misses, set-unique}
 use Rattle.gtid_sets.proofs.TakeInLaws.{has-union, has-takeIn, form-union, form-takeIn}
 use Rattle.gtid_sets.proofs.SweepLaws.{swept-gapped, swept-covers}
@@ -135,27 +135,27 @@ module _ (op : Bool → Bool → Bool) (none : op false false ≡ false) where
 
 -- ---- all ids of the first lie in the second
 
+pub not-first : (x y : Bool) → x ≡ true → without x y ≡ false → y ≡ true
+not-first true true h k = refl
+not-first true false h k = clash refl k
+not-first false y h k = clash h refl
+
+pub in-second : (x y : Bool) → (x ≡ true → y ≡ true) → without x y ≡ false
+in-second true y h = rw (h refl)
+in-second false y h = refl
+
 module _ (s t : List Entry) (f : SetForm s) (g : SetForm t) where
   empty-is : (u : List Entry) → isEmpty u ≡ true → u ≡ []
   empty-is [] h = refl
   empty-is (e ∷ u) h = clash h refl
 
-  not-first : (x y : Bool) → x ≡ true → without x y ≡ false → y ≡ true
-  not-first true true h k = refl
-  not-first true false h k = clash refl k
-  not-first false y h k = clash h refl
-
-  in-second : (x y : Bool) → (x ≡ true → y ≡ true) → without x y ≡ false
-  in-second true y h = rw (h refl)
-  in-second false y h = refl
-
-  pub within-says : within s t ≡ true → (k : Key) (n : ℕ) → has s k n ≡ true → has t k n ≡ true
-  within-says h k n m =
+  pub subset-says : subset s t ≡ true → (k : Key) (n : ℕ) → has s k n ≡ true → has t k n ≡ true
+  subset-says h k n m =
       not-first (has s k n) (has t k n) m
       (sym (combined-has without refl s t k n f g) ∙ ap (λ u. has u k n) (empty-is (combined without s t) h))
 
-  pub within-from : ((k : Key) (n : ℕ) → has s k n ≡ true → has t k n ≡ true) → within s t ≡ true
-  within-from m = ap isEmpty (sym (is-combined without refl s t [] f g tt (λ k n. sym (in-second (has s k n) (has t k n) (m k n)))))
+  pub subset-from : ((k : Key) (n : ℕ) → has s k n ≡ true → has t k n ≡ true) → subset s t ≡ true
+  subset-from m = ap isEmpty (sym (is-combined without refl s t [] f g tt (λ k n. sym (in-second (has s k n) (has t k n) (m k n)))))
 
 -- ---- a body's ids joined to a set
 

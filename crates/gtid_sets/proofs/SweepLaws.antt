@@ -1,7 +1,7 @@
 -- Laws of the sweep over the marks of two lists of intervals: what it gives is gapped, and holds the numbers of which the operation says so.
 use Prim.Native.Nat.{ℕ, compare, _<_, _≤_, Ordering·lt, Ordering·eq, Ordering·gt}
 use mathlib.Core.Path.{_≡_, refl, sym, ap, _∙_}
-use mathlib.Core.Bool.{Bool, true, false, not, Bool·not-not}
+use mathlib.Core.Bool.{Bool, true, false, Bool·not-not}
 use mathlib.Core.List.{List, [], _∷_}
 use native.Mathlib.Omega.{arith}
 use lib.Dec.{leb}

@@ -81,14 +81,14 @@ combined op (entry k is ∷ s) (entry j js ∷ t) = elim (order k j) [
   | Ordering·gt ↦ keep j (swept op [] js) (combined op (entry k is ∷ s) t)
 ]
 
--- whether all ids of the first are ids of the second: the first without the second is empty (`within-says` and `within-from` of
+-- whether all ids of the first are ids of the second: the first without the second is empty (`subset-says` and `subset-from` of
 -- proofs/CombineLaws.antt)
 abbrev pub isEmpty : List Entry → Bool
 isEmpty [] = true
 isEmpty (e ∷ s) = false
 
-abbrev pub within : List Entry → List Entry → Bool
-within s t = isEmpty (combined without s t)
+abbrev pub subset : List Entry → List Entry → Bool
+subset s t = isEmpty (combined without s t)
 
 -- ---- what the sweep needs
 

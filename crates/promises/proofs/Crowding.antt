@@ -65,7 +65,7 @@ spread-before (suc n) from a b h = ap length (insert-before a b from (from + 1) 
 abbrev zeros : Key
 zeros = replicate 16 0
 
-abbrev pub most : List Interval
+abbrev most : List Interval
 most = spread 1024 3
 
 abbrev pub entryFull : List Entry

@@ -142,15 +142,15 @@ sets-exact = record {
 
 -- ---- `offer`
 
-pub out-fits : (bs out : List ℕ) → length bs ≤ length out → outputOf out (bytes bs) ≡ bs ++ drop (length bs) out
+out-fits : (bs out : List ℕ) → length bs ≤ length out → outputOf out (bytes bs) ≡ bs ++ drop (length bs) out
 unfolding outputOf
 out-fits bs out room = rw (le-leb (length bs) (length out) room)
 
-pub out-short : (bs out : List ℕ) → leb (length bs) (length out) ≡ false → outputOf out (bytes bs) ≡ out
+out-short : (bs out : List ℕ) → leb (length bs) (length out) ≡ false → outputOf out (bytes bs) ≡ out
 unfolding outputOf
 out-short bs out over = rw over
 
-pub out-refused : (out : List ℕ) (r : Refusal) → outputOf out (refused r) ≡ out
+out-refused : (out : List ℕ) (r : Refusal) → outputOf out (refused r) ≡ out
 unfolding outputOf
 out-refused out r = refl
 

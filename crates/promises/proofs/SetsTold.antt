@@ -58,7 +58,7 @@ module _ (body : List ℕ) (es : List Entry) (are : Bytes body) (is : BodyIs bod
   lists : (s : List Entry) × SetLaid (bodyBytes s) s × (eventText 35 body ≡ setText previousWord s) × ((k : Key) (n : ℕ) → has s k n ≡ has es k n)
   lists = (takeIn es, lent-is _ _ taken-lent, shown, has-takeIn es)
 
-as-number : (b : Bool) → bit b ≡ pick b 1 0
+pub as-number : (b : Bool) → bit b ≡ pick b 1 0
 as-number true = refl
 as-number false = refl
 

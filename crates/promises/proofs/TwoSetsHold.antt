@@ -1,43 +1,45 @@
 -- The statements of `specs/TwoSets.antt`.
-use Prim.Native.Nat.{ℕ, _≤_, _<_}
+use Prim.Native.Nat.{ℕ}
 use mathlib.Core.Path.{_≡_, refl, sym, ap, _∙_}
 use mathlib.Core.Bool.{Bool, true, false}
-use mathlib.Core.List.{List, [], _∷_, _++_}
+use mathlib.Core.List.{List, [], _∷_}
 use native.Mathlib.Omega.{arith}
 use lib.Dec.{leb}
 use lib.ListN.{length, take, drop}
 use lib.Seq.{take-at}
 use borrow.Author.Tests.{leb-true, leb-false, le-leb, lt-leb, lt-ltb}
 use Rattle.misc.specs.Refusal.{Refusal, number, notASet, full, crowded}
+use Rattle.misc.specs.Pick.{pick}
 use Rattle.misc.specs.Output.{Output, refused, bytes, outputOf, answerOf}
 use Rattle.misc.specs.declared.Wrote.{Wrote}
 use Rattle.misc.proofs.ParseLaws.{no-zero}
-use Rattle.packets.specs.Gno.{Interval, interval}
-use Rattle.packets.specs.Key.{Key, same}
+use Rattle.packets.specs.Gno.{interval}
+use Rattle.packets.specs.Key.{Key}
 use Rattle.packets.proofs.Tests.{split, clash}
 use Rattle.packets.proofs.Keys.{same-self}
 use Rattle.previous_gtids_event.specs.Entry.{Entry, entry}
 use Rattle.previous_gtids_event.specs.Rewrite.{bodyBytes}
-use Rattle.gtid_sets.specs.Interval.{covers}
 use Rattle.gtid_sets.specs.Set.{has, SetForm}
+use Rattle.gtid_sets.specs.TakeIn.{takeIn}
 use Rattle.gtid_sets.specs.Limits.{Judged, fine, breaks, limits}
 use Rattle.gtid_sets.specs.Lent.{Lent, form, unfit, lentSet, GoodKeys, SetLaid}
-use Rattle.gtid_sets.specs.Combine as sets
-use Rattle.gtid_sets.specs.Combine.{either, both, without, combined, isEmpty}
+use Rattle.gtid_sets.specs.Combine.{either, both, without, combined, isEmpty, subset}
+use Rattle.gtid_sets.proofs.FormLaws.{lawful-holds}
+use Rattle.gtid_sets.proofs.TakeInLaws.{form-takeIn}
 use Rattle.gtid_sets.proofs.LimitLaws.{limits-from}
 use Rattle.gtid_sets.proofs.LentLaws.{lent-is, is-lent, lent-back}
-use Rattle.gtid_sets.proofs.CombineLaws.{combined-good, combined-form, combined-has, is-combined, within-says, within-from}
+use Rattle.gtid_sets.proofs.CombineLaws.{combined-good, combined-form, combined-has, is-combined, not-first, in-second, subset-says, subset-from, join-is-either}
 use Rattle.resume_set.specs.Answers.{savedIf, saved}
 use Rattle.two_sets.specs.Answers.{combinedOutput, combineAnswers, combineLeaves, withinRead, withinAnswers}
 use Rattle.two_sets.specs.declared.AllWithin.{AllWithin}
 use Rattle.abi.specs.Answers.{bit}
 use Rattle.resume_set_laws.specs.History.{member}
 use Rattle.promises.specs.PlainFaults.{ShortFault, WriteFault}
-use Rattle.promises.specs.SetFaults.{SetFault}
 use Rattle.promises.specs.Exact.{Exactly}
-use Rattle.promises.specs.TwoSets.{Keeps, PairFault, CombineFault, KeptAs, CombineAnswer, Combiner, CombinesExactly, ours, WithinAnswer, ComparesExactly, TwoSets}
+use Rattle.promises.specs.TwoSets.{Keeps, PairFault, CombineFault, ResultAs, CombineAnswer, CombinesExactly, ourCalls, WithinAnswer, allIn, ComparesExactly, TwoSets}
 use Rattle.promises.proofs.LimitsExact.{entry-limit, limits-refuse}
-use Rattle.promises.proofs.SetsExact.{apart, unfit-fault, fault-unfit, out-fits, out-short, out-refused}
+use Rattle.promises.proofs.SetsTold.{as-number}
+use Rattle.promises.proofs.SetsExact.{apart, unfit-fault, fault-unfit}
 
 -- ---- a pair of sets
 
@@ -71,7 +73,7 @@ module _ (op : Bool → Bool → Bool) (none : op false false ≡ false) where
     unfolding answerOf outputOf
     refused-as r fault = CombineAnswer.refused (WriteFault.itself fault)
 
-    bytes-as : (bs : List ℕ) → KeptAs op first second bs → Found (bytes bs)
+    bytes-as : (bs : List ℕ) → ResultAs op first second bs → Found (bytes bs)
     unfolding answerOf outputOf
     bytes-as bs is = split (leb (length bs) (length out))
         (λ fits. rw fits (CombineAnswer.written is (leb-true _ _ fits)))
@@ -84,7 +86,7 @@ module _ (op : Bool → Bool → Bool) (none : op false false ≡ false) where
         is = keeps-combined s t (i .formed) (j .formed)
 
         go : (x : Judged) → limits (combined op s t) ≡ x → Found (savedIf x (bodyBytes (combined op s t)))
-        go fine told = bytes-as (bodyBytes (combined op s t)) (KeptAs.kept i j is told)
+        go fine told = bytes-as (bodyBytes (combined op s t)) (ResultAs.kept i j is told)
         go (breaks r) told = limits-refuse (combined op s t) told
             (λ over this. rw this (refused-as crowded (CombineFault.crowdedEntry i j is over)))
             (λ over this. rw this (refused-as full (CombineFault.overLimits i j is over)))
@@ -110,8 +112,8 @@ module _ (op : Bool → Bool → Bool) (none : op false false ≡ false) where
         let judged : limits (combined op s t) ≡ breaks full = rw same-set at over in
         (full, rw (is-lent first s i, is-lent second t j, judged), refl)
 
-    kept-told : (bs : List ℕ) → KeptAs op first second bs → combinedOutput op (lentSet first) (lentSet second) ≡ bytes bs
-    kept-told bs (KeptAs.kept {s = s} {t = t} {u = u} i j k within) =
+    kept-told : (bs : List ℕ) → ResultAs op first second bs → combinedOutput op (lentSet first) (lentSet second) ≡ bytes bs
+    kept-told bs (ResultAs.kept {s = s} {t = t} {u = u} i j k within) =
         let same-set = keeps-one s t u (i .formed) (j .formed) k in
         let judged : limits (combined op s t) ≡ fine = rw same-set at within in
         rw (is-lent first s i, is-lent second t j, judged, same-set)
@@ -124,7 +126,7 @@ module _ (op : Bool → Bool → Bool) (none : op false false ≡ false) where
     forced w l (CombineAnswer.refused (WriteFault.noRoom {bs = bs} is (ShortFault.short over))) = rw (kept-told bs is, lt-leb _ _ over) (refl, refl)
     forced w l (CombineAnswer.written {bs = bs} is room) = rw (kept-told bs is, le-leb _ _ room) (refl, refl)
 
-  pub results-exactly : CombinesExactly op (ours op)
+  pub results-exactly : CombinesExactly op (ourCalls op)
   results-exactly first second out w l = (
     λ (is, left). rw (is, left) at (found first second out (lentSet first) (lentSet second) refl refl),
     forced first second out w l,
@@ -146,17 +148,17 @@ in-first false y h = clash h refl
 
 module _ (first second : List ℕ) where
   module _ (s t : List Entry) (i : SetLaid first s) (j : SetLaid second t) where
-    told-as : WithinAnswer first second (record { refusal = 0; all = sets.within s t })
-    told-as = split (sets.within s t)
-        (λ all. rw all (WithinAnswer.inside i j (within-says s t (i .formed) (j .formed) all)))
+    told-as : WithinAnswer first second (record { refusal = 0; all = subset s t })
+    told-as = split (subset s t)
+        (λ all. rw all (WithinAnswer.inside i j (subset-says s t (i .formed) (j .formed) all)))
         (λ not-all.
         let (k, (n, there)) = first-member (combined without s t) (combined-form without refl s t (i .formed) (j .formed)) not-all in
         let (here, gone) = in-first (has s k n) (has t k n) (sym (combined-has without refl s t k n (i .formed) (j .formed)) ∙ there) in
         rw not-all (WithinAnswer.missing k n i j here gone))
 
     -- an id that is missing is a member of what is left
-    not-within : (k : Key) (n : ℕ) → has s k n ≡ true → has t k n ≡ false → sets.within s t ≡ false
-    not-within k n here gone = split (sets.within s t) (λ all. clash (within-says s t (i .formed) (j .formed) all k n here) gone) (λ h. h)
+    not-within : (k : Key) (n : ℕ) → has s k n ≡ true → has t k n ≡ false → subset s t ≡ false
+    not-within k n here gone = split (subset s t) (λ all. clash (subset-says s t (i .formed) (j .formed) all k n here) gone) (λ h. h)
 
   within-found : (x y : Lent) → lentSet first ≡ x → lentSet second ≡ y → WithinAnswer first second (withinRead x y)
   within-found unfit y p q = WithinAnswer.refused (PairFault.badFirst (unfit-fault first p))
@@ -165,7 +167,7 @@ module _ (first second : List ℕ) where
 
   within-forced : (r : AllWithin) → WithinAnswer first second r → withinAnswers first second ≡ r
   within-forced r (WithinAnswer.refused {n = n} fault) = pair-unfit first second n fault (λ this p. rw (p, this)) (λ this s p q. rw (p, q, this))
-  within-forced r (WithinAnswer.inside {s = s} {t = t} i j all) = rw (is-lent first s i, is-lent second t j, within-from s t (i .formed) (j .formed) all)
+  within-forced r (WithinAnswer.inside {s = s} {t = t} i j all) = rw (is-lent first s i, is-lent second t j, subset-from s t (i .formed) (j .formed) all)
   within-forced r (WithinAnswer.missing {s = s} {t = t} k n i j here gone) = rw (is-lent first s i, is-lent second t j, not-within s t i j k n here gone)
 
 pub compares-exactly : ComparesExactly withinAnswers
@@ -181,26 +183,26 @@ module _ (op : Bool → Bool → Bool) (none : op false false ≡ false) (first 
   abbrev result : List ℕ
   result = take (combineAnswers op first second out .len) (combineLeaves op first second out)
 
-  has-result : {bs : List ℕ} → KeptAs op first second bs → result ≡ bs
+  has-result : {bs : List ℕ} → ResultAs op first second bs → result ≡ bs
       → ((s : List Entry) × SetLaid result s) × ((k : Key) (n : ℕ) → member result k n ≡ op (member first k n) (member second k n))
-  has-result {bs} (KeptAs.kept {s = s} {t = t} {u = u} i j k within) is =
+  has-result {bs} (ResultAs.kept {s = s} {t = t} {u = u} i j k within) is =
       let same-set = keeps-one op none s t u (i .formed) (j .formed) k in
       let good : GoodKeys u = rw same-set (combined-good op s t (i .keyed) (j .keyed)) in
       let laid : SetLaid result u = record { written = is; formed = k .formed; keyed = good; limited = within } in
       ((u, laid), λ key n. rw (is-lent result u laid, is-lent first s i, is-lent second t j) (k .members key n))
 
   -- bytes that are written are those of the result
-  bytes-kept : (bs : List ℕ) → combinedOutput op (lentSet first) (lentSet second) ≡ bytes bs → KeptAs op first second bs
+  bytes-kept : (bs : List ℕ) → combinedOutput op (lentSet first) (lentSet second) ≡ bytes bs → ResultAs op first second bs
   bytes-kept bs = go (lentSet first) (lentSet second) refl refl
     where
       judged : (s t : List Entry) → SetLaid first s → SetLaid second t → (x : Judged) → limits (combined op s t) ≡ x
-          → savedIf x (bodyBytes (combined op s t)) ≡ bytes bs → KeptAs op first second bs
+          → savedIf x (bodyBytes (combined op s t)) ≡ bytes bs → ResultAs op first second bs
       judged s t i j fine told e =
           let this : bodyBytes (combined op s t) ≡ bs = cc in
-          rw (← this) (KeptAs.kept i j (keeps-combined op none s t (i .formed) (j .formed)) told)
+          rw (← this) (ResultAs.kept i j (keeps-combined op none s t (i .formed) (j .formed)) told)
       judged s t i j (breaks r) told e = apart cc
 
-      go : (x y : Lent) → lentSet first ≡ x → lentSet second ≡ y → combinedOutput op x y ≡ bytes bs → KeptAs op first second bs
+      go : (x y : Lent) → lentSet first ≡ x → lentSet second ≡ y → combinedOutput op x y ≡ bytes bs → ResultAs op first second bs
       go unfit y p q e = apart cc
       go (form s) unfit p q e = apart cc
       go (form s) (form t) p q e = judged s t (lent-is first s p) (lent-is second t q) (limits (combined op s t)) refl e
@@ -228,50 +230,50 @@ only-empty u f g h e =
     let alike : form u ≡ form [] = sym this ∙ that in
     cc
 
-none-left : (x y : Bool) → (x ≡ true → y ≡ true) → false ≡ without x y
-none-left true y h = rw (h refl)
-none-left false y h = refl
-
-all-in : (x y : Bool) → x ≡ true → false ≡ without x y → y ≡ true
-all-in true true h e = refl
-all-in true false h e = clash refl (sym e)
-all-in false y h e = clash h refl
-
 module _ (first second : List ℕ) where
-  empty-kept : (r : AllWithin) → WithinAnswer first second r → r ≡ record { refusal = 0; all = true } → KeptAs without first second (bodyBytes [])
+  empty-kept : (r : AllWithin) → WithinAnswer first second r → r ≡ allIn → ResultAs without first second (bodyBytes [])
   empty-kept r (WithinAnswer.refused fault) e = clash (ap (λ (x : AllWithin). x .all) e) refl
   empty-kept r (WithinAnswer.inside {s = s} {t = t} i j all) e =
-      KeptAs.kept {u = []} i j (record { formed = tt; members = λ k n. none-left (has s k n) (has t k n) (all k n) }) none-fine
+      ResultAs.kept {u = []} i j (record { formed = tt; members = λ k n. sym (in-second (has s k n) (has t k n) (all k n)) }) none-fine
   empty-kept r (WithinAnswer.missing k n i j here gone) e = clash (ap (λ (x : AllWithin). x .all) e) refl
 
-  kept-empty : (bs : List ℕ) → KeptAs without first second bs → bs ≡ bodyBytes [] → WithinAnswer first second (record { refusal = 0; all = true })
-  kept-empty bs (KeptAs.kept {s = s} {t = t} {u = u} i j k within) e =
+  kept-empty : (bs : List ℕ) → ResultAs without first second bs → bs ≡ bodyBytes [] → WithinAnswer first second allIn
+  kept-empty bs (ResultAs.kept {s = s} {t = t} {u = u} i j k within) e =
       let same-set = keeps-one without refl s t u (i .formed) (j .formed) k in
       let none : u ≡ [] = only-empty u (k .formed) (rw same-set (combined-good without s t (i .keyed) (j .keyed))) within e in
-      WithinAnswer.inside i j (λ key n here. all-in (has s key n) (has t key n) here (ap (λ (x : List Entry). has x key n) (sym none) ∙ k .members key n))
+      WithinAnswer.inside i j (λ key n here. not-first (has s key n) (has t key n) here
+      (sym (ap (λ (x : List Entry). has x key n) (sym none) ∙ k .members key n)))
 
-  empty-exactly : Exactly (withinAnswers first second ≡ record { refusal = 0; all = true }) (KeptAs without first second (bodyBytes []))
+  empty-exactly : Exactly (withinAnswers first second ≡ allIn) (ResultAs without first second (bodyBytes []))
   empty-exactly = (
     λ is. empty-kept (withinAnswers first second) (within-found first second (lentSet first) (lentSet second) refl refl) is,
-    λ is. within-forced first second (record { refusal = 0; all = true }) (kept-empty (bodyBytes []) is refl),
+    λ is. within-forced first second allIn (kept-empty (bodyBytes []) is refl),
   )
 
-  yes-is-one : Exactly (bit (withinAnswers first second .all) ≡ 1) (WithinAnswer first second (record { refusal = 0; all = true }))
-  yes-is-one = (
-    go (withinAnswers first second) (within-found first second (lentSet first) (lentSet second) refl refl),
-    λ is. ap (λ (x : AllWithin). bit (x .all)) (within-forced first second (record { refusal = 0; all = true }) is),
+  numbers-exactly : (r : AllWithin)
+      → Exactly ((withinAnswers first second .refusal ≡ r .refusal) × (bit (withinAnswers first second .all) ≡ pick (r .all) 1 0)) (WithinAnswer first second r)
+  numbers-exactly r = (
+    λ (number, one). rw (same-answer (withinAnswers first second) r number one) at (within-found first second (lentSet first) (lentSet second) refl refl),
+    λ is. rw (within-forced first second r is) (refl, as-number (r .all)),
   )
     where
-      go : (r : AllWithin) → WithinAnswer first second r → bit (r .all) ≡ 1 → WithinAnswer first second (record { refusal = 0; all = true })
-      go r (WithinAnswer.refused fault) e = absurd (omega arith)
-      go r (WithinAnswer.inside i j all) e = WithinAnswer.inside i j all
-      go r (WithinAnswer.missing k n i j here gone) e = absurd (omega arith)
+      same-bit : (x y : Bool) → bit x ≡ pick y 1 0 → x ≡ y
+      same-bit true true e = refl
+      same-bit true false e = absurd (omega arith)
+      same-bit false true e = absurd (omega arith)
+      same-bit false false e = refl
+
+      same-answer : (a b : AllWithin) → a .refusal ≡ b .refusal → bit (a .all) ≡ pick (b .all) 1 0 → a ≡ b
+      same-answer a b p q =
+          let same : a .all ≡ b .all = same-bit (a .all) (b .all) q in
+          let parts : _≡_ {A = AllWithin} (record { refusal = a .refusal; all = a .all }) (record { refusal = b .refusal; all = b .all }) = rw (p, same) in
+          parts
 
 -- one set twice
 module _ (set : List ℕ) (s : List Entry) (i : SetLaid set s) where
-  whole : (op : Bool → Bool → Bool) → ((x : Bool) → x ≡ op x x) → KeptAs op set set set
+  whole : (op : Bool → Bool → Bool) → ((x : Bool) → x ≡ op x x) → ResultAs op set set set
   whole op itself =
-      let is : KeptAs op set set (bodyBytes s) = KeptAs.kept i i (record { formed = i .formed; members = λ k n. itself (has s k n) }) (i .limited) in
+      let is : ResultAs op set set (bodyBytes s) = ResultAs.kept i i (record { formed = i .formed; members = λ k n. itself (has s k n) }) (i .limited) in
       rw (← i .written) at is
 
   either-itself : (x : Bool) → x ≡ either x x
@@ -282,17 +284,26 @@ module _ (set : List ℕ) (s : List Entry) (i : SetLaid set s) where
   both-itself true = refl
   both-itself false = refl
 
-  with-itself : KeptAs either set set set × KeptAs both set set set × KeptAs without set set (bodyBytes []) × WithinAnswer set set (record { refusal = 0; all = true })
+  with-itself : ResultAs either set set set × ResultAs both set set set × ResultAs without set set (bodyBytes []) × WithinAnswer set set allIn
   with-itself =
-      let all : WithinAnswer set set (record { refusal = 0; all = true }) = WithinAnswer.inside i i (λ k n h. h) in
-      (whole either either-itself, whole both both-itself, empty-kept set set (record { refusal = 0; all = true }) all refl, all)
+      let all : WithinAnswer set set allIn = WithinAnswer.inside i i (λ k n h. h) in
+      (whole either either-itself, whole both both-itself, empty-kept set set allIn all refl, all)
 
 pub two-sets : TwoSets
 two-sets = record {
   results = results-exactly;
+  either = results-exactly either refl;
+  both = results-exactly both refl;
+  without = results-exactly without refl;
   within = compares-exactly;
   members = λ op first second out none zero. result-of op none first second out zero;
   empty = empty-exactly;
   twice = with-itself;
-  «gtid_within» = yes-is-one;
+  joined = λ s es f good.
+      let l = lawful-holds es good in
+      rw (join-is-either es s l f) (keeps-combined either refl s (takeIn es) f (form-takeIn es l));
+  «gtid_either» = results-exactly either refl;
+  «gtid_both» = results-exactly both refl;
+  «gtid_without» = results-exactly without refl;
+  «gtid_within» = numbers-exactly;
 }

@@ -1,11 +1,11 @@
 -- Wrong calls over two sets are shut out.
-use Prim.Native.Nat.{ℕ, _+_, _≤_, _<_}
+use Prim.Native.Nat.{ℕ, _+_}
 use mathlib.Core.Path.{_≡_, refl, sym, ap, _∙_}
 use mathlib.Core.Bool.{Bool, true, false}
-use mathlib.Core.List.{List, [], _∷_, _++_}
+use mathlib.Core.List.{List, [], _∷_}
 use native.Mathlib.Omega.{arith}
 use lib.Dec.{ltb}
-use lib.ListN.{length, getD, replicate}
+use lib.ListN.{getD, replicate}
 use Rattle.misc.specs.Parse.{many, bytesAt, byteAt}
 use Rattle.misc.specs.Body.{bodyLimit}
 use Rattle.misc.specs.Le.{leOf, leBytes, leAt}
@@ -16,7 +16,7 @@ use Rattle.packets.specs.Gno.{gnoTop, interval}
 use Rattle.packets.specs.Tag.{allTagBytes, isTag}
 use Rattle.packets.proofs.Tests.{clash}
 use Rattle.packets.proofs.Keys.{same-self}
-use Rattle.previous_gtids_event.specs.Entry.{Entry, entry, uuidOf, tagOf}
+use Rattle.previous_gtids_event.specs.Entry.{entry, uuidOf, tagOf}
 use Rattle.previous_gtids_event.specs.Previous.{tagAt, keyAt, headAt, intervalAt, entryAt, saysTagged, saysCount, previous}
 use Rattle.previous_gtids_event.specs.Rewrite.{intervalsBytes, entryBytes, entriesBytes, anyTag, headerBytes, bodyBytes}
 use Rattle.gtid_sets.specs.Limits.{maxEntries, maxIntervals, maxOfEntry, judged, limits}
@@ -26,8 +26,8 @@ use Rattle.gtid_sets.proofs.LentLaws.{is-lent}
 use Rattle.resume_set.specs.Answers.{setRead}
 use Rattle.two_sets.specs.Answers.{combineAnswers, combineLeaves, withinAnswers}
 use Rattle.two_sets.specs.declared.AllWithin.{AllWithin}
-use Rattle.promises.specs.TwoSets.{CombineAnswer, Combiner, CombinesExactly, ours, ComparesExactly}
-use Rattle.promises.specs.WrongOnes.{alone, aloneTagged, onlyOf, staysApart, keepsEmpty, ignoresTag, swapsSets, countsInputs, comparesLengths, wantsSame}
+use Rattle.promises.specs.TwoSets.{CombineAnswer, Combiner, CombinesExactly, ourCalls, ComparesExactly}
+use Rattle.promises.specs.WrongOnes.{alone, aloneTagged, onlyOf, staysApart, keepsEmpty, ignoresTag, swapsSets, countsInputs, takesNoSet, comparesLengths, wantsSame}
 use Rattle.promises.proofs.TwoSetsHold.{results-exactly, compares-exactly, two-sets}
 use Rattle.promises.proofs.Crowding.{spread-length, entryFull, laid}
 
@@ -46,7 +46,7 @@ room = replicate 64 0
 
 -- what a call that writes other bytes for two sets comes to there
 module _ (op : Bool → Bool → Bool) (none : op false false ≡ false) (first second bs : List ℕ) where
-  only-says : CombinesExactly op (onlyOf first second bs (ours op)) → outputOf room (bytes bs) ≡ combineLeaves op first second room
+  only-says : CombinesExactly op (onlyOf first second bs (ourCalls op)) → outputOf room (bytes bs) ≡ combineLeaves op first second room
   only-says exactly =
       let (_, left) = same-calls op exactly (results-exactly op none) first second room in
       rw (same-self first, same-self second) at left
@@ -99,6 +99,18 @@ ignores-tag-out exactly =
     let differs : _≡_ {A = ℕ} 1 0 = sym tag-says ∙ ap (λ (l : List ℕ). getD l 0 7) e ∙ other-key in
     omega arith
 
+-- ---- no bytes taken for the empty set: 14, and the output as it was
+
+no-set-left : getD (combineLeaves either (alone 1) [] room) 0 7 ≡ 0
+unfolding outputOf many bytesAt byteAt bodyLimit leOf leBytes leAt gnoTop uuidOf tagOf tagAt keyAt headAt intervalAt entryAt saysTagged saysCount previous intervalsBytes entryBytes entriesBytes anyTag headerBytes bodyBytes maxEntries maxIntervals maxOfEntry judged limits lentSet
+no-set-left = refl
+
+pub takes-no-set-out : CombinesExactly either takesNoSet → ⊥
+takes-no-set-out exactly =
+    let e = only-says either refl (alone 1) [] (alone 1) exactly in
+    let differs : _≡_ {A = ℕ} 1 0 = sym tag-says ∙ ap (λ (l : List ℕ). getD l 0 7) e ∙ no-set-left in
+    omega arith
+
 -- ---- the first set taken away from the second: {1} without the empty set is {1}
 
 none-away : combineAnswers without (alone 1) (bodyBytes []) room .len ≡ 48
@@ -139,7 +151,7 @@ unfolding many bytesAt byteAt bodyLimit leOf leBytes leAt gnoTop uuidOf tagOf ta
 other-id = refl
 
 as-long : comparesLengths (alone 1) (alone 2) .all ≡ true
-unfolding leBytes uuidOf tagOf intervalsBytes entryBytes entriesBytes anyTag headerBytes bodyBytes
+unfolding many bytesAt byteAt bodyLimit leOf leBytes leAt gnoTop uuidOf tagOf tagAt keyAt headAt intervalAt entryAt saysTagged saysCount previous intervalsBytes entryBytes entriesBytes anyTag headerBytes bodyBytes maxEntries maxIntervals maxOfEntry judged limits lentSet
 as-long = refl
 
 pub compares-lengths-out : ComparesExactly comparesLengths → ⊥
@@ -151,7 +163,7 @@ unfolding many bytesAt byteAt bodyLimit leOf leBytes leAt gnoTop uuidOf tagOf ta
 none-in = refl
 
 not-same : wantsSame (bodyBytes []) (alone 1) .all ≡ false
-unfolding leBytes uuidOf tagOf intervalsBytes entryBytes entriesBytes anyTag headerBytes bodyBytes
+unfolding many bytesAt byteAt bodyLimit leOf leBytes leAt gnoTop uuidOf tagOf tagAt keyAt headAt intervalAt entryAt saysTagged saysCount previous intervalsBytes entryBytes entriesBytes anyTag headerBytes bodyBytes maxEntries maxIntervals maxOfEntry judged limits lentSet
 not-same = refl
 
 pub wants-same-out : ComparesExactly wantsSame → ⊥

@@ -21,7 +21,7 @@ use Rattle.gtid_event_read.specs.Read.{seen, gtidRead}
 use Rattle.gtid_event_write.specs.Size.{payloadSize, sizeIn64}
 use Rattle.gtid_event_write.specs.Write.{eventBytes}
 use Rattle.gtid_sets.specs.Set.{add}
-use Rattle.gtid_sets.specs.Combine.{either, both, without, combined, within}
+use Rattle.gtid_sets.specs.Combine.{either, both, without, marks, combined, subset}
 use Rattle.abi.specs.Answers.{bit}
 use Rattle.abi.specs.Flat.{flat, flatRead}
 
@@ -46,13 +46,9 @@ abbrev present : ℕ → List ℕ → ℕ
 present type body = gtidRead (seen type body) .present
 
 -- the starts and ends of the intervals of the first entry
-abbrev pairs : List Interval → List ℕ
-pairs [] = []
-pairs (interval start end ∷ is) = start ∷ end ∷ pairs is
-
 abbrev firstPairs : List Entry → List ℕ
 firstPairs [] = []
-firstPairs (entry k is ∷ s) = pairs is
+firstPairs (entry k is ∷ s) = marks is
 
 -- zero uuid, gno 1, tag "a", sequence number 1, all else 0
 abbrev small : GtidEvent
@@ -189,9 +185,9 @@ edges =
     ∷ edge (firstPairs (combined both (ofZeros oneList) (ofZeros otherList))) (3 ∷ 6 ∷ [])
     ∷ edge (firstPairs (combined without (ofZeros oneList) (ofZeros otherList))) (1 ∷ 3 ∷ 8 ∷ 10 ∷ [])
     -- {3-5} is in the first, which isn't in the second; the empty set is in each
-    ∷ edge (truth (within (ofZeros (interval 3 6 ∷ [])) (ofZeros oneList))) (only 1)
-    ∷ edge (truth (within (ofZeros oneList) (ofZeros otherList))) (only 0)
-    ∷ edge (truth (within [] (ofZeros oneList))) (only 1)
+    ∷ edge (truth (subset (ofZeros (interval 3 6 ∷ [])) (ofZeros oneList))) (only 1)
+    ∷ edge (truth (subset (ofZeros oneList) (ofZeros otherList))) (only 0)
+    ∷ edge (truth (subset [] (ofZeros oneList))) (only 1)
     -- the same uuid with a tag is another key: none is in both, two entries in either; and an entry that is left empty goes
     ∷ edge (only (length (combined both (ofZeros oneList) (ofTag oneList)))) (only 0)
     ∷ edge (only (length (combined either (ofZeros oneList) (ofTag oneList)))) (only 2)

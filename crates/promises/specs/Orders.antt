@@ -31,10 +31,11 @@ use Rattle.gtid_event_write.specs.Write.{eventOutput, lengthOf}
 use Rattle.gtid_sets.specs.Set.{has, add}
 use Rattle.gtid_sets.specs.TakeIn.{lawful, takeIn}
 use Rattle.gtid_sets.specs.Limits.{EntryOver}
-use Rattle.gtid_sets.specs.Lent.{unfit, lentSet, SetLaid}
+use Rattle.gtid_sets.specs.Lent.{Lent, form, unfit, lentSet, SetLaid}
 use Rattle.set_check.specs.Check.{checkedOf}
 use Rattle.resume_set.specs.Answers.{setRead, contained, saved, takenIn, eventOf, offered, output}
 use Rattle.resume_set.specs.declared.Offered.the-variants.{Refused}
+use Rattle.two_sets.specs.Answers.{withinRead}
 use Rattle.abi.specs.Flat.{flat}
 use Rattle.promises.specs.Faults.{EventFault}
 use Rattle.promises.specs.Meaning.{RecordLaid}
@@ -110,6 +111,8 @@ pub record Zeros (r : Refusal) : Type 0 where
   pub checked : checkedOf unfit ≡ record { refusal = 14; tagged = false; entries = 0; intervals = 0 }
   pub set : setRead unfit ≡ record { refusal = 14; entries = 0; intervals = 0 }
   pub asked : (uuid tag : List ℕ) (gno : ℕ) → contained unfit uuid tag gno ≡ record { refusal = 14; present = false }
+  pub first-of-two : (second : Lent) → withinRead unfit second ≡ record { refusal = 14; all = false }
+  pub second-of-two : (s : List Entry) → withinRead (form s) unfit ≡ record { refusal = 14; all = false }
   -- a tag that breaks the tag rule, and a record that can't be written
   pub step : (tag : List ℕ) (e : GtidEvent) → isTag tag ≡ false → withTag tag e ≡ record { refusal = 6; event = noEvent }
   pub new : (sid tag : List ℕ) (gno : ℕ) → isTag tag ≡ false → newTagged sid tag gno ≡ record { refusal = 6; event = noEvent }

@@ -1,19 +1,22 @@
 -- Two sets (CR 7): which ids a result has, said once for all operations; when a call over two sets refuses, and what it answers and writes otherwise. Each
--- answer by its case, both ways. No walk over the sets is named here.
+-- answer by its case, both ways; no two cases hold at once, so that they say the order of the refusals, too: 14, 17, 16, 13. No walk over the sets is named
+-- here.
 use Prim.Native.Nat.{ℕ, _≤_}
 use mathlib.Core.Path.{_≡_}
 use mathlib.Core.Bool.{Bool, true, false}
 use mathlib.Core.List.{List, [], _++_}
 use lib.ListN.{length, take, drop}
 use Rattle.misc.specs.Refusal.{full}
+use Rattle.misc.specs.Pick.{pick}
 use Rattle.misc.specs.declared.Wrote.{Wrote}
 use Rattle.packets.specs.Key.{Key}
 use Rattle.previous_gtids_event.specs.Entry.{Entry}
 use Rattle.previous_gtids_event.specs.Rewrite.{bodyBytes}
 use Rattle.gtid_sets.specs.Set.{has, SetForm}
+use Rattle.gtid_sets.specs.TakeIn.{lawful, union, takeIn}
 use Rattle.gtid_sets.specs.Limits.{fine, breaks, limits, EntryOver}
 use Rattle.gtid_sets.specs.Lent.{SetLaid}
-use Rattle.gtid_sets.specs.Combine.{either, both, without}
+use Rattle.gtid_sets.specs.Combine as ops
 use Rattle.two_sets.specs.Answers.{combineAnswers, combineLeaves, withinAnswers}
 use Rattle.two_sets.specs.declared.AllWithin.{AllWithin}
 use Rattle.abi.specs.Answers.{bit}
@@ -29,6 +32,7 @@ pub record Keeps (op : Bool → Bool → Bool) (s t u : List Entry) : Type 0 whe
 
 -- ---- refusals
 
+-- which of the two was judged can't be told by the number
 pub data PairFault (first second : List ℕ) : ℕ → Type 0 where
   -- 14: the first bytes are no set
   badFirst : {n : ℕ} → SetFault first n → PairFault first second n
@@ -45,14 +49,14 @@ pub data CombineFault (op : Bool → Bool → Bool) (first second : List ℕ) : 
 -- ---- a call that writes a result
 
 -- what it writes
-pub data KeptAs (op : Bool → Bool → Bool) (first second : List ℕ) : List ℕ → Type 0 where
-  kept : {s t u : List Entry} → SetLaid first s → SetLaid second t → Keeps op s t u → limits u ≡ fine → KeptAs op first second (bodyBytes u)
+pub data ResultAs (op : Bool → Bool → Bool) (first second : List ℕ) : List ℕ → Type 0 where
+  kept : {s t u : List Entry} → SetLaid first s → SetLaid second t → Keeps op s t u → limits u ≡ fine → ResultAs op first second (bodyBytes u)
 
 -- every answer, and what the output holds then: as it was after a refusal (13 among them), else the result at its front
 pub data CombineAnswer (op : Bool → Bool → Bool) (first second out : List ℕ) : Wrote → List ℕ → Type 0 where
-  refused : {n len : ℕ} → WriteFault (CombineFault op first second) (KeptAs op first second) (length out) n len
+  refused : {n len : ℕ} → WriteFault (CombineFault op first second) (ResultAs op first second) (length out) n len
       → CombineAnswer op first second out (record { refusal = n; len = len }) out
-  written : {bs : List ℕ} → KeptAs op first second bs → length bs ≤ length out
+  written : {bs : List ℕ} → ResultAs op first second bs → length bs ≤ length out
       → CombineAnswer op first second out (record { refusal = 0; len = length bs }) (bs ++ drop (length bs) out)
 
 -- such a call: lent two sets and an output, what it answers and what it leaves in the output
@@ -65,8 +69,8 @@ CombinesExactly op f = (first second out : List ℕ) (w : Wrote) (l : List ℕ)
     → Exactly ((f .answers first second out ≡ w) × (f .leaves first second out ≡ l)) (CombineAnswer op first second out w l)
 
 -- what `either`, `both` and `without` promise, and the archive's calls, by their operation
-abbrev pub ours : (Bool → Bool → Bool) → Combiner
-ours op = record { answers = combineAnswers op; leaves = combineLeaves op }
+abbrev pub ourCalls : (Bool → Bool → Bool) → Combiner
+ourCalls op = record { answers = combineAnswers op; leaves = combineLeaves op }
 
 -- ---- a call that says yes or no
 
@@ -79,23 +83,37 @@ pub data WithinAnswer (first second : List ℕ) : AllWithin → Type 0 where
   missing : {s t : List Entry} (k : Key) (n : ℕ) → SetLaid first s → SetLaid second t → has s k n ≡ true → has t k n ≡ false
       → WithinAnswer first second (record { refusal = 0; all = false })
 
+-- the answer yes
+abbrev pub allIn : AllWithin
+allIn = record { refusal = 0; all = true }
+
 abbrev pub ComparesExactly : (List ℕ → List ℕ → AllWithin) → Type 0
 ComparesExactly f = (first second : List ℕ) (r : AllWithin) → Exactly (f first second ≡ r) (WithinAnswer first second r)
 
 -- ---- together
 
 pub record TwoSets : Type 0 where
-  -- of any operation that keeps no id which is in neither set: either, both, without, and more
-  pub results : (op : Bool → Bool → Bool) → op false false ≡ false → CombinesExactly op (ours op)
+  -- of any operation that keeps no id which is in neither set
+  pub results : (op : Bool → Bool → Bool) → op false false ≡ false → CombinesExactly op (ourCalls op)
+  -- so by their names
+  pub either : CombinesExactly ops.either (ourCalls ops.either)
+  pub both : CombinesExactly ops.both (ourCalls ops.both)
+  pub without : CombinesExactly ops.without (ourCalls ops.without)
   pub within : ComparesExactly withinAnswers
   -- a result that was written is a set, and these are its members
   pub members : (op : Bool → Bool → Bool) (first second out : List ℕ) → op false false ≡ false → combineAnswers op first second out .refusal ≡ 0
       → let result : List ℕ = take (combineAnswers op first second out .len) (combineLeaves op first second out) in
       ((s : List Entry) × SetLaid result s) × ((k : Key) (n : ℕ) → member result k n ≡ op (member first k n) (member second k n))
   -- yes exactly if the first without the second is the empty set
-  pub empty : (first second : List ℕ) → Exactly (withinAnswers first second ≡ record { refusal = 0; all = true }) (KeptAs without first second (bodyBytes []))
+  pub empty : (first second : List ℕ) → Exactly (withinAnswers first second ≡ allIn) (ResultAs ops.without first second (bodyBytes []))
   -- one set lent twice
   pub twice : (set : List ℕ) (s : List Entry) → SetLaid set s
-      → KeptAs either set set set × KeptAs both set set set × KeptAs without set set (bodyBytes []) × WithinAnswer set set (record { refusal = 0; all = true })
-  -- the archive says 1 for yes and 0 for no
-  pub «gtid_within» : (first second : List ℕ) → Exactly (bit (withinAnswers first second .all) ≡ 1) (WithinAnswer first second (record { refusal = 0; all = true }))
+      → ResultAs ops.either set set set × ResultAs ops.both set set set × ResultAs ops.without set set (bodyBytes []) × WithinAnswer set set allIn
+  -- a body's ids joined to a set: the ids in either, of the set and of what taking in gives
+  pub joined : (s es : List Entry) → SetForm s → lawful es ≡ true → Keeps ops.either s (takeIn es) (union es s)
+  -- the archive's calls promise the same right sides; its numbers tell every answer of `within` from every other, 1 being yes
+  pub «gtid_either» : CombinesExactly ops.either (ourCalls ops.either)
+  pub «gtid_both» : CombinesExactly ops.both (ourCalls ops.both)
+  pub «gtid_without» : CombinesExactly ops.without (ourCalls ops.without)
+  pub «gtid_within» : (first second : List ℕ) (r : AllWithin)
+      → Exactly ((withinAnswers first second .refusal ≡ r .refusal) × (bit (withinAnswers first second .all) ≡ pick (r .all) 1 0)) (WithinAnswer first second r)

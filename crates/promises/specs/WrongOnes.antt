@@ -25,6 +25,7 @@ use Rattle.gtid_sets.specs.Run.{Event, anonymous, broken, names}
 use Rattle.gtid_sets.specs.Lent.{lentSet}
 use Rattle.gtid_sets.specs.Combine.{either, both, without}
 use Rattle.resume_set.specs.Answers.{setRead, says, eventOf, offered, output}
+use Rattle.two_sets.specs.Answers.{withinAnswers}
 use Rattle.two_sets.specs.declared.AllWithin.{AllWithin}
 use Rattle.resume_set.specs.declared.Offered.{Offered}
 use Rattle.resume_set.specs.declared.Offered.the-variants.{NoId, AlreadyThere, Taken, Refused}
@@ -34,8 +35,7 @@ use Rattle.packets.specs.Key.{same}
 use Rattle.promises.specs.TaggedLayout.{the-tag, seenIn}
 use Rattle.promises.specs.Meaning.{EventReader, EventWriter, EntriesReader}
 use Rattle.promises.specs.Exact.{Asking, asks}
-use Rattle.promises.specs.TwoSets as two-sets
-use Rattle.promises.specs.TwoSets.{Combiner}
+use Rattle.promises.specs.TwoSets.{Combiner, ourCalls}
 
 -- refuses whatever comes
 abbrev pub refusesAll : EventReader
@@ -234,32 +234,41 @@ onlyOf first second bs f =
 
 -- leaves pieces apart that touch: 1 and 2 are two intervals
 abbrev pub staysApart : Combiner
-staysApart = onlyOf (alone 1) (alone 2) (bodyBytes (entry (replicate 16 0) (interval 1 2 ∷ interval 2 3 ∷ []) ∷ [])) (two-sets.ours either)
+staysApart = onlyOf (alone 1) (alone 2) (bodyBytes (entry (replicate 16 0) (interval 1 2 ∷ interval 2 3 ∷ []) ∷ [])) (ourCalls either)
 
 -- keeps an entry that is left empty
 abbrev pub keepsEmpty : Combiner
-keepsEmpty = onlyOf (alone 1) (alone 1) (bodyBytes (entry (replicate 16 0) [] ∷ [])) (two-sets.ours without)
+keepsEmpty = onlyOf (alone 1) (alone 1) (bodyBytes (entry (replicate 16 0) [] ∷ [])) (ourCalls without)
 
 -- takes the same uuid with a tag for the same key
 abbrev pub ignoresTag : Combiner
-ignoresTag = onlyOf (alone 1) (aloneTagged 1) (alone 1) (two-sets.ours both)
+ignoresTag = onlyOf (alone 1) (aloneTagged 1) (alone 1) (ourCalls both)
 
 -- takes the first set away from the second
 abbrev pub swapsSets : Combiner
-swapsSets = record { answers = λ a b out. two-sets.ours without .answers b a out; leaves = λ a b out. two-sets.ours without .leaves b a out }
+swapsSets = record { answers = λ a b out. ourCalls without .answers b a out; leaves = λ a b out. ourCalls without .leaves b a out }
 
 -- says 17 where the two sets have more than 1,024 intervals together, whatever the result has
 abbrev pub countsInputs : Combiner
 countsInputs =
     record {
       answers = λ a b out. pick (ltb 1024 (setRead (lentSet a) .intervals + setRead (lentSet b) .intervals)) (record { refusal = 17; len = 0 })
-          (two-sets.ours either .answers a b out);
-      leaves = two-sets.ours either .leaves;
+          (ourCalls either .answers a b out);
+      leaves = λ a b out. pick (ltb 1024 (setRead (lentSet a) .intervals + setRead (lentSet b) .intervals)) out (ourCalls either .leaves a b out);
     }
 
--- compares lengths, or whether the sets are the same, for "all of the first are in the second"
+-- takes bytes that are no set for the empty set: here no bytes at all
+abbrev pub takesNoSet : Combiner
+takesNoSet = onlyOf (alone 1) [] (alone 1) (ourCalls either)
+
+-- says of two sets whether all ids of the first are in the second by another test
+abbrev pub testedBy : (List ℕ → List ℕ → Bool) → List ℕ → List ℕ → AllWithin
+testedBy test first second =
+    record { refusal = withinAnswers first second .refusal; all = eqb (withinAnswers first second .refusal) 0 && test first second }
+
+-- compares lengths; or asks whether the sets are the same
 abbrev pub comparesLengths : List ℕ → List ℕ → AllWithin
-comparesLengths first second = record { refusal = 0; all = leb (length first) (length second) }
+comparesLengths = testedBy (λ a b. leb (length a) (length b))
 
 abbrev pub wantsSame : List ℕ → List ℕ → AllWithin
-wantsSame first second = record { refusal = 0; all = same first second }
+wantsSame = testedBy (λ a b. same a b)

@@ -14,7 +14,7 @@ use set_check::limits::judge;
 use set_check::limits::over;
 ghost use mathlib.Core.Path.{_≡_};
 ghost use mathlib.Core.List.{_++_};
-ghost use Prim.Native.Nat.{_+_, _≤_, _<_};
+ghost use Prim.Native.Nat.{_≤_, _<_};
 ghost use lib.ListN.{length};
 ghost use Rattle.misc.specs.Output.{outputOf, answerOf, WhereFits};
 ghost use Rattle.previous_gtids_event.specs.Rewrite.{bodyBytes};

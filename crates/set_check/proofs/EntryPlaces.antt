@@ -21,7 +21,7 @@ use Rattle.gtid_sets.specs.Lent.{GoodKeys}
 use Rattle.gtid_sets.proofs.Bools.{or-false-parts}
 use Rattle.gtid_sets.proofs.ByteLaws.{entries-least}
 use Rattle.gtid_sets.proofs.LentLaws.{gapped-wide}
-use Rattle.set_check.specs.Places.{numberAt, intervalsAt, placeFrom, placeAt, nowhere, orNowhere, placeIn, keyAt, entriesAt, EntriesIn}
+use Rattle.set_check.specs.Places.{numberAt, intervalsAt, placeFrom, placeAt, nowhere, orNowhere, placeIn, keyThere, entriesAt, EntriesIn}
 use Rattle.set_check.specs.Head.{headBytes, KeyOk}
 use Rattle.set_check.specs.declared.EntryPlace.{EntryPlace}
 use Rattle.set_check.proofs.PlaceLaws.{part-there, after-there, left-there, byte-there, number-there, intervals-there, one-byte}
@@ -152,10 +152,10 @@ module _ (bs : List ℕ) (w : Bool) (at : ℕ) (k : Key) (is : List Interval) (s
       (after-there bs (placeAt w bs at .first) (16 * placeAt w bs at .count) (intervalsBytes is) (entriesBytes w s) (first-here .after)
       (length-intervals-bytes is ∙ ap (λ (m : ℕ). 16 * m) (sym (first-here .count))))
 
-  first-key : keyAt w bs at ≡ k
+  first-key : keyThere w bs at ≡ k
   first-key = rw (first-here .uuid-there, first-here .tag-there) (sym (key-whole k))
 
-  first-entry : entry (keyAt w bs at) (intervalsAt (placeAt w bs at .count) bs (placeAt w bs at .first)) ≡ entry k is
+  first-entry : entry (keyThere w bs at) (intervalsAt (placeAt w bs at .count) bs (placeAt w bs at .first)) ≡ entry k is
   first-entry = rw (first-key, first-intervals)
 
 -- the entries whose bytes stand at a place are those that are read from there on

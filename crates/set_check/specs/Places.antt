@@ -52,14 +52,14 @@ placeIn w bs at = orNowhere bs (placeAt w bs at)
 -- ---- entries one after another
 
 -- the key of the entry at a place
-abbrev pub keyAt : Bool → List ℕ → ℕ → Key
-keyAt w bs at = part bs at 16 ++ part bs (placeAt w bs at .«tag_at») (placeAt w bs at .«tag_len»)
+abbrev pub keyThere : Bool → List ℕ → ℕ → Key
+keyThere w bs at = part bs at 16 ++ part bs (placeAt w bs at .«tag_at») (placeAt w bs at .«tag_len»)
 
 -- n entries from a place on
 abbrev pub entriesAt : ℕ → Bool → List ℕ → ℕ → List Entry
 entriesAt zero w bs at = []
 entriesAt (suc n) w bs at =
-    entry (keyAt w bs at) (intervalsAt (placeAt w bs at .count) bs (placeAt w bs at .first)) ∷ entriesAt n w bs (placeAt w bs at .next)
+    entry (keyThere w bs at) (intervalsAt (placeAt w bs at .count) bs (placeAt w bs at .first)) ∷ entriesAt n w bs (placeAt w bs at .next)
 
 -- they are all there
 abbrev pub EntriesIn : ℕ → Bool → List ℕ → ℕ → Type 0

@@ -70,8 +70,8 @@ fn place_from(set: &[u8], tag_at: usize, tag_len: usize) -> EntryPlace
     }
 }
 
-// Where the entry at a place of a set stands: its tag, how many intervals it has, where they begin and where they end. All zero where no
-// whole entry stands.
+// Where the entry at a place of a set stands: its tag, how many intervals it has, where they begin and where they end. All zero where
+// not all of it is there.
 pub fn place_at(set: &[u8], at: usize, tagged: bool) -> EntryPlace
     ensures { λ r. ⌜ r ≡ placeIn tagged (now (set .entry)) at ⌝ }
 {

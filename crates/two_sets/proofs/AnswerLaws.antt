@@ -15,11 +15,11 @@ use Rattle.misc.proofs.OutputLaws.{_also_, output-refused}
 use Rattle.packets.specs.Key.{Key}
 use Rattle.packets.proofs.Tests.{split, clash}
 use Rattle.previous_gtids_event.specs.Entry.{Entry, entry, tagOf}
-use Rattle.previous_gtids_event.specs.Rewrite.{tagBytes, entriesBytes, anyTag, headerBytes, bodyBytes}
+use Rattle.previous_gtids_event.specs.Rewrite.{entriesBytes, anyTag, headerBytes, bodyBytes}
 use Rattle.previous_gtids_event.proofs.Writing.{length-header, entry-length}
 use Rattle.gtid_sets.specs.Limits.{judgedAs, judged, limits}
 use Rattle.gtid_sets.specs.Lent.{form, unfit, lentSet, GoodKeys}
-use Rattle.gtid_sets.specs.Combine.{without, isOpen, spans, keep, combined, isEmpty}
+use Rattle.gtid_sets.specs.Combine.{without, isOpen, spans, keep, isEmpty}
 use Rattle.gtid_sets.proofs.Bools.{or-false-parts}
 use Rattle.gtid_sets.proofs.ByteLaws.{entries-least}
 use Rattle.gtid_sets.proofs.LimitLaws.{longestSet-is, limits-judged}
@@ -34,8 +34,8 @@ use Rattle.resume_set.proofs.SetOfLaws.{set-bytes, set-stands}
 use Rattle.resume_set.proofs.AnswerLaws.{check-told, check-unfit, saved-refused, joined-short, joined-fits}
 use Rattle.two_sets.specs.Answers.{combineAnswers, combineLeaves, withinAnswers, begun, OneUnfit, BeginningIs}
 use Rattle.two_sets.specs.Marks.{going, NextIs}
-use Rattle.two_sets.specs.Pairs.{entriesLeft, CursorIs, CursorsAre, placesOfBoth, combining, keyIn, PairIs}
-use Rattle.two_sets.specs.Write.{MadeIs, lengthOf}
+use Rattle.two_sets.specs.Pairs.{entriesLeft, CursorIs, CursorsAre, combining, keyIn, PairIs}
+use Rattle.two_sets.specs.Write.{MadeIs, madeLength}
 use Rattle.two_sets.specs.declared.Cursors.{Cursors}
 use Rattle.two_sets.specs.declared.AllWithin.{AllWithin}
 use Rattle.two_sets.specs.declared.Beginning.{Beginning}
@@ -169,7 +169,7 @@ module _ (s : List Entry) (g : GoodKeys s) (z : Made) (i : MadeIs s true z) wher
   pub entries-below : z .entries ≤ z .end
   entries-below = omega (arith, i .entries-is, i .end-is, entries-least true s g)
 
-  pub length-is : lengthOf z ≡ length (bodyBytes s)
+  pub length-is : madeLength z ≡ length (bodyBytes s)
   length-is = split (z .tagged)
       (λ h. let tags : anyTag s ≡ true = sym (i .tags-is) ∙ h in
       rw h (i .end-is ∙ sym (body-length s ∙ rw tags)))
@@ -190,7 +190,7 @@ module _ (s : List Entry) (g : GoodKeys s) (z : Made) (i : MadeIs s true z) wher
     pub over-limits : (x ≡ 0 → ⊥) → (record { refusal = x; len = 0 } ≡ answerOf out (saved s)) × (out ≡ outputOf out (saved s))
     over-limits some = saved-refused s x by-limits out some
 
-    module _ (fine : x ≡ 0) (len : ℕ) (size : len ≡ lengthOf z) where
+    module _ (fine : x ≡ 0) (len : ℕ) (size : len ≡ madeLength z) where
       pub no-room : length out < len → (record { refusal = 13; len = len } ≡ answerOf out (saved s)) × (out ≡ outputOf out (saved s))
       no-room h = joined-short s x by-limits out fine len (size ∙ length-is) h
 
@@ -200,4 +200,5 @@ module _ (s : List Entry) (g : GoodKeys s) (z : Made) (i : MadeIs s true z) wher
       all-written h {l} {l′} {at} {r} p q =
           let p′ : WhereFits out 0 (headerBytes (z .tagged) (z .entries)) l 8 =
           record { placed = λ room. record { holds = p .placed room .holds; ends = omega (arith, length-header (z .tagged) (z .entries)) } } in
-          joined-fits s x by-limits out fine len (size ∙ length-is) (headerBytes (z .tagged) (z .entries) ++ entriesBytes (z .tagged) s) l′ r h body-runs (p′ also q)
+          joined-fits s x by-limits out fine len (size ∙ length-is) (headerBytes (z .tagged) (z .entries) ++ entriesBytes (z .tagged) s) l′ r h body-runs
+          (p′ also q)

@@ -1,8 +1,8 @@
 -- Laws of marks that stand in bytes: one turn of the sweep over them, all turns up to the next mark of the result, and all marks.
 use Prim.Native.Nat.{ℕ, zero, suc, _+_, _-_, _*_, _%_, _^_, _<_, _≤_, min}
-use mathlib.Core.Path.{_≡_, refl, sym, ap, _∙_}
+use mathlib.Core.Path.{_≡_, refl, ap, _∙_}
 use mathlib.Core.Bool.{Bool, true, false, not, _&&_, _||_}
-use mathlib.Core.List.{List, [], _∷_, _++_, append-nil}
+use mathlib.Core.List.{List, [], _∷_}
 use native.Mathlib.Omega.{arith}
 use lib.ListN.{length}
 use lib.Dec.{ltb, leb, eqb}
@@ -169,7 +169,10 @@ module _ (op : Bool → Bool → Bool) (bs cs : List ℕ) (s : Sides) (i : Sides
     pub turn-is : TurnIs op bs cs s (record { sides = record { one = a; two = b }; flips = differ before behind; mark = l })
     turn-is = record {
       goes = goes;
-      sides = record { first = rw ea (passed-side bs (leb m n) (s .one) pass-one (i .first)); second = rw eb (passed-side cs (leb n m) (s .two) pass-two (i .second)) };
+      sides = record {
+        first = rw ea (passed-side bs (leb m n) (s .one) pass-one (i .first));
+        second = rw eb (passed-side cs (leb n m) (s .two) pass-two (i .second));
+      };
       less = rw (ea, eb) (fewer (leb m n) (leb n m) (s .one) (s .two) pass-one pass-two (λ h. le-leb n m (omega tests)));
     }
 

@@ -10,7 +10,7 @@ use borrow.Author.Tests.{ltb-true}
 use Rattle.misc.specs.Parse.{part}
 use Rattle.misc.proofs.ParseLaws.{part-length}
 use Rattle.packets.specs.Gno.{Interval}
-use Rattle.packets.specs.Key.{Key, order, orElse, orderRead, _≺_}
+use Rattle.packets.specs.Key.{Key, order, orElse, orderRead}
 use Rattle.packets.specs.declared.KeyOrder.{KeyOrder}
 use Rattle.packets.specs.declared.KeyOrder.the-variants.{Before, Same, After}
 use Rattle.packets.proofs.Tests.{split, tests}
@@ -24,7 +24,7 @@ use Rattle.gtid_sets.specs.Lent.{GoodKeys}
 use Rattle.gtid_sets.specs.Combine.{marks, swept, keep, combined}
 use Rattle.gtid_sets.proofs.SweepLaws.{marks-rise, sweep-shut}
 use Rattle.gtid_sets.proofs.CombineLaws.{combined-lt, combined-eq, combined-gt}
-use Rattle.set_check.specs.Places.{numberAt, intervalsAt, placeAt, placeIn, keyAt, entriesAt, EntriesIn}
+use Rattle.set_check.specs.Places.{numberAt, intervalsAt, placeAt, placeIn, keyThere, entriesAt, EntriesIn}
 use Rattle.set_check.specs.declared.EntryPlace.{EntryPlace}
 use Rattle.set_check.proofs.EntryPlaces.{place-here}
 use Rattle.two_sets.specs.Marks.{marksAt, marksOf, SideIs}
@@ -77,7 +77,7 @@ ahead-at bs w at n there f g small =
     let marked : marksOf bs (sideOf p) ≡ marks is = marks-at (p .count) bs (p .first) in
     let uuid : length (part bs at 16) ≡ 16 = part-length 16 bs at (omega (arith, l .tag-after, l .first-is, l .next-is, there .0)) in
     let inside : p .«tag_at» + p .«tag_len» ≤ length bs = omega (arith, l .first-is, l .next-is, there .0) in
-    let tag : length (tagOf (keyAt w bs at)) ≡ p .«tag_len» =
+    let tag : length (tagOf (keyThere w bs at)) ≡ p .«tag_len» =
     ap length (tag-of (part bs at 16) (part bs (p .«tag_at») (p .«tag_len»)) uuid) ∙ part-length (p .«tag_len») bs (p .«tag_at») inside in
     record {
       list = is;
@@ -90,7 +90,7 @@ ahead-at bs w at n there f g small =
       uuid = uuid;
       uuid-inside = omega (arith, l .tag-after, l .first-is, l .next-is, there .0);
       tag-inside = inside;
-      short = omega (arith, tag, none-or-tag-short (tagOf (keyAt w bs at)) (g .0 .rule));
+      short = omega (arith, tag, none-or-tag-short (tagOf (keyThere w bs at)) (g .0 .rule));
       few = omega (arith, l .next-is, there .0);
       grows = omega (arith, l .tag-after, l .first-is, l .next-is);
     }
@@ -98,8 +98,8 @@ ahead-at bs w at n there f g small =
 pub ahead : (bs : List ℕ) (c : Cursor) (p : EntryPlace) → CursorIs bs c → 0 < c .left → p ≡ placeIn (c .tagged) bs (c .at) → Ahead bs c p
 ahead bs c p i some told = go (c .left) (omega arith) (i .there) (i .formed) (i .keyed) some
   where
-    go : (n : ℕ) → n ≡ c .left → EntriesIn n (c .tagged) bs (c .at) → SetForm (entriesAt n (c .tagged) bs (c .at)) → GoodKeys (entriesAt n (c .tagged) bs (c .at))
-        → 0 < n → Ahead bs c p
+    go : (n : ℕ) → n ≡ c .left → EntriesIn n (c .tagged) bs (c .at) → SetForm (entriesAt n (c .tagged) bs (c .at))
+        → GoodKeys (entriesAt n (c .tagged) bs (c .at)) → 0 < n → Ahead bs c p
     go zero e t f g h = absurd (omega arith)
     go (suc n) e t f g h = rw (told ∙ place-here bs (c .tagged) (c .at) (t .0)) (rw e at (ahead-at bs (c .tagged) (c .at) n t f g (i .small)))
 
@@ -131,17 +131,25 @@ module _ (bs cs : List ℕ) (c d : Cursor) (p q : EntryPlace) (i : CursorIs bs c
   order-begins z = rw (z, y .is)
 
   pub order-told : (some : 0 < c .left) (r : KeyOrder)
-      → r ≡ orderRead (orElse (order (part bs (c .at) 16) (part cs (d .at) 16)) (order (part bs (p .«tag_at») (p .«tag_len»)) (part cs (q .«tag_at») (q .«tag_len»))))
+      → r ≡ orderRead (orElse (order (part bs (c .at) 16) (part cs (d .at) 16))
+      (order (part bs (p .«tag_at») (p .«tag_len»)) (part cs (q .«tag_at») (q .«tag_len»))))
       → r ≡ orderRead (nextOrder (entriesLeft bs c) (entriesLeft cs d))
   order-told some r told =
       let x = ahead bs c p i some tp in
-      told ∙ ap orderRead (sym (order-append (part bs (c .at) 16) (part cs (d .at) 16) (part bs (p .«tag_at») (p .«tag_len»)) (part cs (q .«tag_at») (q .«tag_len»))
+      told ∙ ap orderRead (sym (order-append (part bs (c .at) 16) (part cs (d .at) 16)
+      (part bs (p .«tag_at») (p .«tag_len»)) (part cs (q .«tag_at») (q .«tag_len»))
       (x .uuid ∙ sym (y .uuid)))) ∙ rw (x .is, y .is)
 
 -- ---- the next key of two
 
 module _ (bs cs : List ℕ) (c : Cursors) (i : CursorsAre bs cs c) (p q : EntryPlace) (tp : p ≡ placeIn (c .first .tagged) bs (c .first .at))
     (tq : q ≡ placeIn (c .second .tagged) cs (c .second .at)) where
+  abbrev firstKey : Key
+  firstKey = keyIn bs cs (keyPlace true (c .first) p)
+
+  abbrev secondKey : Key
+  secondKey = keyIn bs cs (keyPlace false (c .second) q)
+
   abbrev inFirst : 0 < c .first .left → Ahead bs (c .first) p
   inFirst some = ahead bs (c .first) p (i .first) some tp
 
@@ -149,9 +157,9 @@ module _ (bs cs : List ℕ) (c : Cursors) (i : CursorsAre bs cs c) (p q : EntryP
   inSecond some = ahead cs (c .second) q (i .second) some tq
 
   alone-first : (some : 0 < c .first .left)
-      → let x : Ahead bs (c .first) p = inFirst some in let k : Key = keyIn bs cs (keyPlace true (c .first) p) in
-      ((op : Bool → Bool → Bool) → combined op (entry k (x .list) ∷ entriesLeft bs (beyondOf (c .first) p)) (entriesLeft cs (c .second))
-      ≡ keep k (swept op (x .list) []) (combined op (entriesLeft bs (beyondOf (c .first) p)) (entriesLeft cs (c .second))))
+      → let x : Ahead bs (c .first) p = inFirst some in
+      ((op : Bool → Bool → Bool) → combined op (entry firstKey (x .list) ∷ entriesLeft bs (beyondOf (c .first) p)) (entriesLeft cs (c .second))
+      ≡ keep firstKey (swept op (x .list) []) (combined op (entriesLeft bs (beyondOf (c .first) p)) (entriesLeft cs (c .second))))
       → PairIs bs cs c (pairOf c p q Before)
   alone-first some goes =
       let x = inFirst some in
@@ -166,9 +174,9 @@ module _ (bs cs : List ℕ) (c : Cursors) (i : CursorsAre bs cs c) (p q : EntryP
       }
 
   alone-second : (some : 0 < c .second .left)
-      → let y : Ahead cs (c .second) q = inSecond some in let k : Key = keyIn bs cs (keyPlace false (c .second) q) in
-      ((op : Bool → Bool → Bool) → combined op (entriesLeft bs (c .first)) (entry k (y .list) ∷ entriesLeft cs (beyondOf (c .second) q))
-      ≡ keep k (swept op [] (y .list)) (combined op (entriesLeft bs (c .first)) (entriesLeft cs (beyondOf (c .second) q))))
+      → let y : Ahead cs (c .second) q = inSecond some in
+      ((op : Bool → Bool → Bool) → combined op (entriesLeft bs (c .first)) (entry secondKey (y .list) ∷ entriesLeft cs (beyondOf (c .second) q))
+      ≡ keep secondKey (swept op [] (y .list)) (combined op (entriesLeft bs (c .first)) (entriesLeft cs (beyondOf (c .second) q))))
       → PairIs bs cs c (pairOf c p q After)
   alone-second some goes =
       let y = inSecond some in
@@ -182,13 +190,13 @@ module _ (bs cs : List ℕ) (c : Cursors) (i : CursorsAre bs cs c) (p q : EntryP
         grows = omega (arith, y .grows);
       }
 
-  both-have : (some : 0 < c .first .left) (more : 0 < c .second .left) → keyIn bs cs (keyPlace true (c .first) p) ≡ keyIn bs cs (keyPlace false (c .second) q)
+  both-have : (some : 0 < c .first .left) (more : 0 < c .second .left) → firstKey ≡ secondKey
       → PairIs bs cs c (pairOf c p q Same)
   both-have some more k =
       let x = inFirst some in
       let y = inSecond more in
       record {
-        goes = λ op. rw (x .is, y .is) (combined-eq op (keyIn bs cs (keyPlace true (c .first) p)) (keyIn bs cs (keyPlace false (c .second) q)) (x .list) (y .list)
+        goes = λ op. rw (x .is, y .is) (combined-eq op firstKey secondKey (x .list) (y .list)
             (entriesLeft bs (beyondOf (c .first) p)) (entriesLeft cs (beyondOf (c .second) q)) k ∙ rw (x .marked, y .marked));
         shut = λ op h. rw (x .marked, y .marked) (sweep-shut op h (x .list) (y .list) (x .gapped) (y .gapped));
         sides = record { first = x .side; second = y .side };
@@ -212,31 +220,29 @@ module _ (bs cs : List ℕ) (c : Cursors) (i : CursorsAre bs cs c) (p q : EntryP
 
   -- both sets have entries left
   way-of-both : (some : 0 < c .first .left) (more : 0 < c .second .left) (o : Ordering)
-      → order (keyIn bs cs (keyPlace true (c .first) p)) (keyIn bs cs (keyPlace false (c .second) q)) ≡ o → Ways (orderRead o)
+      → order firstKey secondKey ≡ o → Ways (orderRead o)
   way-of-both some more Ordering·lt e =
       let x = inFirst some in
       let y = inSecond more in
-      way-before some (alone-first some (λ op. rw (y .is) (combined-lt op (keyIn bs cs (keyPlace true (c .first) p)) (keyIn bs cs (keyPlace false (c .second) q))
+      way-before some (alone-first some (λ op. rw (y .is) (combined-lt op firstKey secondKey
       (x .list) (y .list) (entriesLeft bs (beyondOf (c .first) p)) (entriesLeft cs (beyondOf (c .second) q)) e)))
   way-of-both some more Ordering·eq e = record {
     moving = ((some, inFirst some .few), (more, inSecond more .few));
-    pair = both-have some more (order-eq (keyIn bs cs (keyPlace true (c .first) p)) (keyIn bs cs (keyPlace false (c .second) q)) e);
+    pair = both-have some more (order-eq firstKey secondKey e);
   }
   way-of-both some more Ordering·gt e =
       let x = inFirst some in
       let y = inSecond more in
-      let k : Key = keyIn bs cs (keyPlace true (c .first) p) in
-      let j : Key = keyIn bs cs (keyPlace false (c .second) q) in
-      way-after more (alone-second more (λ op. rw (x .is) (combined-gt op k j
-      (x .list) (y .list) (entriesLeft bs (beyondOf (c .first) p)) (entriesLeft cs (beyondOf (c .second) q)) (order-flip k j ∙ ap flip e))))
+      way-after more (alone-second more (λ op. rw (x .is) (combined-gt op firstKey secondKey
+      (x .list) (y .list) (entriesLeft bs (beyondOf (c .first) p)) (entriesLeft cs (beyondOf (c .second) q)) (order-flip firstKey secondKey ∙ ap flip e))))
 
   pub ways : 0 < entriesOfBoth c → (o : KeyOrder) → o ≡ orderRead (nextOrder (entriesLeft bs (c .first)) (entriesLeft cs (c .second))) → Ways o
   ways left o told = split (ltb 0 (c .second .left))
       (λ h. let more : 0 < c .second .left = ltb-true 0 (c .second .left) h in
       split (ltb 0 (c .first .left))
       (λ k. let some : 0 < c .first .left = ltb-true 0 (c .first .left) k in
-      let is : o ≡ orderRead (order (keyIn bs cs (keyPlace true (c .first) p)) (keyIn bs cs (keyPlace false (c .second) q))) = told ∙ rw (inFirst some .is, inSecond more .is) in
-      rw is (way-of-both some more (order (keyIn bs cs (keyPlace true (c .first) p)) (keyIn bs cs (keyPlace false (c .second) q))) refl))
+      let is : o ≡ orderRead (order firstKey secondKey) = told ∙ rw (inFirst some .is, inSecond more .is) in
+      rw is (way-of-both some more (order firstKey secondKey) refl))
       (λ k. let gone : c .first .left ≡ 0 = omega tests in
       rw (told ∙ sym (order-begins bs cs (c .first) (c .second) p q (i .first) (i .second) tp tq more gone))
       (way-after more (alone-second more (λ op. rw (none-ahead bs (c .first) gone))))))

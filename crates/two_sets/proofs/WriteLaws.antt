@@ -7,7 +7,7 @@ use native.Mathlib.Omega.{arith}
 use lib.Dec.{ltb, leb, eqb}
 use lib.ListN.{length, take, drop, length-append}
 use lib.Seq.{length-take-le, take-append-le, take-take, drop-at}
-use borrow.Author.Tests.{ltb-false, ne-eqb}
+use borrow.Author.Tests.{ne-eqb}
 use Rattle.misc.specs.Parse.{part}
 use Rattle.misc.specs.Le.{leBytes}
 use Rattle.misc.specs.Varlen.{varlenBytes}
@@ -16,17 +16,12 @@ use Rattle.misc.proofs.LeLaws.{length-leBytes}
 use Rattle.misc.proofs.ParseLaws.{part-length}
 use Rattle.misc.proofs.OutputLaws.{written-is, length-written, nothing-placed, _also_}
 use Rattle.packets.specs.Gno.{Interval}
-use Rattle.packets.specs.Key.{Key}
 use Rattle.packets.proofs.Tests.{split, clash}
-use Rattle.previous_gtids_event.specs.Entry.{Entry, entry, tagOf}
-use Rattle.previous_gtids_event.specs.Previous.{noneOrTag, GoodKey}
-use Rattle.previous_gtids_event.specs.Rewrite.{intervalsBytes, tagBytes, entryBytes, entriesBytes, anyTag}
+use Rattle.previous_gtids_event.specs.Entry.{Entry, entry}
+use Rattle.previous_gtids_event.specs.Rewrite.{intervalsBytes, entryBytes, entriesBytes, anyTag}
 use Rattle.previous_gtids_event.proofs.Reading.{uuid-of, tag-of}
-use Rattle.previous_gtids_event.proofs.Writing.{entry-length}
 use Rattle.gtid_sets.specs.Limits.{maxOfEntry, intervals, over, crowds}
-use Rattle.gtid_sets.specs.Lent.{GoodKeys}
 use Rattle.gtid_sets.specs.Combine.{spans, isOpen, keep}
-use Rattle.gtid_sets.proofs.Bools.{or-false-parts}
 use Rattle.set_check.proofs.PlaceLaws.{one-byte}
 use Rattle.resume_set.specs.Put.{headRun}
 use Rattle.two_sets.specs.Marks.{leftOf, going, marksBytes}
@@ -141,7 +136,8 @@ module _ (bs cs : List ℕ) (k : KeyPlace) (i : KeyIs bs cs k) where
       rw e at here
 
   module _ (w : Bool) (ms : List ℕ) (n : ℕ) (count : n ≡ length ms) (l l₁ : List ℕ) (at : ℕ) where
-    pub none-put : n ≡ 0 → l₁ ≡ l → WhereFits l at (keptRun w (uuidIn bs cs k) (tagIn bs cs k) ms) l₁ (at + length (keptRun w (uuidIn bs cs k) (tagIn bs cs k) ms))
+    pub none-put : n ≡ 0 → l₁ ≡ l
+        → WhereFits l at (keptRun w (uuidIn bs cs k) (tagIn bs cs k) ms) l₁ (at + length (keptRun w (uuidIn bs cs k) (tagIn bs cs k) ms))
     none-put z same =
         kept-none w (uuidIn bs cs k) (tagIn bs cs k) (k .«tag_len») uuid-long tag-long (i .short) ms l at (sym z ∙ count) l₁ same
 
@@ -207,7 +203,8 @@ module _ (w : Bool) (u t : List ℕ) (len : ℕ) (uuid : length u ≡ 16) (tag :
 -- ---- the pass
 
 -- so much of the result `all` is made, and what is left stands before the cursors
-pub record Making (op : Bool → Bool → Bool) (bs cs : List ℕ) (w : Bool) (all : List Entry) (l₀ : List ℕ) (left : Cursors) (out : List ℕ) (made : Made) : Type 0 where
+pub record Making (op : Bool → Bool → Bool) (bs cs : List ℕ) (w : Bool) (all : List Entry) (l₀ : List ℕ) (left : Cursors) (out : List ℕ) (made : Made)
+    : Type 0 where
   pub cursors : CursorsAre bs cs left
   pub sums : Sums w all (combining op bs cs left) made
   pub goes-on : (l : List ℕ) (r : ℕ) → WhereFits out (made .end) (entriesBytes w (combining op bs cs left)) l r → WhereFits l₀ 8 (entriesBytes w all) l r

@@ -8,8 +8,7 @@ use Rattle.misc.specs.Refusal.{number, notASet}
 use Rattle.misc.specs.Output.{Output, refused, outputOf, answerOf}
 use Rattle.misc.specs.declared.Wrote.{Wrote}
 use Rattle.previous_gtids_event.specs.Entry.{Entry}
-use Rattle.gtid_sets.specs.Combine as sets
-use Rattle.gtid_sets.specs.Combine.{combined}
+use Rattle.gtid_sets.specs.Combine.{combined, subset}
 use Rattle.gtid_sets.specs.Lent.{Lent, form, unfit, lentSet}
 use Rattle.resume_set.specs.Answers.{saved}
 use Rattle.set_check.specs.declared.Checked.{Checked}
@@ -21,7 +20,7 @@ use Rattle.two_sets.specs.Pairs.{entriesLeft, CursorsAre, placesOfBoth}
 
 -- ---- `either`, `both`, `without`
 
--- the first set is judged before the second, and the limits on the result alone
+-- 14 of the first, or of the second where the first is a set (the number is the same); the limits are judged on the result alone
 abbrev pub combinedOutput : (Bool → Bool → Bool) → Lent → Lent → Output
 combinedOutput op unfit t = refused notASet
 combinedOutput op (form s) unfit = refused notASet
@@ -39,7 +38,7 @@ combineLeaves op first second out = outputOf out (combinedOutput op (lentSet fir
 abbrev pub withinRead : Lent → Lent → AllWithin
 withinRead unfit t = record { refusal = number notASet; all = false }
 withinRead (form s) unfit = record { refusal = number notASet; all = false }
-withinRead (form s) (form t) = record { refusal = 0; all = sets.within s t }
+withinRead (form s) (form t) = record { refusal = 0; all = subset s t }
 
 abbrev pub withinAnswers : List ℕ → List ℕ → AllWithin
 withinAnswers first second = withinRead (lentSet first) (lentSet second)

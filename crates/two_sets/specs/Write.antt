@@ -10,7 +10,10 @@ use Rattle.previous_gtids_event.specs.Entry.{Entry}
 use Rattle.previous_gtids_event.specs.Rewrite.{entriesBytes, anyTag}
 use Rattle.gtid_sets.specs.Limits.{intervals, over, crowds}
 use Rattle.resume_set.specs.Put.{headRun}
-use Rattle.two_sets.specs.Marks.{marksBytes}
+use Rattle.two_sets.specs.Marks.{saidBy, going, marksBytes}
+use Rattle.two_sets.specs.Pairs.{uuidIn, tagIn}
+use Rattle.two_sets.specs.declared.Work.{Work}
+use Rattle.two_sets.specs.declared.Pair.{Pair}
 use Rattle.two_sets.specs.declared.Made.{Made}
 
 -- the bytes of an entry before its intervals, with tags or without: uuid, tag with its length, and count
@@ -22,6 +25,10 @@ headLength false n = 24
 abbrev pub keptRun : Bool → List ℕ → List ℕ → List ℕ → List ℕ
 keptRun w uuid tag [] = []
 keptRun w uuid tag (m ∷ ms) = headRun uuid w tag (length (m ∷ ms) / 2) ++ marksBytes (m ∷ ms)
+
+-- the next entry of a result
+abbrev pub entryRun : Work → List ℕ → List ℕ → Pair → List ℕ
+entryRun work bs cs p = keptRun (work .tags) (uuidIn bs cs (p .key)) (tagIn bs cs (p .key)) (going (saidBy (work .operation)) bs cs (p .sides))
 
 -- ---- how large a result is
 
@@ -51,5 +58,5 @@ pub record MadeIs (s : List Entry) (w : Bool) (r : Made) : Type 0 where
   pub end-is : r .end ≡ 8 + length (entriesBytes w s)
 
 -- the length of a set that was measured with tags: without them each entry has a byte less, that of the tag's length
-abbrev pub lengthOf : Made → ℕ
-lengthOf r = pick (r .tagged) (r .end) (r .end - r .entries)
+abbrev pub madeLength : Made → ℕ
+madeLength r = pick (r .tagged) (r .end) (r .end - r .entries)

@@ -8,7 +8,7 @@ use set_check::Checked;
 use set_check::check::check;
 use write::write_combined;
 ghost use mathlib.Core.Path.{_≡_};
-ghost use Rattle.gtid_sets.specs.Combine.{either, both, without, within};
+ghost use Rattle.gtid_sets.specs.Combine.{either, both, without, subset};
 ghost use Rattle.two_sets.specs.Marks.{saidBy};
 ghost use Rattle.two_sets.specs.Pairs.{entriesLeft, CursorsAre};
 ghost use Rattle.two_sets.specs.Answers.{combineAnswers, combineLeaves, withinAnswers, begun, BeginningIs};
@@ -180,7 +180,7 @@ pub fn without(first: &[u8], second: &[u8], out: &mut [u8]) -> Wrote
 // Whether no id of the first set is missing in the second; the first that is ends the walk.
 fn none_missing(first: &[u8], second: &[u8], from: Cursors) -> bool
     requires { ⌜ CursorsAre (now first) (now second) from ⌝ }
-    ensures { λ r. ⌜ r ≡ within (entriesLeft (now (first .entry)) (from .first)) (entriesLeft (now (second .entry)) (from .second)) ⌝ }
+    ensures { λ r. ⌜ r ≡ subset (entriesLeft (now (first .entry)) (from .first)) (entriesLeft (now (second .entry)) (from .second)) ⌝ }
 {
     let mut left = from;
     while (0 < left.first.left) | (0 < left.second.left) {

@@ -118,7 +118,8 @@ pub(crate) fn put_marks(
     requires { ⌜ SidesAre (now first) (now second) sides ⌝ }
     requires { ⌜ at + 8 * leftOf sides < 2 ^ 64 ⌝ }
     ensures { λ r. ⌜ (r ≡ length (going (saidBy operation) (now (first .entry)) (now (second .entry)) sides)) × (r ≤ leftOf sides) ⌝ }
-    ensures { λ r. ⌜ WhereFits (now (out .entry)) at (marksBytes (going (saidBy operation) (now (first .entry)) (now (second .entry)) sides)) (now (out .exit)) (at + 8 * r) ⌝ }
+    ensures { λ r. ⌜ WhereFits (now (out .entry)) at (marksBytes (going (saidBy operation) (now (first .entry)) (now (second .entry)) sides))
+        (now (out .exit)) (at + 8 * r) ⌝ }
     ensures { λ r. ⌜ (r ≡ 0 → now (out .exit) ≡ now (out .entry)) ⌝ }
 {
     let mut count: usize = 0;

@@ -22,13 +22,11 @@ ghost use lib.ListN.{length};
 ghost use Rattle.misc.specs.Parse.{part};
 ghost use Rattle.misc.specs.Output.{outputOf, answerOf, WhereFits};
 ghost use Rattle.previous_gtids_event.specs.Rewrite.{entriesBytes};
-ghost use Rattle.gtid_sets.specs.Combine.{combined};
 ghost use Rattle.resume_set.specs.Answers.{saved};
-ghost use Rattle.resume_set.specs.Find.{setOf};
 ghost use Rattle.resume_set.specs.Put.{headRun};
 ghost use Rattle.two_sets.specs.Marks.{saidBy, leftOf, going, SidesAre};
-ghost use Rattle.two_sets.specs.Pairs.{CursorsAre, placesOfBoth, combining, uuidIn, tagIn, KeyIs};
-ghost use Rattle.two_sets.specs.Write.{headLength, keptRun, grownBy, Below, MadeIs, lengthOf};
+ghost use Rattle.two_sets.specs.Pairs.{CursorsAre, placesOfBoth, combining, KeyIs};
+ghost use Rattle.two_sets.specs.Write.{headLength, entryRun, grownBy, Below, MadeIs, madeLength};
 
 // How many bytes of an entry stand before its intervals.
 fn head_len(tags: bool, tag_len: usize) -> usize
@@ -44,7 +42,8 @@ fn head_len(tags: bool, tag_len: usize) -> usize
 // The head of an entry, with a key that stands in one of the sets, and so many intervals.
 fn put_head(set: &[u8], key: KeyPlace, tags: bool, count: usize, out: &mut [u8], at: usize) -> usize
     requires { ⌜ (key .at + 16 ≤ length (now set)) × (key .«tag_at» + key .«tag_len» ≤ length (now set)) ⌝ }
-    ensures { λ r. ⌜ WhereFits (now (out .entry)) at (headRun (part (now (set .entry)) (key .at) 16) tags (part (now (set .entry)) (key .«tag_at») (key .«tag_len»)) count) (now (out .exit)) r ⌝ }
+    ensures { λ r. ⌜ WhereFits (now (out .entry)) at
+        (headRun (part (now (set .entry)) (key .at) 16) tags (part (now (set .entry)) (key .«tag_at») (key .«tag_len»)) count) (now (out .exit)) r ⌝ }
 {
     let uuid = key.at;
     let tag = key.tag_at;
@@ -67,13 +66,11 @@ fn put_entry(
     requires { ⌜ SidesAre (now first) (now second) (pair .sides) ⌝ }
     requires { ⌜ KeyIs (now first) (now second) (pair .key) ⌝ }
     requires { ⌜ at + 64 + 8 * leftOf (pair .sides) < 2 ^ 64 ⌝ }
-    ensures { λ r. ⌜ (r ≡ length (going (saidBy (work .operation)) (now (first .entry)) (now (second .entry)) (pair .sides))) × (r ≤ leftOf (pair .sides)) ⌝ }
+    ensures { λ r. ⌜ (r ≡ length (going (saidBy (work .operation)) (now (first .entry)) (now (second .entry)) (pair .sides)))
+        × (r ≤ leftOf (pair .sides)) ⌝ }
     ensures { λ _. ⌜ WhereFits (now (out .entry)) at
-        (keptRun (work .tags) (uuidIn (now (first .entry)) (now (second .entry)) (pair .key)) (tagIn (now (first .entry)) (now (second .entry)) (pair .key))
-        (going (saidBy (work .operation)) (now (first .entry)) (now (second .entry)) (pair .sides)))
-        (now (out .exit))
-        (at + length (keptRun (work .tags) (uuidIn (now (first .entry)) (now (second .entry)) (pair .key)) (tagIn (now (first .entry)) (now (second .entry)) (pair .key))
-        (going (saidBy (work .operation)) (now (first .entry)) (now (second .entry)) (pair .sides)))) ⌝ }
+        (entryRun work (now (first .entry)) (now (second .entry)) pair) (now (out .exit))
+        (at + length (entryRun work (now (first .entry)) (now (second .entry)) pair)) ⌝ }
 {
     let key = pair.key;
     let sides = pair.sides;
@@ -112,7 +109,8 @@ fn grown(made: Made, tags: bool, tag_len: usize, marks: usize) -> Made
 fn put_combined(work: Work, first: &[u8], second: &[u8], from: Cursors, out: &mut [u8]) -> Made
     requires { ⌜ CursorsAre (now first) (now second) from × (8 ≤ placesOfBoth from) ⌝ }
     ensures { λ r. ⌜ MadeIs (combining (saidBy (work .operation)) (now (first .entry)) (now (second .entry)) from) (work .tags) r ⌝ }
-    ensures { λ r. ⌜ WhereFits (now (out .entry)) 8 (entriesBytes (work .tags) (combining (saidBy (work .operation)) (now (first .entry)) (now (second .entry)) from)) (now (out .exit)) (r .end) ⌝ }
+    ensures { λ r. ⌜ WhereFits (now (out .entry)) 8
+        (entriesBytes (work .tags) (combining (saidBy (work .operation)) (now (first .entry)) (now (second .entry)) from)) (now (out .exit)) (r .end) ⌝ }
 {
     let mut left = from;
     let mut made = Made {
@@ -134,7 +132,7 @@ fn put_combined(work: Work, first: &[u8], second: &[u8], from: Cursors, out: &mu
 // How many bytes a result has that was measured with tags.
 fn length_of(made: Made) -> usize
     requires { ⌜ made .entries ≤ made .end ⌝ }
-    ensures { λ r. ⌜ r ≡ lengthOf made ⌝ }
+    ensures { λ r. ⌜ r ≡ madeLength made ⌝ }
 {
     if made.tagged {
         return made.end;
@@ -154,12 +152,12 @@ pub(crate) fn write_combined(
     ensures { λ r. ⌜ r ≡ answerOf (now (out .entry)) (saved (combining (saidBy operation) (now (first .entry)) (now (second .entry)) from)) ⌝ }
     ensures { λ _. ⌜ now (out .exit) ≡ outputOf (now (out .entry)) (saved (combining (saidBy operation) (now (first .entry)) (now (second .entry)) from)) ⌝ }
 {
-    let mut nowhere = [0u8; 1];
+    let mut no_room = [0u8; 1];
     let counting = Work {
         operation,
         tags: true,
     };
-    let made = put_combined(counting, first, second, from, &mut nowhere);
+    let made = put_combined(counting, first, second, from, &mut no_room);
     let refusal = judge(made.crowded, made.entries, made.intervals);
     if refusal != 0 {
         return Wrote { refusal, len: 0 };

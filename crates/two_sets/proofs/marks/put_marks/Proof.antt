@@ -1,5 +1,4 @@
 -- `two_sets::marks::put_marks` meets its contract.
-use Prim.Native.Nat.{_+_}
 use mathlib.Core.Path.{_≡_, refl, _∙_, sym, ap}
 use native.Mathlib.Omega.{arith}
 use lib.ListN.{length}
