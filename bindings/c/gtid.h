@@ -53,11 +53,11 @@ uint8_t gtid_take_in(const uint8_t *body, size_t body_len, uint8_t *out, size_t 
 
 /* Write a set made of two, at most GTID_LONGEST_SET bytes: gtid_either the ids that are in either set, gtid_both those that are
  * in both, gtid_without those of the first that aren't in the second. Sets with the same ids have the same bytes, however they
- * were made. The two may be the same bytes, or overlap: they are only read.
+ * were made. The two may be the same bytes, or overlap: they are only read. The output overlaps neither of them.
  * Each refuses with 14 if the first bytes are no set, and then with 14 if the second are none. The rest is judged of the result
  * alone: 17 (an entry of it would have more than 1,024 intervals), 16 (it would have more than 384 entries or 2,560 intervals in
- * all) and 13. What is in both, or is left, can have more intervals than either set: of 1,000 and 1,000 there can be 1,999. A
- * result that is refused with 17 or 16 isn't empty. */
+ * all) and 13. What is in both, or is left, can have more intervals than either set: of 1,000 and 1,000 there can be 1,999 in
+ * both, and 2,000 can be left. A result that is refused with 17 or 16 isn't empty. */
 uint8_t gtid_either(const uint8_t *first, size_t first_len, const uint8_t *second, size_t second_len,
                     uint8_t *out, size_t out_len, size_t *len);
 uint8_t gtid_both(const uint8_t *first, size_t first_len, const uint8_t *second, size_t second_len,

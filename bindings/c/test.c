@@ -349,6 +349,8 @@ static uint64_t intervals_made(of_two *call, size_t one_len, size_t other_len)
 /* Entries with some five hundred intervals come to 1,024, and not to one more. */
 static void crowd_by_two_sets(void)
 {
+    size_t len;
+
     /* 1, 11, .. or 3, 13, .. */
     EXPECT(intervals_made(gtid_either, put_set(one, 512, 1, 1), put_set(other, 512, 3, 1)) == 1024);
     EXPECT(intervals_made(gtid_either, put_set(one, 513, 1, 1), put_set(other, 512, 3, 1)) == 17);
@@ -358,6 +360,21 @@ static void crowd_by_two_sets(void)
     /* 1 to 6, 11 to 16, .. without 3, 13, ..: 1 and 2, 4 to 6, .. */
     EXPECT(intervals_made(gtid_without, put_set(one, 512, 1, 6), put_set(other, 512, 3, 1)) == 1024);
     EXPECT(intervals_made(gtid_without, put_set(one, 513, 1, 6), put_set(other, 512, 3, 1)) == 17);
+    /* 17 before 13 */
+    len = 9;
+    EXPECT(gtid_without(one, put_set(one, 513, 1, 6), other, put_set(other, 512, 3, 1), next, 0, &len) == 17 && len == 0);
+}
+
+/* The same uuid with a tag is another key. */
+static void tell_tags_apart(void)
+{
+    size_t one_len = put_set(one, 1, 1, 5), other_len, len;
+
+    put(other, (UINT64_C(1) << 56) + (1 << 8) + 1);
+    other_len = (size_t)(put_intervals(put_tagged_key(other + 8, 0), 1, 1, 5) - other);
+    EXPECT(made(gtid_both, one, one_len, other, other_len, &len) == 0 && len == 8);
+    EXPECT(made(gtid_without, one, one_len, other, other_len, &len) == 0 && len == one_len && memcmp(next, one, len) == 0);
+    EXPECT(lies_within(one, one_len, other, other_len) == 0);
 }
 
 /* The longest set and a set of one entry: no entry more, and no interval more, but a longer interval. */
@@ -675,6 +692,7 @@ int main(void)
     refuse_two_sets(gtid_without);
     refuse_within();
     crowd_by_two_sets();
+    tell_tags_apart();
     fill_by_two_sets();
     read_each_field();
     read_fields();

@@ -166,7 +166,7 @@ impl Offer<'_> {
     }
 }
 
-/// The ids of all transactions that were taken, as the bytes that a follower saves.
+/// A set of transaction ids, as the bytes that a follower saves: those that it has taken.
 ///
 /// Its members are exactly the ids that it began with and those of the committed offers that were answered [`Offered::Taken`] or
 /// [`Offered::AlreadyThere`]; that is proved of the bytes. Two sets with the same members have the same bytes.

@@ -11,7 +11,8 @@ impl ResumeSet {
     ///
     /// [`Refusal::Crowded`] if an entry of the result would have more than 1,024 intervals, else [`Refusal::Full`] if the result would have
     /// more than 384 entries or 2,560 intervals in all. Intervals that touch or overlap are joined before they are counted. Both sets are as
-    /// they were: keep them as two, and ask both whether they have an id ([`contains`](ResumeSet::contains)).
+    /// they were: keep them as two, one that is only asked whether it has an id ([`contains`](ResumeSet::contains)), and one that is offered
+    /// to, and saved.
     ///
     /// ```
     /// use gtid_resume::ResumeSet;
@@ -67,8 +68,8 @@ impl ResumeSet {
     ///
     /// # Errors
     ///
-    /// [`Refusal::Crowded`] or [`Refusal::Full`], as for [`intersection`](ResumeSet::intersection). A result that is refused isn't empty: ids
-    /// are missing, in more intervals than a set can have.
+    /// [`Refusal::Crowded`] or [`Refusal::Full`], as for [`intersection`](ResumeSet::intersection); of 1,000 intervals that 1,000 others cut
+    /// 2,000 can be left. A result that is refused isn't empty: ids are missing, in more intervals than a set can have.
     ///
     /// ```
     /// use gtid_resume::ResumeSet;
