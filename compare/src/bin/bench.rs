@@ -377,7 +377,7 @@ mod ours {
 
 /// A word for it, what it is, and the smaller number of turns; the other is twice that.
 #[rustfmt::skip]
-const TABLE: [(&str, &str, u64); 67] = [
+const TABLE: [(&str, &str, u64); 68] = [
     ("varint-1", "read 64 variable-length integers of 1 byte", 1000),
     ("varint-2", "read 64 variable-length integers of 2 bytes", 1000),
     ("varint-3", "read 64 variable-length integers of 3 bytes", 1000),
@@ -443,6 +443,7 @@ const TABLE: [(&str, &str, u64); 67] = [
     ("within-2560", "within, the first of them in the result of either: yes", 10),
     ("within-no", "within, the first of them in the second: no, the first id is missing", 10),
     ("either-uuids", "either, 192 uuids and 192 others between them, 1 interval each", 10),
+    ("either-384", "either, 384 uuids and the same uuids with other intervals, 1 each: 2 each", 10),
     ("either-tags", "either, 384 tags of one uuid and the same tags with other intervals, 1 each: 2 each", 10),
     ("either-longest", "either, the longest set and itself", 10),
 ];
@@ -543,10 +544,16 @@ fn made(what: &str) -> Option<Made> {
             &every_second(1),
             &uuids(384, false),
         ),
+        "either-384" => of_two(
+            ours::either,
+            &uuids(384, false),
+            &each_with(uuids(384, false), vec![interval(1)]),
+            &each_with(uuids(384, false), intervals(2)),
+        ),
         "either-tags" => of_two(
             ours::either,
             &tags(384, 1),
-            &second_of_tags(),
+            &each_with(tags(384, 1), vec![interval(1)]),
             &tags(384, 2),
         ),
         "either-longest" => of_two(ours::either, &longest(), &longest(), &longest()),
@@ -1208,11 +1215,10 @@ fn every_second(place: usize) -> Vec<Entry> {
         .collect()
 }
 
-/// The second interval of each of 384 tags.
-fn second_of_tags() -> Vec<Entry> {
-    let mut entries = tags(384, 2);
+/// The same keys, each with these intervals.
+fn each_with(mut entries: Vec<Entry>, intervals: Vec<(u64, u64)>) -> Vec<Entry> {
     for entry in &mut entries {
-        entry.intervals.remove(0);
+        entry.intervals.clone_from(&intervals);
     }
     entries
 }
@@ -1415,7 +1421,7 @@ fn stack() {
         ("gtid_contains", &["contains"]),
         ("gtid_offer", &["offer-1", "offer-1023", "offer-first", "offer-there", "offer-2559", "offer-383-tagged", "offer-longest"]),
         ("gtid_take_in", &["take-in-set", "take-in-longest", "take-in-worst", "take-in-covered", "take-in-merged", "take-in-uuids", "take-in-tags"]),
-        ("gtid_either", &["either-2560", "either-uuids", "either-tags", "either-longest"]),
+        ("gtid_either", &["either-2560", "either-uuids", "either-384", "either-tags", "either-longest"]),
         ("gtid_both", &["both-2560", "both-longest"]),
         ("gtid_without", &["without-2560", "without-longest"]),
         ("gtid_within", &["within-2560", "within-no", "within-longest"]),

@@ -1,15 +1,19 @@
 -- Laws of marks that stand in bytes: one turn of the sweep over them, all turns up to the next mark of the result, and all marks.
 use Prim.Native.Nat.{ℕ, zero, suc, _+_, _-_, _*_, _%_, _^_, _<_, _≤_, min}
-use mathlib.Core.Path.{_≡_, refl, ap, _∙_}
+use mathlib.Core.Path.{_≡_, refl, sym, ap, _∙_}
 use mathlib.Core.Bool.{Bool, true, false, not, _&&_, _||_}
-use mathlib.Core.List.{List, [], _∷_}
+use mathlib.Core.List.{List, [], _∷_, _++_}
 use native.Mathlib.Omega.{arith}
-use lib.ListN.{length}
+use lib.ListN.{length, drop}
+use lib.Seq.{take-add, drop-drop}
 use lib.Dec.{ltb, leb, eqb}
 use borrow.Author.Tests.{ltb-true, ltb-false, le-leb, lt-leb, eq-eqb, ne-eqb}
+use Rattle.misc.specs.Parse.{part}
 use Rattle.misc.specs.Le.{leBytes}
-use Rattle.misc.specs.Output.{WhereFits}
+use Rattle.misc.specs.Output.{putAt, WhereFits}
+use Rattle.misc.proofs.ParseLaws.{part-length}
 use Rattle.misc.proofs.LeLaws.{length-leBytes}
+use Rattle.misc.proofs.OutputLaws as output
 use Rattle.misc.proofs.OutputLaws.{_also_, nothing-placed}
 use Rattle.packets.specs.Gno.{gnoTop}
 use Rattle.packets.proofs.Tests.{split, clash, tests}
@@ -19,7 +23,8 @@ use Rattle.gtid_sets.specs.Combine.{isOpen, mark, keeps, sweep, Rising}
 use Rattle.gtid_sets.proofs.Bools.{or-false-parts}
 use Rattle.gtid_sets.proofs.SweepLaws.{lower, sweep-lt, sweep-eq, sweep-gt}
 use Rattle.set_check.specs.Places.{numberAt}
-use Rattle.two_sets.specs.Marks.{saidBy, marksAt, marksOf, nextMark, passedSide, leftOf, going, flipped, oneIf, SideIs, SidesAre, TurnIs, NextIs, marksBytes}
+use Rattle.set_check.proofs.PlaceLaws.{Bytes, number-stands}
+use Rattle.two_sets.specs.Marks.{saidBy, marksAt, marksOf, nextMark, passedSide, leftOf, going, allIf, flipped, oneIf, SideIs, SidesAre, TurnIs, NextIs, marksBytes}
 use Rattle.two_sets.specs.declared.Operation.{Operation}
 use Rattle.two_sets.specs.declared.Operation.the-variants as operation
 use Rattle.two_sets.specs.declared.Side.{Side}
@@ -265,3 +270,80 @@ module _ (op : Bool → Bool → Bool) (bs cs : List ℕ) (l₀ : List ℕ) (at 
 
       pub putting-fits : WhereFits l₀ at (marksBytes all) out (at + 8 * count)
       putting-fits = g .goes-on out (at + 8 * count) (rw (last, g .none last) (put-nothing out (at + 8 * count)))
+
+-- ---- a key that only one of the sets has
+
+mark-alone : (o k : Bool) (m : ℕ) (ms : List ℕ) → mark (not o && k) (o && k) m (allIf k ms) ≡ allIf k (m ∷ ms)
+mark-alone true true m ms = refl
+mark-alone true false m ms = refl
+mark-alone false true m ms = refl
+mark-alone false false m ms = refl
+
+module _ (op : Bool → Bool → Bool) (none : op false false ≡ false) where
+  op-first : (x : Bool) → op x false ≡ x && op true false
+  op-first true = refl
+  op-first false = none
+
+  op-second : (y : Bool) → op false y ≡ y && op false true
+  op-second true = refl
+  op-second false = none
+
+  alone-first : (a : List ℕ) → sweep op a [] ≡ allIf (op true false) a
+  alone-first [] = go (op true false)
+    where
+      go : (k : Bool) → [] ≡ allIf k []
+      go true = refl
+      go false = refl
+  alone-first (m ∷ a) =
+      rw (op-first (not (isOpen a)), op-first (isOpen a), alone-first a) (mark-alone (isOpen a) (op true false) m a)
+
+  alone-second : (b : List ℕ) → sweep op [] b ≡ allIf (op false true) b
+  alone-second [] = go (op false true)
+    where
+      go : (k : Bool) → [] ≡ allIf k []
+      go true = refl
+      go false = refl
+  alone-second (n ∷ b) =
+      rw (op-second (not (isOpen b)), op-second (isOpen b), alone-second b) (mark-alone (isOpen b) (op false true) n b)
+
+  module _ (bs cs : List ℕ) (s : Sides) (kept : Bool) where
+    pub only-first : s .two .left ≡ 0 → kept ≡ op true false → allIf kept (marksOf bs (s .one)) ≡ going op bs cs s
+    only-first z e = rw (e, z) (sym (alone-first (marksOf bs (s .one))))
+
+    pub only-second : s .one .left ≡ 0 → kept ≡ op false true → allIf kept (marksOf cs (s .two)) ≡ going op bs cs s
+    only-second z e = rw (e, z) (sym (alone-second (marksOf cs (s .two))))
+
+-- marks that stand in bytes are written as they stand
+marks-stand : (bs : List ℕ) → Bytes bs → (n at : ℕ) → at + 8 * n ≤ length bs → marksBytes (marksAt n bs at) ≡ part bs at (8 * n)
+unfolding marksBytes
+marks-stand bs ok zero at h = refl
+marks-stand bs ok (suc n) at h =
+    let size : 8 * suc n ≡ 8 + 8 * n = omega arith in
+    rw (number-stands bs ok at (omega arith), marks-stand bs ok n (at + 8) (omega arith), size) (sym (part-two bs at 8 (8 * n)))
+  where
+    part-two : (l : List ℕ) (at m n : ℕ) → part l at (m + n) ≡ part l at m ++ part l (at + m) n
+    part-two l at m n = take-add m n (drop at l) ∙ rw (drop-drop m at l)
+
+module _ (bs : List ℕ) (s : Side) (i : SideIs bs s) (ok : Bytes bs) (out : List ℕ) (at : ℕ) where
+  pub none-kept : (kept : Bool) → kept ≡ false
+      → (0 ≡ length (allIf kept (marksOf bs s))) × WhereFits out at (marksBytes (allIf kept (marksOf bs s))) out (at + 8 * 0)
+  none-kept kept e = let z : at + 8 * 0 ≡ at = omega arith in rw (e, z) (refl, put-nothing out at)
+
+  pub all-kept : (kept : Bool) → kept ≡ true → (out′ : List ℕ) (r : ℕ) → WhereFits out at (part bs (s .at) (8 * s .left)) out′ r
+      → (s .left ≡ length (allIf kept (marksOf bs s))) × WhereFits out at (marksBytes (allIf kept (marksOf bs s))) out′ (at + 8 * s .left)
+  all-kept kept e out′ r p = rw e (
+    sym (marks-count (s .left) bs (s .at)),
+    rw (marks-stand bs ok (s .left) (s .at) (i .there))
+        (record {
+          placed = λ room. record {
+            holds = p .placed room .holds;
+            ends = rw (part-length (8 * s .left) bs (s .at) (i .there));
+          };
+        }),
+  )
+
+-- where there are none, nothing is written
+pub nothing-put : (bs : List ℕ) (s : Side) (out : List ℕ) (at : ℕ) → s .left ≡ 0 → (out′ : List ℕ) → out′ ≡ putAt out at (part bs (s .at) (8 * s .left)) → out′ ≡ out
+nothing-put bs s out at z out′ e =
+    let none : part bs (s .at) (8 * s .left) ≡ [] = rw z in
+    e ∙ rw none (sym (output.put-nothing out at .1))

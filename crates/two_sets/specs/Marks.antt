@@ -43,6 +43,11 @@ leftOf s = s .one .left + s .two .left
 abbrev pub going : (Bool → Bool → Bool) → List ℕ → List ℕ → Sides → List ℕ
 going op bs cs s = sweep op (marksOf bs (s .one)) (marksOf cs (s .two))
 
+-- all marks, or none
+abbrev pub allIf : Bool → List ℕ → List ℕ
+allIf true ms = ms
+allIf false ms = []
+
 -- a mark in front, if it is one of the result
 abbrev pub flipped : Bool → ℕ → List ℕ → List ℕ
 flipped true m ms = m ∷ ms

@@ -4,6 +4,7 @@ use crate::Operation;
 use crate::Side;
 use crate::Sides;
 use crate::Turn;
+use misc::put::put_bytes;
 use misc::put::put_u64_le;
 use set_check::places::number_at;
 ghost use mathlib.Core.Path.{_≡_};
@@ -12,7 +13,7 @@ ghost use Prim.Native.Nat.{_+_, _*_, _%_, _^_, _<_, _≤_, min};
 ghost use lib.Dec.{eqb};
 ghost use lib.ListN.{length};
 ghost use Rattle.misc.specs.Output.{WhereFits};
-ghost use Rattle.two_sets.specs.Marks.{saidBy, marksOf, nextMark, passedSide, leftOf, going, SidesAre, TurnIs, NextIs, marksBytes};
+ghost use Rattle.two_sets.specs.Marks.{saidBy, marksOf, nextMark, passedSide, leftOf, going, allIf, SideIs, SidesAre, TurnIs, NextIs, marksBytes};
 
 // Above all marks.
 const NO_MARK: u64 = 0xffff_ffff_ffff_ffff;
@@ -106,8 +107,25 @@ pub(crate) fn next_mark(operation: Operation, first: &[u8], second: &[u8], sides
     }
 }
 
-// Writes the marks of the result from a place of the output on, where there is room, and returns how many there are, room or not.
-pub(crate) fn put_marks(
+// Writes the marks of an entry whose key the other set doesn't have from a place on, where there is room, if they are kept: then all of
+// them are marks of the result. Returns how many there are, room or not.
+fn put_alone(kept: bool, set: &[u8], side: Side, out: &mut [u8], at: usize) -> usize
+    requires { ⌜ SideIs (now set) side ⌝ }
+    ensures { λ r. ⌜ (r ≡ length (allIf kept (marksOf (now (set .entry)) side))) × (r ≤ side .left) ⌝ }
+    ensures { λ r. ⌜ WhereFits (now (out .entry)) at (marksBytes (allIf kept (marksOf (now (set .entry)) side))) (now (out .exit)) (at + 8 * r) ⌝ }
+    ensures { λ r. ⌜ (r ≡ 0 → now (out .exit) ≡ now (out .entry)) ⌝ }
+{
+    if !kept {
+        return 0;
+    }
+    let from = side.at;
+    let to = from + 8 * side.left;
+    put_bytes(&set[from..to], out, at);
+    side.left
+}
+
+// The same for a key that both sets have, by the sweep.
+fn put_swept(
     operation: Operation,
     first: &[u8],
     second: &[u8],
@@ -130,4 +148,33 @@ pub(crate) fn put_marks(
         next = next_mark(operation, first, second, next.sides);
     }
     count
+}
+
+// Writes the marks of the result from a place of the output on, where there is room, and returns how many there are, room or not.
+pub(crate) fn put_marks(
+    operation: Operation,
+    first: &[u8],
+    second: &[u8],
+    sides: Sides,
+    out: &mut [u8],
+    at: usize,
+) -> usize
+    requires { ⌜ SidesAre (now first) (now second) sides ⌝ }
+    requires { ⌜ at + 8 * leftOf sides < 2 ^ 64 ⌝ }
+    ensures { λ r. ⌜ (r ≡ length (going (saidBy operation) (now (first .entry)) (now (second .entry)) sides)) × (r ≤ leftOf sides) ⌝ }
+    ensures { λ r. ⌜ WhereFits (now (out .entry)) at (marksBytes (going (saidBy operation) (now (first .entry)) (now (second .entry)) sides))
+        (now (out .exit)) (at + 8 * r) ⌝ }
+    ensures { λ r. ⌜ (r ≡ 0 → now (out .exit) ≡ now (out .entry)) ⌝ }
+{
+    let one = sides.one;
+    let two = sides.two;
+    if two.left == 0 {
+        let kept = is_kept(operation, true, false);
+        return put_alone(kept, first, one, out, at);
+    }
+    if one.left == 0 {
+        let kept = is_kept(operation, false, true);
+        return put_alone(kept, second, two, out, at);
+    }
+    put_swept(operation, first, second, sides, out, at)
 }
