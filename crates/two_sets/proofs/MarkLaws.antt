@@ -343,7 +343,8 @@ module _ (bs : List ℕ) (s : Side) (i : SideIs bs s) (ok : Bytes bs) (out : Lis
   )
 
 -- where there are none, nothing is written
-pub nothing-put : (bs : List ℕ) (s : Side) (out : List ℕ) (at : ℕ) → s .left ≡ 0 → (out′ : List ℕ) → out′ ≡ putAt out at (part bs (s .at) (8 * s .left)) → out′ ≡ out
+pub nothing-put : (bs : List ℕ) (s : Side) (out : List ℕ) (at : ℕ) → s .left ≡ 0 → (out′ : List ℕ)
+    → out′ ≡ putAt out at (part bs (s .at) (8 * s .left)) → out′ ≡ out
 nothing-put bs s out at z out′ e =
     let none : part bs (s .at) (8 * s .left) ≡ [] = rw z in
     e ∙ rw none (sym (output.put-nothing out at .1))
