@@ -19,7 +19,7 @@ use Rattle.previous_gtids_event.specs.Rewrite.{entriesBytes, anyTag, headerByte
 use Rattle.previous_gtids_event.proofs.Writing.{length-header, entry-length}
 use Rattle.gtid_sets.specs.Limits.{judgedAs, judged, limits}
 use Rattle.gtid_sets.specs.Lent.{form, unfit, lentSet, GoodKeys}
-use Rattle.gtid_sets.specs.Combine.{without, isOpen, spans, keep, isEmpty}
+use Rattle.gtid_sets.specs.Combine.{without, marks, isOpen, spans, keep, combined, isEmpty}
 use Rattle.gtid_sets.proofs.Bools.{or-false-parts}
 use Rattle.gtid_sets.proofs.ByteLaws.{entries-least}
 use Rattle.gtid_sets.proofs.LimitLaws.{longestSet-is, limits-judged}
@@ -33,16 +33,15 @@ use Rattle.resume_set.specs.Find.{setOf, Fits}
 use Rattle.resume_set.proofs.SetOfLaws.{set-bytes, set-stands}
 use Rattle.resume_set.proofs.AnswerLaws.{check-told, check-unfit, saved-refused, joined-short, joined-fits}
 use Rattle.two_sets.specs.Answers.{combineAnswers, combineLeaves, withinAnswers, begun, OneUnfit, BeginningIs}
-use Rattle.two_sets.specs.Marks.{going, NextIs}
+use Rattle.two_sets.specs.Marks.{going, anyMark}
 use Rattle.two_sets.specs.Pairs.{entriesLeft, CursorIs, CursorsAre, combining, keyIn, PairIs}
 use Rattle.two_sets.specs.Write.{MadeIs, madeLength}
 use Rattle.two_sets.specs.declared.Cursors.{Cursors}
 use Rattle.two_sets.specs.declared.AllWithin.{AllWithin}
 use Rattle.two_sets.specs.declared.Beginning.{Beginning}
-use Rattle.two_sets.specs.declared.Turn.{Turn}
 use Rattle.two_sets.specs.declared.Pair.{Pair}
 use Rattle.two_sets.specs.declared.Made.{Made}
-use Rattle.two_sets.proofs.PairLaws.{none-combined}
+use Rattle.two_sets.proofs.MarkLaws.{alone-second}
 
 -- ---- where the walk begins
 
@@ -119,30 +118,41 @@ pub record Missing (bs cs : List ℕ) (from left : Cursors) : Type 0 where
   pub same : isEmpty (combining without bs cs from) ≡ isEmpty (combining without bs cs left)
 
 -- marks make an entry that isn't empty
-not-empty : (k : Key) (ms : List ℕ) (s : List Entry) (m : ℕ) (rest : List ℕ) → isOpen ms ≡ false → ms ≡ m ∷ rest → isEmpty (keep k (spans ms) s) ≡ false
-not-empty k [] s m rest h e = let z : _≡_ {A = ℕ} 0 1 = cc in absurd (omega arith)
-not-empty k (x ∷ []) s m rest h e = clash refl h
-not-empty k (x ∷ y ∷ ms) s m rest h e = refl
+not-empty : (k : Key) (ms : List ℕ) (s : List Entry) → isOpen ms ≡ false → anyMark ms ≡ true → isEmpty (keep k (spans ms) s) ≡ false
+not-empty k [] s h e = clash e refl
+not-empty k (x ∷ []) s h e = clash refl h
+not-empty k (x ∷ y ∷ ms) s h e = refl
+
+no-marks : (ms : List ℕ) → anyMark ms ≡ false → ms ≡ []
+no-marks [] e = refl
+no-marks (m ∷ ms) e = clash refl e
+
+-- nothing is left of no set
+none-without : (t : List Entry) → combined without [] t ≡ []
+none-without [] = refl
+none-without (entry j js ∷ t) = rw (alone-second without refl (marks js)) (none-without t)
 
 module _ (bs cs : List ℕ) (from : Cursors) where
   pub missing-none : CursorsAre bs cs from → Missing bs cs from from
   missing-none i = record { cursors = i; same = refl }
 
   module _ (left : Cursors) (g : Missing bs cs from left) where
-    pub missing-all : left .first .left ≡ 0 → left .second .left ≡ 0 → true ≡ isEmpty (combining without bs cs from)
-    missing-all p q = sym (g .same ∙ ap isEmpty (none-combined without bs cs left p q))
+    pub missing-all : left .first .left ≡ 0 → true ≡ isEmpty (combining without bs cs from)
+    missing-all p =
+        let none : combining without bs cs left ≡ [] = rw p (none-without (entriesLeft cs (left .second))) in
+        sym (g .same ∙ ap isEmpty none)
 
-    module _ (r : Pair) (i : PairIs bs cs left r) (t : Turn) (n : NextIs without bs cs (r .sides) t) where
-      pub missing-turn : t .flips ≡ false → Missing bs cs from (r .after)
+    module _ (r : Pair) (i : PairIs bs cs left r) (any : Bool) (is : any ≡ anyMark (going without bs cs (r .sides))) where
+      pub missing-turn : any ≡ false → Missing bs cs from (r .after)
       missing-turn e =
-          let none : going without bs cs (r .sides) ≡ [] = n .goes ∙ rw (e, n .none e) in
+          let none : going without bs cs (r .sides) ≡ [] = no-marks (going without bs cs (r .sides)) (sym is ∙ e) in
           let same : combining without bs cs left ≡ combining without bs cs (r .after) = i .goes without ∙ rw none in
           record { cursors = i .after; same = g .same ∙ ap isEmpty same }
 
-      pub missing-found : t .flips ≡ true → false ≡ isEmpty (combining without bs cs from)
+      pub missing-found : any ≡ true → false ≡ isEmpty (combining without bs cs from)
       missing-found e =
           sym (g .same ∙ ap isEmpty (i .goes without) ∙ not-empty (keyIn bs cs (r .key)) (going without bs cs (r .sides)) (combining without bs cs (r .after))
-          (t .mark) (going without bs cs (t .sides)) (i .shut without refl) (n .goes ∙ rw e))
+          (i .shut without refl) (sym is ∙ e))
 
 -- ---- a result that was measured
 

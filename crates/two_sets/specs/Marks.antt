@@ -43,6 +43,11 @@ leftOf s = s .one .left + s .two .left
 abbrev pub going : (Bool → Bool → Bool) → List ℕ → List ℕ → Sides → List ℕ
 going op bs cs s = sweep op (marksOf bs (s .one)) (marksOf cs (s .two))
 
+-- whether there is a mark
+abbrev pub anyMark : List ℕ → Bool
+anyMark [] = false
+anyMark (m ∷ ms) = true
+
 -- all marks, or none
 abbrev pub allIf : Bool → List ℕ → List ℕ
 allIf true ms = ms

@@ -9,7 +9,7 @@ use set_check::check::check;
 use write::write_combined;
 ghost use mathlib.Core.Path.{_≡_};
 ghost use Rattle.gtid_sets.specs.Combine.{either, both, without, subset};
-ghost use Rattle.two_sets.specs.Marks.{saidBy};
+ghost use Rattle.two_sets.specs.Marks.{saidBy, going, anyMark, SidesAre};
 ghost use Rattle.two_sets.specs.Pairs.{entriesLeft, CursorsAre};
 ghost use Rattle.two_sets.specs.Answers.{combineAnswers, combineLeaves, withinAnswers, begun, BeginningIs};
 
@@ -177,17 +177,27 @@ pub fn without(first: &[u8], second: &[u8], out: &mut [u8]) -> Wrote
     combine(Operation::Without, first, second, out)
 }
 
-// Whether no id of the first set is missing in the second; the first that is ends the walk.
+// Whether the first set has an id of a key that the second lacks; none, where only the second has the key.
+fn any_missing(first: &[u8], second: &[u8], sides: Sides) -> bool
+    requires { ⌜ SidesAre (now first) (now second) sides ⌝ }
+    ensures { λ r. ⌜ r ≡ anyMark (going without (now (first .entry)) (now (second .entry)) sides) ⌝ }
+{
+    if sides.one.left == 0 {
+        return false;
+    }
+    next_mark(Operation::Without, first, second, sides).flips
+}
+
+// Whether no id of the first set is missing in the second. The first that is ends the walk, and so does the first set's end.
 fn none_missing(first: &[u8], second: &[u8], from: Cursors) -> bool
     requires { ⌜ CursorsAre (now first) (now second) from ⌝ }
     ensures { λ r. ⌜ r ≡ subset (entriesLeft (now (first .entry)) (from .first)) (entriesLeft (now (second .entry)) (from .second)) ⌝ }
 {
     let mut left = from;
-    while (0 < left.first.left) | (0 < left.second.left) {
+    while 0 < left.first.left {
         let pair = next_pair(first, second, left);
         let sides = pair.sides;
-        let next = next_mark(Operation::Without, first, second, sides);
-        if next.flips {
+        if any_missing(first, second, sides) {
             return false;
         }
         left = pair.after;
