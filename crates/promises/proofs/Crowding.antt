@@ -1,6 +1,6 @@
 -- Offers to an entry that has as many intervals as one may have: an id that stands apart is 17, one that joins two is taken. Wrong offers are
 -- shut out by that.
-use Prim.Native.Nat.{ℕ, zero, suc, _+_, _*_, _≤_, _<_}
+use Prim.Native.Nat.{ℕ, zero, suc, _+_, _≤_}
 use mathlib.Core.Path.{_≡_, refl, sym, ap, _∙_}
 use mathlib.Core.Bool.{false}
 use mathlib.Core.List.{List, [], _∷_}
@@ -9,24 +9,18 @@ use lib.ListN.{length, replicate, length-replicate}
 use Rattle.misc.specs.Parse.{Bytes, parsed, bytesAt, byteAt}
 use Rattle.misc.specs.Body.{bodyLimit}
 use Rattle.misc.specs.Le.{leOf, leAt}
-use Rattle.packets.specs.Gno.{gnoTop, Interval, interval}
+use Rattle.packets.specs.Gno.{gnoTop}
 use Rattle.packets.specs.Key.{Key}
-use Rattle.packets.proofs.GnoLaws.{gnoTop-is}
-use Rattle.previous_gtids_event.specs.Entry.{Entry, entry, uuidOf, tagOf}
+use Rattle.previous_gtids_event.specs.Entry.{Entry}
 use Rattle.previous_gtids_event.specs.Rewrite.{bodyBytes}
 use Rattle.gtid_event_read.specs.Untagged.{openingAt, untagged}
 use Rattle.gtid_event_read.specs.Seen.{untaggedSeen}
 use Rattle.gtid_event_read.specs.Read as read
 use Rattle.gtid_event_read.specs.Read.{seen}
-use Rattle.gtid_sets.specs.Interval.{Gapped, insert}
-use Rattle.gtid_sets.specs.Set.{has, add, SetForm}
-use Rattle.gtid_sets.specs.Limits.{fine, limits, longestSet, EntryOver}
-use Rattle.gtid_sets.specs.Lent.{GoodKeys, SetLaid}
-use Rattle.gtid_sets.proofs.IntervalLaws.{insert-before, insert-joined, gapped-misses}
-use Rattle.gtid_sets.proofs.SetLaws.{join-into, entry-has}
-use Rattle.gtid_sets.proofs.LimitLaws.{maxEntries-is, maxIntervals-is, maxOfEntry-is, over-none, limits-from}
+use Rattle.gtid_sets.specs.Set.{has, add}
+use Rattle.gtid_sets.specs.Limits.{fine, limits, longestSet, EntryOver, maxEntries, maxIntervals, maxOfEntry, judged}
+use Rattle.gtid_sets.specs.Lent.{GoodKeys}
 use Rattle.gtid_sets.proofs.LentLaws.{longest, good-join}
-use Rattle.set_check.proofs.RestLaws.{more-some}
 use Rattle.resume_set.specs.Answers.{eventOf}
 use Rattle.resume_set.specs.declared.Offered.the-variants.{Refused, Taken}
 use Rattle.resume_set_laws.specs.History.{Turn, Offering}
@@ -34,78 +28,22 @@ use Rattle.resume_set_laws.specs.Ours.{ours}
 use Rattle.promises.specs.SetFaults.{Names, Accepts, OfferFault, OfferAnswer}
 use Rattle.promises.specs.Exact.{OffersExactly}
 use Rattle.promises.specs.WrongOnes.{renumbered, saysFull, asTaken, saysTaken, crowdedEarly}
+use Rattle.promises.proofs.LimitsExact.{entry-limit}
+use Rattle.promises.proofs.AtLimits.{spread, uuids-good, entryFull, entry-full}
 use Rattle.promises.proofs.Demand2.{records-mean}
 use Rattle.promises.proofs.SetsExact.{offers-exactly}
 use Rattle.promises.proofs.ShutOut.{bodyOf, body-bytes, small-1, named, laid-1, offer}
 
--- ---- n intervals of one number each, every second one from a number on
-
-unfoldable pub spread : ℕ → ℕ → List Interval
-spread zero from = []
-spread (suc n) from = interval from (from + 1) ∷ spread n (from + 2)
-
-pub spread-length : (n from : ℕ) → length (spread n from) ≡ n
-unfolding spread
-spread-length zero from = refl
-spread-length (suc n) from = ap suc (spread-length n (from + 2))
-
-spread-gapped : (n low from : ℕ) → low < from → from + 2 * n ≤ gnoTop → Gapped low (spread n from)
-unfolding spread
-spread-gapped zero low from h k = tt
-spread-gapped (suc n) low from h k = (h, omega arith, omega arith, spread-gapped n (from + 1) (from + 2) (omega arith) (omega arith))
-
--- one that stands before them is one more
-spread-before : (n from a b : ℕ) → b < from → length (insert a b (spread n from)) ≡ n + 1
-unfolding spread
-spread-before zero from a b h = refl
-spread-before (suc n) from a b h = ap length (insert-before a b from (from + 1) (spread n (from + 2)) h) ∙ omega (arith, spread-length n (from + 2))
-
--- ---- an entry of the zero uuid with 1,024 of them, from 3 on
-
 abbrev zeros : Key
 zeros = replicate 16 0
 
-abbrev most : List Interval
-most = spread 1024 3
-
-abbrev pub entryFull : List Entry
-entryFull = entry zeros most ∷ []
-
-gaps : Gapped 2 most
-gaps = spread-gapped 1024 2 3 (omega arith) (omega (arith, gnoTop-is))
-
-formed : SetForm entryFull
-formed = (more-some most (omega (arith, spread-length 1024 3)), spread-gapped 1024 0 3 (omega arith) (omega (arith, gnoTop-is)), tt, tt)
-
-keyed : GoodKeys entryFull
-unfolding uuidOf tagOf
-keyed = (record { uuid = refl; rule = refl }, tt)
-
-pub laid : SetLaid (bodyBytes entryFull) entryFull
-laid =
-    let few = spread-length 1024 3 in
-    record {
-      written = refl;
-      formed = formed;
-      keyed = keyed;
-      limited =
-          limits-from entryFull (omega (arith, over-none (length most) (omega (arith, few, maxOfEntry-is))))
-          (omega (arith, maxEntries-is)) (omega (arith, few, maxIntervals-is));
-    }
-
 new : has entryFull zeros 1 ≡ false
-new = entry-has zeros most [] 1 formed ∙ gapped-misses 2 most 1 gaps (omega arith)
+unfolding spread
+new = refl
 
 over-one-entry : EntryOver 1024 (add zeros 1 entryFull)
-over-one-entry =
-    record {
-      front = [];
-      key = zeros;
-      is = insert 1 2 most;
-      back = [];
-      stands = join-into zeros 1 2 most [];
-      many = omega (arith, spread-before 1024 3 1 2 (omega arith));
-    }
+unfolding spread maxEntries maxIntervals maxOfEntry judged limits
+over-one-entry = entry-limit (add zeros 1 entryFull) .0 refl
 
 named-1 : Names 33 (bodyOf 1) (named 1)
 named-1 = record { present = replicate 12 false; used = 25; laid = laid-1; named = λ is. omega arith; sent = λ is. absurd (omega arith) }
@@ -113,7 +51,7 @@ named-1 = record { present = replicate 12 false; used = 25; laid = laid-1; named
 -- gno 1, which stands apart, is 17 there, whatever the output
 crowded-fault : (room : ℕ) → OfferFault (bodyBytes entryFull) 33 (bodyOf 1) room 17 0
 unfolding gnoTop
-crowded-fault room = OfferFault.crowdedEntry {e = named 1} laid named-1 refl new over-one-entry
+crowded-fault room = OfferFault.crowdedEntry {e = named 1} entry-full named-1 refl new over-one-entry
 
 pub refuses-crowded : (f : Offering) → OffersExactly f → f .answers (bodyBytes entryFull) (offer 1 48) ≡ Refused 17 0
 refuses-crowded f exactly =
@@ -121,15 +59,9 @@ refuses-crowded f exactly =
 
 -- ---- gno 4, between the first two, joins them: it is taken, where there is room
 
-most-joined : (n : ℕ) → length (insert 4 5 (spread (suc (suc n)) 3)) ≡ n + 1
-unfolding spread
-most-joined n =
-    ap length (insert-joined 4 5 3 4 (interval 5 6 ∷ spread n 7) (omega arith) (omega arith) ∙ insert-joined 3 5 5 6 (spread n 7) (omega arith) (omega arith))
-    ∙ spread-before n 7 3 6 (omega arith)
-
 between : has entryFull zeros 4 ≡ false
 unfolding spread
-between = entry-has zeros most [] 4 formed ∙ gapped-misses 4 (spread 1023 5) 4 (spread-gapped 1023 4 5 (omega arith) (omega (arith, gnoTop-is))) (omega arith)
+between = refl
 
 small-4 : Bytes (4 ∷ [])
 small-4 zero = omega arith
@@ -152,12 +84,8 @@ pub joined : List Entry
 joined = add zeros 4 entryFull
 
 joined-fine : limits joined ≡ fine
-unfolding joined
-joined-fine =
-    let few : length (insert 4 5 most) ≡ 1023 = most-joined 1022 in
-    rw (join-into zeros 4 5 most [])
-    (limits-from (entry zeros (insert 4 5 most) ∷ []) (omega (arith, over-none (length (insert 4 5 most)) (omega (arith, few, maxOfEntry-is))))
-    (omega (arith, maxEntries-is)) (omega (arith, few, maxIntervals-is)))
+unfolding joined spread maxEntries maxIntervals maxOfEntry judged limits
+joined-fine = refl
 
 takes : Accepts entryFull 33 (bodyOf 4) Taken joined
 unfolding gnoTop joined
@@ -168,12 +96,13 @@ roomy = record { type = 33; body = bodyOf 4; out = replicate longestSet 0 }
 
 joined-keyed : GoodKeys joined
 unfolding joined
-joined-keyed = good-join zeros 4 5 entryFull (keyed .0) keyed
+joined-keyed = let good = uuids-good 0 (spread 1024 3 1 ∷ []) in good-join zeros 4 5 entryFull (good .0) good
 
 pub takes-joined : (f : Offering) → OffersExactly f → f .answers (bodyBytes entryFull) roomy ≡ Taken (length (bodyBytes joined))
 takes-joined f exactly =
-    let room : length (bodyBytes joined) ≤ length (roomy .out) = omega (arith, longest joined joined-keyed joined-fine, length-replicate {A = ℕ} longestSet 0) in
-    exactly (bodyBytes entryFull) roomy (Taken (length (bodyBytes joined))) _ (body-bytes 4 small-4) .1 (OfferAnswer.accepted laid takes room) .0
+    let room : length (bodyBytes joined) ≤ length (roomy .out) =
+        omega (arith, longest joined joined-keyed joined-fine, length-replicate {A = ℕ} longestSet 0) in
+    exactly (bodyBytes entryFull) roomy (Taken (length (bodyBytes joined))) _ (body-bytes 4 small-4) .1 (OfferAnswer.accepted entry-full takes room) .0
 
 -- ---- wrong offers
 

@@ -30,6 +30,7 @@ pub mod BodyFaults
 pub mod BodyForced
 -- the set limits, in the rules' numbers
 pub mod LimitsExact
+pub mod AtLimits
 -- every public function
 pub mod IntegersExact
 pub mod WritingExact

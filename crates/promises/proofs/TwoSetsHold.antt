@@ -13,15 +13,15 @@ use Rattle.misc.specs.Pick.{pick}
 use Rattle.misc.specs.Output.{Output, refused, bytes, outputOf, answerOf}
 use Rattle.misc.specs.declared.Wrote.{Wrote}
 use Rattle.misc.proofs.ParseLaws.{no-zero}
-use Rattle.packets.specs.Gno.{interval}
+use Rattle.packets.specs.Gno.{gnoTop, Interval, interval}
 use Rattle.packets.specs.Key.{Key}
 use Rattle.packets.proofs.Tests.{split, clash}
 use Rattle.packets.proofs.Keys.{same-self}
 use Rattle.previous_gtids_event.specs.Entry.{Entry, entry}
 use Rattle.previous_gtids_event.specs.Rewrite.{bodyBytes}
-use Rattle.gtid_sets.specs.Set.{has, SetForm}
+use Rattle.gtid_sets.specs.Set.{has, SetForm, inSetForm}
 use Rattle.gtid_sets.specs.TakeIn.{takeIn}
-use Rattle.gtid_sets.specs.Limits.{Judged, fine, breaks, limits}
+use Rattle.gtid_sets.specs.Limits.{maxEntries, maxIntervals, maxOfEntry, Judged, fine, breaks, judged, limits}
 use Rattle.gtid_sets.specs.Lent.{Lent, form, unfit, lentSet, GoodKeys, SetLaid}
 use Rattle.gtid_sets.specs.Combine.{either, both, without, combined, isEmpty, subset}
 use Rattle.gtid_sets.proofs.FormLaws.{lawful-holds}
@@ -36,8 +36,9 @@ use Rattle.abi.specs.Answers.{bit}
 use Rattle.resume_set_laws.specs.History.{member}
 use Rattle.promises.specs.PlainFaults.{ShortFault, WriteFault}
 use Rattle.promises.specs.Exact.{Exactly}
-use Rattle.promises.specs.TwoSets.{Keeps, PairFault, CombineFault, ResultAs, CombineAnswer, CombinesExactly, ourCalls, WithinAnswer, allIn, ComparesExactly, TwoSets}
+use Rattle.promises.specs.TwoSets.{Keeps, PairFault, CombineFault, ResultAs, CombineAnswer, CombinesExactly, ourCalls, WithinAnswer, allIn, ComparesExactly, Exceeding, TwoSets}
 use Rattle.promises.proofs.LimitsExact.{entry-limit, limits-refuse}
+use Rattle.promises.proofs.AtLimits.{spread, uuids, uuids-laid, fours, oneAndFour, threes, otherThrees}
 use Rattle.promises.proofs.SetsTold.{as-number}
 use Rattle.promises.proofs.SetsExact.{apart, unfit-fault, fault-unfit}
 
@@ -289,6 +290,44 @@ module _ (set : List ℕ) (s : List Entry) (i : SetLaid set s) where
       let all : WithinAnswer set set allIn = WithinAnswer.inside i i (λ k n h. h) in
       (whole either either-itself, whole both both-itself, empty-kept set set allIn all refl, all)
 
+-- ---- results that are too great
+
+module _ (op : Bool → Bool → Bool) (none : op false false ≡ false) (iss jss : List (List Interval)) where
+  too-great : {r : Refusal} → inSetForm (uuids 0 iss) ≡ true → limits (uuids 0 iss) ≡ fine → inSetForm (uuids 0 jss) ≡ true → limits (uuids 0 jss) ≡ fine
+      → limits (combined op (uuids 0 iss) (uuids 0 jss)) ≡ breaks r → Exceeding op (number r)
+  too-great f l g m great =
+      let i = uuids-laid iss f l in
+      let j = uuids-laid jss g m in
+      let is = keeps-combined op none (uuids 0 iss) (uuids 0 jss) (i .formed) (j .formed) in
+      record {
+        first = bodyBytes (uuids 0 iss);
+        second = bodyBytes (uuids 0 jss);
+        s = uuids 0 iss;
+        t = uuids 0 jss;
+        one = i;
+        two = j;
+        refused = limits-refuse (combined op (uuids 0 iss) (uuids 0 jss)) great
+            (λ over this. rw this (CombineFault.crowdedEntry i j is over))
+            (λ over this. rw this (CombineFault.overLimits i j is over));
+      }
+
+crowds-entry : Exceeding either 17 × Exceeding both 17 × Exceeding without 17
+unfolding spread gnoTop maxEntries maxIntervals maxOfEntry judged limits
+crowds-entry = (
+  too-great either refl (fours 1024 ∷ []) (oneAndFour ∷ []) {r = crowded} refl refl refl refl refl,
+  too-great both refl (threes 600 ∷ []) (otherThrees 600 ∷ []) {r = crowded} refl refl refl refl refl,
+  too-great without refl (fours 1024 ∷ []) (oneAndFour ∷ []) {r = crowded} refl refl refl refl refl,
+)
+
+fills-set : Exceeding either 16 × Exceeding both 16 × Exceeding without 16
+unfolding spread gnoTop maxEntries maxIntervals maxOfEntry judged limits
+fills-set = (
+  too-great either refl (fours 512 ∷ fours 1024 ∷ fours 1024 ∷ []) (oneAndFour ∷ []) {r = full} refl refl refl refl refl,
+  too-great both refl (threes 500 ∷ threes 500 ∷ threes 500 ∷ []) (otherThrees 500 ∷ otherThrees 500 ∷ otherThrees 500 ∷ []) {r = full}
+      refl refl refl refl refl,
+  too-great without refl (fours 512 ∷ fours 1024 ∷ fours 1024 ∷ []) (oneAndFour ∷ []) {r = full} refl refl refl refl refl,
+)
+
 pub two-sets : TwoSets
 two-sets = record {
   results = results-exactly;
@@ -299,6 +338,8 @@ two-sets = record {
   members = λ op first second out none zero. result-of op none first second out zero;
   empty = empty-exactly;
   twice = with-itself;
+  crowded = crowds-entry;
+  full = fills-set;
   joined = λ s es f good.
       let l = lawful-holds es good in
       rw (join-is-either es s l f) (keeps-combined either refl s (takeIn es) f (form-takeIn es l));

@@ -1,10 +1,11 @@
 -- Wrong calls over two sets are shut out.
-use Prim.Native.Nat.{ℕ, _+_}
+use Prim.Native.Nat.{ℕ, _+_, _<_}
 use mathlib.Core.Path.{_≡_, refl, sym, ap, _∙_}
 use mathlib.Core.Bool.{Bool, true, false}
 use mathlib.Core.List.{List, [], _∷_}
 use native.Mathlib.Omega.{arith}
-use lib.Dec.{ltb}
+use lib.Dec.{ltb, eqb}
+use borrow.Author.Tests.{eq-eqb}
 use lib.ListN.{getD, replicate}
 use Rattle.misc.specs.Parse.{many, bytesAt, byteAt}
 use Rattle.misc.specs.Body.{bodyLimit}
@@ -26,10 +27,11 @@ use Rattle.gtid_sets.proofs.LentLaws.{is-lent}
 use Rattle.resume_set.specs.Answers.{setRead}
 use Rattle.two_sets.specs.Answers.{combineAnswers, combineLeaves, withinAnswers}
 use Rattle.two_sets.specs.declared.AllWithin.{AllWithin}
-use Rattle.promises.specs.TwoSets.{CombineAnswer, Combiner, CombinesExactly, ourCalls, ComparesExactly}
-use Rattle.promises.specs.WrongOnes.{alone, aloneTagged, onlyOf, staysApart, keepsEmpty, ignoresTag, swapsSets, countsInputs, takesNoSet, comparesLengths, wantsSame}
+use Rattle.promises.specs.PlainFaults.{WriteFault}
+use Rattle.promises.specs.TwoSets.{CombineAnswer, Combiner, CombinesExactly, ourCalls, ComparesExactly, Exceeding}
+use Rattle.promises.specs.WrongOnes.{alone, aloneTagged, onlyOf, staysApart, keepsEmpty, ignoresTag, swapsSets, countsInputs, unjudged, takesNoSet, comparesLengths, wantsSame}
 use Rattle.promises.proofs.TwoSetsHold.{results-exactly, compares-exactly, two-sets}
-use Rattle.promises.proofs.Crowding.{spread-length, entryFull, laid}
+use Rattle.promises.proofs.AtLimits.{spread, entryFull, entry-full}
 
 -- two calls that answer exactly by the cases are one
 same-calls : (op : Bool → Bool → Bool) {f g : Combiner} → CombinesExactly op f → CombinesExactly op g → (first second out : List ℕ)
@@ -133,15 +135,33 @@ abbrev most-bytes : List ℕ
 most-bytes = bodyBytes entryFull
 
 has-most : setRead (lentSet most-bytes) .intervals ≡ 1024
-has-most = ap (λ (l : Lent). setRead l .intervals) (is-lent most-bytes entryFull laid) ∙ omega (arith, spread-length 1024 3)
+unfolding spread
+has-most = ap (λ (l : Lent). setRead l .intervals) (is-lent most-bytes entryFull entry-full)
 
 pub counts-inputs-out : CombinesExactly either countsInputs → ⊥
 counts-inputs-out exactly =
-    let whole = two-sets .twice most-bytes entryFull laid .0 in
+    let whole = two-sets .twice most-bytes entryFull entry-full .0 in
     let (e, _) = exactly most-bytes most-bytes most-bytes _ _ .1 (CombineAnswer.written whole (omega arith)) in
     let more : ltb 1024 (setRead (lentSet most-bytes) .intervals + setRead (lentSet most-bytes) .intervals) ≡ true = rw has-most in
     let differs : _≡_ {A = ℕ} 17 0 = sym (rw more) ∙ ap (λ (w : Wrote). w .refusal) e in
     omega arith
+
+-- ---- results that are not judged
+
+unjudged-says : (n : ℕ) → 0 < n → Exceeding either n → CombinesExactly either (unjudged n) → ⊥
+unjudged-says n some e exactly =
+    let answer : CombineAnswer either (e .first) (e .second) [] (record { refusal = n; len = 0 }) [] = CombineAnswer.refused (WriteFault.itself (e .refused)) in
+    let (ours, _) = results-exactly either refl (e .first) (e .second) [] _ _ .1 answer in
+    let (says, _) = exactly (e .first) (e .second) [] _ _ .1 answer in
+    let this : eqb (combineAnswers either (e .first) (e .second) [] .refusal) n ≡ true = rw ours (eq-eqb n n refl) in
+    let differs : _≡_ {A = ℕ} 0 n = sym (rw this) ∙ ap (λ (w : Wrote). w .refusal) says in
+    omega arith
+
+pub unjudged-entry-out : CombinesExactly either (unjudged 17) → ⊥
+unjudged-entry-out = unjudged-says 17 (omega arith) (two-sets .crowded .0)
+
+pub unjudged-set-out : CombinesExactly either (unjudged 16) → ⊥
+unjudged-set-out = unjudged-says 16 (omega arith) (two-sets .full .0)
 
 -- ---- yes or no
 

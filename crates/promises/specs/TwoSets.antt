@@ -90,6 +90,18 @@ allIn = record { refusal = 0; all = true }
 abbrev pub ComparesExactly : (List ℕ → List ℕ → AllWithin) → Type 0
 ComparesExactly f = (first second : List ℕ) (r : AllWithin) → Exactly (f first second ≡ r) (WithinAnswer first second r)
 
+-- ---- a result that is too great
+
+-- two sets within the limits, whose result is refused with n
+pub record Exceeding (op : Bool → Bool → Bool) (n : ℕ) : Type 0 where
+  pub first : List ℕ
+  pub second : List ℕ
+  pub s : List Entry
+  pub t : List Entry
+  pub one : SetLaid first s
+  pub two : SetLaid second t
+  pub refused : CombineFault op first second n
+
 -- ---- together
 
 pub record TwoSets : Type 0 where
@@ -109,6 +121,9 @@ pub record TwoSets : Type 0 where
   -- one set lent twice
   pub twice : (set : List ℕ) (s : List Entry) → SetLaid set s
       → ResultAs ops.either set set set × ResultAs ops.both set set set × ResultAs ops.without set set (bodyBytes []) × WithinAnswer set set allIn
+  -- every result can pass either limit
+  pub crowded : Exceeding ops.either 17 × Exceeding ops.both 17 × Exceeding ops.without 17
+  pub full : Exceeding ops.either 16 × Exceeding ops.both 16 × Exceeding ops.without 16
   -- a body's ids joined to a set: the ids in either, of the set and of what taking in gives
   pub joined : (s es : List Entry) → SetForm s → lawful es ≡ true → Keeps ops.either s (takeIn es) (union es s)
   -- the archive's calls promise the same right sides; its numbers tell every answer of `within` from every other, 1 being yes

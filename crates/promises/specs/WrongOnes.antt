@@ -257,6 +257,15 @@ countsInputs =
       leaves = λ a b out. pick (ltb 1024 (setRead (lentSet a) .intervals + setRead (lentSet b) .intervals)) out (ourCalls either .leaves a b out);
     }
 
+-- says that a result was written where it is refused with n: both sets are within the limits, and it is not judged
+abbrev pub unjudged : ℕ → Combiner
+unjudged n =
+    record {
+      answers = λ a b out. pick (eqb (ourCalls either .answers a b out .refusal) n) (record { refusal = 0; len = length out })
+          (ourCalls either .answers a b out);
+      leaves = ourCalls either .leaves;
+    }
+
 -- takes bytes that are no set for the empty set: here no bytes at all
 abbrev pub takesNoSet : Combiner
 takesNoSet = onlyOf (alone 1) [] (alone 1) (ourCalls either)

@@ -108,7 +108,7 @@ some-more : (is : List Interval) → Some is → 0 < length is
 some-more [] s = absurd s
 some-more (i ∷ is) s = omega arith
 
-pub more-some : (is : List Interval) → 0 < length is → Some is
+more-some : (is : List Interval) → 0 < length is → Some is
 more-some [] h = absurd (omega arith)
 more-some (i ∷ is) h = tt
 
