@@ -101,7 +101,7 @@ joined-keyed = let good = uuids-good 0 (spread 1024 3 1 ∷ []) in good-join zer
 pub takes-joined : (f : Offering) → OffersExactly f → f .answers (bodyBytes entryFull) roomy ≡ Taken (length (bodyBytes joined))
 takes-joined f exactly =
     let room : length (bodyBytes joined) ≤ length (roomy .out) =
-        omega (arith, longest joined joined-keyed joined-fine, length-replicate {A = ℕ} longestSet 0) in
+    omega (arith, longest joined joined-keyed joined-fine, length-replicate {A = ℕ} longestSet 0) in
     exactly (bodyBytes entryFull) roomy (Taken (length (bodyBytes joined))) _ (body-bytes 4 small-4) .1 (OfferAnswer.accepted entry-full takes room) .0
 
 -- ---- wrong offers

@@ -53,80 +53,86 @@ module _ (op : Bool → Bool → Bool) (none : op false false ≡ false) (first 
       let (_, left) = same-calls op exactly (results-exactly op none) first second room in
       rw (same-self first, same-self second) at left
 
--- ---- pieces that touch: one interval, 1-2
+-- the count of entries, and the count of intervals of a first entry without a tag, in what is left in an output
+abbrev entriesIn : List ℕ → ℕ
+entriesIn l = getD l 0 7
 
-touching : getD (combineLeaves either (alone 1) (alone 2) room) 24 0 ≡ 1
-unfolding outputOf many bytesAt byteAt bodyLimit leOf leBytes leAt gnoTop uuidOf tagOf tagAt keyAt headAt intervalAt entryAt saysTagged saysCount previous intervalsBytes entryBytes entriesBytes anyTag headerBytes bodyBytes maxEntries maxIntervals maxOfEntry judged limits lentSet
-touching = refl
+abbrev intervalsIn : List ℕ → ℕ
+intervalsIn l = getD l 24 7
 
-apart-says : getD (outputOf room (bytes (bodyBytes (entry (replicate 16 0) (interval 1 2 ∷ interval 2 3 ∷ []) ∷ [])))) 24 0 ≡ 2
-unfolding outputOf leBytes uuidOf tagOf intervalsBytes entryBytes entriesBytes anyTag headerBytes bodyBytes
-apart-says = refl
+abbrev writes : List ℕ → List ℕ
+writes bs = outputOf room (bytes bs)
+
+-- what our calls come to, and the wrong ones
+record Computed : Type 0 where
+  -- 1 and 2 touch: one interval
+  touching : intervalsIn (combineLeaves either (alone 1) (alone 2) room) ≡ 1
+  apart : intervalsIn (writes (bodyBytes (entry (replicate 16 0) (interval 1 2 ∷ interval 2 3 ∷ []) ∷ []))) ≡ 2
+  -- an entry that is left empty isn't written
+  left-empty : entriesIn (combineLeaves without (alone 1) (alone 1) room) ≡ 0
+  kept-empty : entriesIn (writes (bodyBytes (entry (replicate 16 0) [] ∷ []))) ≡ 1
+  -- the same uuid with a tag: no id is in both
+  other-key : entriesIn (combineLeaves both (alone 1) (aloneTagged 1) room) ≡ 0
+  -- no bytes are no set: 14, and the output is as it was
+  no-set : entriesIn (combineLeaves either (alone 1) [] room) ≡ 0
+  one-entry : entriesIn (writes (alone 1)) ≡ 1
+  -- {1} without the empty set is {1}, and the other way round nothing is left
+  none-away : combineAnswers without (alone 1) (bodyBytes []) room .len ≡ 48
+  all-away : combineAnswers without (bodyBytes []) (alone 1) room .len ≡ 8
+  -- {1} isn't in {2}, which has as many bytes; and the empty set is in {1}
+  other-id : withinAnswers (alone 1) (alone 2) .all ≡ false
+  as-long : comparesLengths (alone 1) (alone 2) .all ≡ true
+  none-in : withinAnswers (bodyBytes []) (alone 1) .all ≡ true
+  not-same : wantsSame (bodyBytes []) (alone 1) .all ≡ false
+
+computed : Computed
+unfolding outputOf answerOf many bytesAt byteAt bodyLimit leOf leBytes leAt gnoTop uuidOf tagOf tagAt keyAt headAt intervalAt entryAt saysTagged saysCount previous intervalsBytes entryBytes entriesBytes anyTag headerBytes bodyBytes maxEntries maxIntervals maxOfEntry judged limits lentSet varlenAt trailingOnes itemValue isTag allTagBytes varlenBytes varlenSize sizeFrom itemOf
+computed = record {
+  touching = refl;
+  apart = refl;
+  left-empty = refl;
+  kept-empty = refl;
+  other-key = refl;
+  no-set = refl;
+  one-entry = refl;
+  none-away = refl;
+  all-away = refl;
+  other-id = refl;
+  as-long = refl;
+  none-in = refl;
+  not-same = refl;
+}
+
+-- ---- other bytes written
 
 pub stays-apart-out : CombinesExactly either staysApart → ⊥
 stays-apart-out exactly =
     let e = only-says either refl (alone 1) (alone 2) (bodyBytes (entry (replicate 16 0) (interval 1 2 ∷ interval 2 3 ∷ []) ∷ [])) exactly in
-    let differs : _≡_ {A = ℕ} 2 1 = sym apart-says ∙ ap (λ (l : List ℕ). getD l 24 0) e ∙ touching in
+    let differs : _≡_ {A = ℕ} 2 1 = sym (computed .apart) ∙ ap intervalsIn e ∙ computed .touching in
     omega arith
-
--- ---- an entry that is left empty: none is written, and 8 bytes have no entry
-
-left-empty : getD (combineLeaves without (alone 1) (alone 1) room) 0 7 ≡ 0
-unfolding outputOf many bytesAt byteAt bodyLimit leOf leBytes leAt gnoTop uuidOf tagOf tagAt keyAt headAt intervalAt entryAt saysTagged saysCount previous intervalsBytes entryBytes entriesBytes anyTag headerBytes bodyBytes maxEntries maxIntervals maxOfEntry judged limits lentSet
-left-empty = refl
-
-empty-says : getD (outputOf room (bytes (bodyBytes (entry (replicate 16 0) [] ∷ [])))) 0 7 ≡ 1
-unfolding outputOf leBytes uuidOf tagOf intervalsBytes entryBytes entriesBytes anyTag headerBytes bodyBytes
-empty-says = refl
 
 pub keeps-empty-out : CombinesExactly without keepsEmpty → ⊥
 keeps-empty-out exactly =
     let e = only-says without refl (alone 1) (alone 1) (bodyBytes (entry (replicate 16 0) [] ∷ [])) exactly in
-    let differs : _≡_ {A = ℕ} 1 0 = sym empty-says ∙ ap (λ (l : List ℕ). getD l 0 7) e ∙ left-empty in
+    let differs : _≡_ {A = ℕ} 1 0 = sym (computed .kept-empty) ∙ ap entriesIn e ∙ computed .left-empty in
     omega arith
-
--- ---- the same uuid with a tag: no id is in both
-
-other-key : getD (combineLeaves both (alone 1) (aloneTagged 1) room) 0 7 ≡ 0
-unfolding outputOf many bytesAt byteAt bodyLimit leOf leBytes leAt gnoTop uuidOf tagOf tagAt keyAt headAt intervalAt entryAt saysTagged saysCount previous intervalsBytes entryBytes entriesBytes anyTag headerBytes bodyBytes maxEntries maxIntervals maxOfEntry judged limits lentSet varlenAt trailingOnes itemValue isTag allTagBytes varlenBytes varlenSize sizeFrom itemOf
-other-key = refl
-
-tag-says : getD (outputOf room (bytes (alone 1))) 0 7 ≡ 1
-unfolding outputOf leBytes uuidOf tagOf intervalsBytes entryBytes entriesBytes anyTag headerBytes bodyBytes
-tag-says = refl
 
 pub ignores-tag-out : CombinesExactly both ignoresTag → ⊥
 ignores-tag-out exactly =
     let e = only-says both refl (alone 1) (aloneTagged 1) (alone 1) exactly in
-    let differs : _≡_ {A = ℕ} 1 0 = sym tag-says ∙ ap (λ (l : List ℕ). getD l 0 7) e ∙ other-key in
+    let differs : _≡_ {A = ℕ} 1 0 = sym (computed .one-entry) ∙ ap entriesIn e ∙ computed .other-key in
     omega arith
-
--- ---- no bytes taken for the empty set: 14, and the output as it was
-
-no-set-left : getD (combineLeaves either (alone 1) [] room) 0 7 ≡ 0
-unfolding outputOf many bytesAt byteAt bodyLimit leOf leBytes leAt gnoTop uuidOf tagOf tagAt keyAt headAt intervalAt entryAt saysTagged saysCount previous intervalsBytes entryBytes entriesBytes anyTag headerBytes bodyBytes maxEntries maxIntervals maxOfEntry judged limits lentSet
-no-set-left = refl
 
 pub takes-no-set-out : CombinesExactly either takesNoSet → ⊥
 takes-no-set-out exactly =
     let e = only-says either refl (alone 1) [] (alone 1) exactly in
-    let differs : _≡_ {A = ℕ} 1 0 = sym tag-says ∙ ap (λ (l : List ℕ). getD l 0 7) e ∙ no-set-left in
+    let differs : _≡_ {A = ℕ} 1 0 = sym (computed .one-entry) ∙ ap entriesIn e ∙ computed .no-set in
     omega arith
-
--- ---- the first set taken away from the second: {1} without the empty set is {1}
-
-none-away : combineAnswers without (alone 1) (bodyBytes []) room .len ≡ 48
-unfolding answerOf many bytesAt byteAt bodyLimit leOf leBytes leAt gnoTop uuidOf tagOf tagAt keyAt headAt intervalAt entryAt saysTagged saysCount previous intervalsBytes entryBytes entriesBytes anyTag headerBytes bodyBytes maxEntries maxIntervals maxOfEntry judged limits lentSet
-none-away = refl
-
-all-away : combineAnswers without (bodyBytes []) (alone 1) room .len ≡ 8
-unfolding answerOf many bytesAt byteAt bodyLimit leOf leBytes leAt gnoTop uuidOf tagOf tagAt keyAt headAt intervalAt entryAt saysTagged saysCount previous intervalsBytes entryBytes entriesBytes anyTag headerBytes bodyBytes maxEntries maxIntervals maxOfEntry judged limits lentSet
-all-away = refl
 
 pub swaps-sets-out : CombinesExactly without swapsSets → ⊥
 swaps-sets-out exactly =
     let (e, _) = same-calls without exactly (results-exactly without refl) (alone 1) (bodyBytes []) room in
-    let differs : _≡_ {A = ℕ} 8 48 = sym all-away ∙ ap (λ (w : Wrote). w .len) e ∙ none-away in
+    let differs : _≡_ {A = ℕ} 8 48 = sym (computed .all-away) ∙ ap (λ (w : Wrote). w .len) e ∙ computed .none-away in
     omega arith
 
 -- ---- limits of the sets that are lent: an entry with 1,024 intervals and itself
@@ -165,27 +171,10 @@ unjudged-set-out = unjudged-says 16 (omega arith) (two-sets .full .0)
 
 -- ---- yes or no
 
--- {1} isn't in {2}, which has as many bytes; and the empty set is in {1}
-other-id : withinAnswers (alone 1) (alone 2) .all ≡ false
-unfolding many bytesAt byteAt bodyLimit leOf leBytes leAt gnoTop uuidOf tagOf tagAt keyAt headAt intervalAt entryAt saysTagged saysCount previous intervalsBytes entryBytes entriesBytes anyTag headerBytes bodyBytes maxEntries maxIntervals maxOfEntry judged limits lentSet
-other-id = refl
-
-as-long : comparesLengths (alone 1) (alone 2) .all ≡ true
-unfolding many bytesAt byteAt bodyLimit leOf leBytes leAt gnoTop uuidOf tagOf tagAt keyAt headAt intervalAt entryAt saysTagged saysCount previous intervalsBytes entryBytes entriesBytes anyTag headerBytes bodyBytes maxEntries maxIntervals maxOfEntry judged limits lentSet
-as-long = refl
-
 pub compares-lengths-out : ComparesExactly comparesLengths → ⊥
 compares-lengths-out exactly =
-    clash (sym (ap (λ (r : AllWithin). r .all) (same-says exactly compares-exactly (alone 1) (alone 2))) ∙ as-long) other-id
-
-none-in : withinAnswers (bodyBytes []) (alone 1) .all ≡ true
-unfolding many bytesAt byteAt bodyLimit leOf leBytes leAt gnoTop uuidOf tagOf tagAt keyAt headAt intervalAt entryAt saysTagged saysCount previous intervalsBytes entryBytes entriesBytes anyTag headerBytes bodyBytes maxEntries maxIntervals maxOfEntry judged limits lentSet
-none-in = refl
-
-not-same : wantsSame (bodyBytes []) (alone 1) .all ≡ false
-unfolding many bytesAt byteAt bodyLimit leOf leBytes leAt gnoTop uuidOf tagOf tagAt keyAt headAt intervalAt entryAt saysTagged saysCount previous intervalsBytes entryBytes entriesBytes anyTag headerBytes bodyBytes maxEntries maxIntervals maxOfEntry judged limits lentSet
-not-same = refl
+    clash (sym (ap (λ (r : AllWithin). r .all) (same-says exactly compares-exactly (alone 1) (alone 2))) ∙ computed .as-long) (computed .other-id)
 
 pub wants-same-out : ComparesExactly wantsSame → ⊥
 wants-same-out exactly =
-    clash none-in (sym (ap (λ (r : AllWithin). r .all) (same-says exactly compares-exactly (bodyBytes []) (alone 1))) ∙ not-same)
+    clash (computed .none-in) (sym (ap (λ (r : AllWithin). r .all) (same-says exactly compares-exactly (bodyBytes []) (alone 1))) ∙ computed .not-same)

@@ -5,7 +5,8 @@ use misc::le::read_u64_le;
 use packets::KeyOrder;
 use packets::key_order;
 ghost use mathlib.Core.Path.{_≡_};
-ghost use Prim.Native.Nat.{_<_};
+ghost use Prim.Native.Nat.{_+_, _≤_};
+ghost use lib.ListN.{length};
 ghost use Rattle.packets.specs.Key.{order, orElse, orderRead};
 ghost use Rattle.set_check.specs.Places.{numberAt, placeFrom, nowhere, orNowhere, placeIn};
 
@@ -47,18 +48,15 @@ fn nowhere() -> EntryPlace
     }
 }
 
-// The entry whose tag is in so many bytes from `tag_at` on.
+// The entry whose tag is in so many bytes from `tag_at` on, with its count behind it.
 fn place_from(set: &[u8], tag_at: usize, tag_len: usize) -> EntryPlace
-    requires { ⌜ «tag_len» < 256 ⌝ }
+    requires { ⌜ «tag_at» + «tag_len» + 8 ≤ length (now set) ⌝ }
     ensures { λ r. ⌜ r ≡ orNowhere (now (set .entry)) (placeFrom (now (set .entry)) «tag_at» «tag_len») ⌝ }
 {
-    if left_at(set, tag_at) < tag_len + 8 {
-        return nowhere();
-    }
     let counted = tag_at + tag_len;
     let count = number_at(set, counted) as usize;
     let first = counted + 8;
-    if left_at(set, first) / 16 < count {
+    if (set.len() - first) / 16 < count {
         return nowhere();
     }
     EntryPlace {
@@ -75,12 +73,16 @@ fn place_from(set: &[u8], tag_at: usize, tag_len: usize) -> EntryPlace
 pub fn place_at(set: &[u8], at: usize, tagged: bool) -> EntryPlace
     ensures { λ r. ⌜ r ≡ placeIn tagged (now (set .entry)) at ⌝ }
 {
-    if left_at(set, at) < 24 {
+    let left = left_at(set, at);
+    if left < 24 {
         return nowhere();
     }
     if tagged {
-        let twice = wide(set[at + 16]);
-        return place_from(set, at + 17, twice / 2);
+        let tag_len = wide(set[at + 16]) / 2;
+        if left < 25 + tag_len {
+            return nowhere();
+        }
+        return place_from(set, at + 17, tag_len);
     }
     place_from(set, at + 16, 0)
 }

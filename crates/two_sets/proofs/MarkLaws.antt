@@ -24,7 +24,7 @@ use Rattle.gtid_sets.proofs.Bools.{or-false-parts}
 use Rattle.gtid_sets.proofs.SweepLaws.{lower, sweep-lt, sweep-eq, sweep-gt}
 use Rattle.set_check.specs.Places.{numberAt}
 use Rattle.set_check.proofs.PlaceLaws.{Bytes, number-stands}
-use Rattle.two_sets.specs.Marks.{saidBy, marksAt, marksOf, nextMark, passedSide, leftOf, going, anyMark, allIf, flipped, oneIf, SideIs, SidesAre, TurnIs, NextIs, marksBytes}
+use Rattle.two_sets.specs.Marks.{saidBy, marksAt, marksOf, nextMark, passedSide, leftOf, going, anyMark, allIf, flipped, oneIf, SideIs, SidesAre, TurnIs, NextIs, marksBytes, MarksPut}
 use Rattle.two_sets.specs.declared.Operation.{Operation}
 use Rattle.two_sets.specs.declared.Operation.the-variants as operation
 use Rattle.two_sets.specs.declared.Side.{Side}
@@ -264,12 +264,16 @@ module _ (op : Bool → Bool → Bool) (bs cs : List ℕ) (l₀ : List ℕ) (at 
           still = λ y. absurd (omega arith);
         }
 
-    module _ (last : next .flips ≡ false) where
-      pub putting-all : count ≡ length all
-      putting-all = let w = rw (last, g .none last) at (g .whole) in omega (arith, w)
-
-      pub putting-fits : WhereFits l₀ at (marksBytes all) out (at + 8 * count)
-      putting-fits = g .goes-on out (at + 8 * count) (rw (last, g .none last) (put-nothing out (at + 8 * count)))
+    pub putting-all : next .flips ≡ false → (s : Sides) → going op bs cs s ≡ all → most ≤ leftOf s → MarksPut (going op bs cs s) (leftOf s) l₀ at out count
+    putting-all last s e few =
+        let none = g .none last in
+        let w = rw (last, none) at (g .whole) in
+        record {
+          counted = rw e (omega (arith, w));
+          few = omega (arith, g .few);
+          fits = rw e (g .goes-on out (at + 8 * count) (rw (last, none) (put-nothing out (at + 8 * count))));
+          none = g .still;
+        }
 
 -- ---- a key that only one of the sets has
 
@@ -334,27 +338,24 @@ marks-stand bs ok (suc n) at h =
     part-two : (l : List ℕ) (at m n : ℕ) → part l at (m + n) ≡ part l at m ++ part l (at + m) n
     part-two l at m n = take-add m n (drop at l) ∙ rw (drop-drop m at l)
 
-module _ (bs : List ℕ) (s : Side) (i : SideIs bs s) (ok : Bytes bs) (out : List ℕ) (at : ℕ) where
-  pub none-kept : (kept : Bool) → kept ≡ false
-      → (0 ≡ length (allIf kept (marksOf bs s))) × WhereFits out at (marksBytes (allIf kept (marksOf bs s))) out (at + 8 * 0)
-  none-kept kept e = let z : at + 8 * 0 ≡ at = omega arith in rw (e, z) (refl, put-nothing out at)
+module _ (bs : List ℕ) (s : Side) (i : SideIs bs s) (out : List ℕ) (at : ℕ) (kept : Bool) where
+  pub none-kept : kept ≡ false → MarksPut (allIf kept (marksOf bs s)) (s .left) out at out 0
+  none-kept e =
+      let z : at + 8 * 0 ≡ at = omega arith in
+      rw e (record { counted = refl; few = omega arith; fits = rw z (put-nothing out at); none = λ _. refl })
 
-  pub all-kept : (kept : Bool) → kept ≡ true → (out′ : List ℕ) (r : ℕ) → WhereFits out at (part bs (s .at) (8 * s .left)) out′ r
-      → (s .left ≡ length (allIf kept (marksOf bs s))) × WhereFits out at (marksBytes (allIf kept (marksOf bs s))) out′ (at + 8 * s .left)
-  all-kept kept e out′ r p = rw e (
-    sym (marks-count (s .left) bs (s .at)),
-    rw (marks-stand bs ok (s .left) (s .at) (i .there))
+  pub all-kept : kept ≡ true → Bytes bs → (out′ : List ℕ) (r : ℕ) → WhereFits out at (part bs (s .at) (8 * s .left)) out′ r
+      → out′ ≡ putAt out at (part bs (s .at) (8 * s .left)) → MarksPut (allIf kept (marksOf bs s)) (s .left) out at out′ (s .left)
+  all-kept e ok out′ r p is = rw e (record {
+    counted = sym (marks-count (s .left) bs (s .at));
+    few = omega arith;
+    fits = rw (marks-stand bs ok (s .left) (s .at) (i .there))
         (record {
-          placed = λ room. record {
-            holds = p .placed room .holds;
-            ends = rw (part-length (8 * s .left) bs (s .at) (i .there));
-          };
-        }),
-  )
+          placed = λ room. record { holds = p .placed room .holds; ends = rw (part-length (8 * s .left) bs (s .at) (i .there)) };
+        });
+    none = λ z. let nothing : part bs (s .at) (8 * s .left) ≡ [] = rw z in is ∙ rw nothing (sym (output.put-nothing out at .1));
+  })
 
--- where there are none, nothing is written
-pub nothing-put : (bs : List ℕ) (s : Side) (out : List ℕ) (at : ℕ) → s .left ≡ 0 → (out′ : List ℕ)
-    → out′ ≡ putAt out at (part bs (s .at) (8 * s .left)) → out′ ≡ out
-nothing-put bs s out at z out′ e =
-    let none : part bs (s .at) (8 * s .left) ≡ [] = rw z in
-    e ∙ rw none (sym (output.put-nothing out at .1))
+-- the same marks
+pub marks-are : {ms ns l l′ : List ℕ} {m n at r : ℕ} → ms ≡ ns → m ≤ n → MarksPut ms m l at l′ r → MarksPut ns n l at l′ r
+marks-are e more h = rw (← e) (record { counted = h .counted; few = omega (arith, h .few); fits = h .fits; none = h .none })

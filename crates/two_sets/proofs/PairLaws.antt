@@ -1,21 +1,19 @@
 -- Laws of the walk over the entries of two sets: the next entry of a set, and the next key of two.
 use Prim.Native.Nat.{ℕ, zero, suc, _+_, _-_, _*_, _<_, _≤_, Ordering, Ordering·lt, Ordering·eq, Ordering·gt}
 use mathlib.Core.Path.{_≡_, refl, sym, ap, _∙_}
+use mathlib.Core.Logic.{inl, inr}
 use mathlib.Core.Bool.{Bool, true, false}
 use mathlib.Core.List.{List, [], _∷_, _++_}
 use native.Mathlib.Omega.{arith}
-use lib.Dec.{ltb}
 use lib.ListN.{length}
-use borrow.Author.Tests.{ltb-true}
 use Rattle.misc.specs.Parse.{part}
 use Rattle.misc.proofs.ParseLaws.{part-length}
 use Rattle.packets.specs.Gno.{Interval}
 use Rattle.packets.specs.Key.{Key, order, orElse, orderRead}
 use Rattle.packets.specs.declared.KeyOrder.{KeyOrder}
 use Rattle.packets.specs.declared.KeyOrder.the-variants.{Before, Same, After}
-use Rattle.packets.proofs.Tests.{split, tests}
 use Rattle.packets.proofs.Keys.{flip, order-eq, order-flip, order-append}
-use Rattle.previous_gtids_event.specs.Entry.{Entry, entry, tagOf}
+use Rattle.previous_gtids_event.specs.Entry.{entry, tagOf}
 use Rattle.previous_gtids_event.specs.Previous.{GoodKey}
 use Rattle.previous_gtids_event.proofs.Reading.{tag-of, none-or-tag-short}
 use Rattle.gtid_sets.specs.Interval.{Gapped}
@@ -28,9 +26,10 @@ use Rattle.set_check.specs.Places.{numberAt, intervalsAt, placeAt, placeIn, key
 use Rattle.set_check.specs.declared.EntryPlace.{EntryPlace}
 use Rattle.set_check.proofs.EntryPlaces.{place-here}
 use Rattle.two_sets.specs.Marks.{marksAt, marksOf, SideIs}
-use Rattle.two_sets.specs.Pairs.{entriesLeft, CursorIs, CursorsAre, entriesOfBoth, combining, nextOrder, sideOf, noSide, keyPlace, beyondOf, pairOf, Moving, keyIn, PairIs}
+use Rattle.two_sets.specs.Pairs.{entriesLeft, CursorIs, CursorsAre, combining, uuidsOrder, UuidNext, sideOf, noSide, keyPlace, beyondOf, ofFirst, ofSecond, ofBoth, Moves, keyIn, PairIs}
 use Rattle.two_sets.specs.declared.Cursor.{Cursor}
 use Rattle.two_sets.specs.declared.Cursors.{Cursors}
+use Rattle.two_sets.specs.declared.Pair.{Pair}
 
 -- intervals that stand at a place are marks that stand there
 marks-at : (n : ℕ) (bs : List ℕ) (at : ℕ) → marksAt (2 * n) bs at ≡ marks (intervalsAt n bs at)
@@ -103,6 +102,9 @@ ahead bs c p i some told = go (c .left) (omega arith) (i .there) (i .formed) (i 
     go zero e t f g h = absurd (omega arith)
     go (suc n) e t f g h = rw (told ∙ place-here bs (c .tagged) (c .at) (t .0)) (rw e at (ahead-at bs (c .tagged) (c .at) n t f g (i .small)))
 
+pub uuid-fits : (bs : List ℕ) (c : Cursor) → CursorIs bs c → 0 < c .left → c .at + 16 ≤ length bs
+uuid-fits bs c i some = ahead bs c (placeIn (c .tagged) bs (c .at)) i some refl .uuid-inside
+
 -- no entry is left
 none-ahead : (bs : List ℕ) (c : Cursor) → c .left ≡ 0 → entriesLeft bs c ≡ []
 none-ahead bs c e = rw e
@@ -112,33 +114,6 @@ none-combined op bs cs c p q = rw (p, q)
 
 no-side : (bs : List ℕ) → SideIs bs noSide
 no-side bs = record { there = omega arith; rises = tt }
-
--- ---- the order of the next keys
-
-pub order-ends : (bs cs : List ℕ) (c d : Cursor) → d .left ≡ 0 → Before ≡ orderRead (nextOrder (entriesLeft bs c) (entriesLeft cs d))
-order-ends bs cs c d z = rw z (go (entriesLeft bs c))
-  where
-    go : (s : List Entry) → Before ≡ orderRead (nextOrder s [])
-    go [] = refl
-    go (entry k is ∷ s) = refl
-
-module _ (bs cs : List ℕ) (c d : Cursor) (p q : EntryPlace) (i : CursorIs bs c) (j : CursorIs cs d) (tp : p ≡ placeIn (c .tagged) bs (c .at))
-    (tq : q ≡ placeIn (d .tagged) cs (d .at)) (more : 0 < d .left) where
-  abbrev y : Ahead cs d q
-  y = ahead cs d q j more tq
-
-  pub order-begins : c .left ≡ 0 → After ≡ orderRead (nextOrder (entriesLeft bs c) (entriesLeft cs d))
-  order-begins z = rw (z, y .is)
-
-  pub order-told : (some : 0 < c .left) (r : KeyOrder)
-      → r ≡ orderRead (orElse (order (part bs (c .at) 16) (part cs (d .at) 16))
-      (order (part bs (p .«tag_at») (p .«tag_len»)) (part cs (q .«tag_at») (q .«tag_len»))))
-      → r ≡ orderRead (nextOrder (entriesLeft bs c) (entriesLeft cs d))
-  order-told some r told =
-      let x = ahead bs c p i some tp in
-      told ∙ ap orderRead (sym (order-append (part bs (c .at) 16) (part cs (d .at) 16)
-      (part bs (p .«tag_at») (p .«tag_len»)) (part cs (q .«tag_at») (q .«tag_len»))
-      (x .uuid ∙ sym (y .uuid)))) ∙ rw (x .is, y .is)
 
 -- ---- the next key of two
 
@@ -150,6 +125,12 @@ module _ (bs cs : List ℕ) (c : Cursors) (i : CursorsAre bs cs c) (p q : EntryP
   abbrev secondKey : Key
   secondKey = keyIn bs cs (keyPlace false (c .second) q)
 
+  -- what is made of it, by the order of the tags
+  abbrev pairOf : KeyOrder → Pair
+  pairOf Before = ofFirst c p
+  pairOf Same = ofBoth c p q
+  pairOf After = ofSecond c q
+
   abbrev inFirst : 0 < c .first .left → Ahead bs (c .first) p
   inFirst some = ahead bs (c .first) p (i .first) some tp
 
@@ -160,7 +141,7 @@ module _ (bs cs : List ℕ) (c : Cursors) (i : CursorsAre bs cs c) (p q : EntryP
       → let x : Ahead bs (c .first) p = inFirst some in
       ((op : Bool → Bool → Bool) → combined op (entry firstKey (x .list) ∷ entriesLeft bs (beyondOf (c .first) p)) (entriesLeft cs (c .second))
       ≡ keep firstKey (swept op (x .list) []) (combined op (entriesLeft bs (beyondOf (c .first) p)) (entriesLeft cs (c .second))))
-      → PairIs bs cs c (pairOf c p q Before)
+      → PairIs bs cs c (ofFirst c p)
   alone-first some goes =
       let x = inFirst some in
       record {
@@ -177,7 +158,7 @@ module _ (bs cs : List ℕ) (c : Cursors) (i : CursorsAre bs cs c) (p q : EntryP
       → let y : Ahead cs (c .second) q = inSecond some in
       ((op : Bool → Bool → Bool) → combined op (entriesLeft bs (c .first)) (entry secondKey (y .list) ∷ entriesLeft cs (beyondOf (c .second) q))
       ≡ keep secondKey (swept op [] (y .list)) (combined op (entriesLeft bs (c .first)) (entriesLeft cs (beyondOf (c .second) q))))
-      → PairIs bs cs c (pairOf c p q After)
+      → PairIs bs cs c (ofSecond c q)
   alone-second some goes =
       let y = inSecond some in
       record {
@@ -191,7 +172,7 @@ module _ (bs cs : List ℕ) (c : Cursors) (i : CursorsAre bs cs c) (p q : EntryP
       }
 
   both-have : (some : 0 < c .first .left) (more : 0 < c .second .left) → firstKey ≡ secondKey
-      → PairIs bs cs c (pairOf c p q Same)
+      → PairIs bs cs c (ofBoth c p q)
   both-have some more k =
       let x = inFirst some in
       let y = inSecond more in
@@ -206,47 +187,58 @@ module _ (bs cs : List ℕ) (c : Cursors) (i : CursorsAre bs cs c) (p q : EntryP
         grows = omega (arith, x .grows, y .grows);
       }
 
-  -- what the order of the next keys says of the entries that are left
-  pub record Ways (o : KeyOrder) : Type 0 where
-    pub moving : Moving c p q o
-    pub pair : PairIs bs cs c (pairOf c p q o)
+  keys-order : (some : 0 < c .first .left) (more : 0 < c .second .left)
+      → order firstKey secondKey ≡ orElse (uuidsOrder bs cs c)
+      (order (part bs (p .«tag_at») (p .«tag_len»)) (part cs (q .«tag_at») (q .«tag_len»)))
+  keys-order some more = order-append (part bs (c .first .at) 16) (part cs (c .second .at) 16)
+      (part bs (p .«tag_at») (p .«tag_len»)) (part cs (q .«tag_at») (q .«tag_len»)) (inFirst some .uuid ∙ sym (inSecond more .uuid))
 
-  -- the next key is in the first alone
-  way-before : (some : 0 < c .first .left) → PairIs bs cs c (pairOf c p q Before) → Ways Before
-  way-before some is = record { moving = (some, inFirst some .few); pair = is }
-
-  way-after : (some : 0 < c .second .left) → PairIs bs cs c (pairOf c p q After) → Ways After
-  way-after some is = record { moving = (some, inSecond some .few); pair = is }
-
-  -- both sets have entries left
-  way-of-both : (some : 0 < c .first .left) (more : 0 < c .second .left) (o : Ordering)
-      → order firstKey secondKey ≡ o → Ways (orderRead o)
-  way-of-both some more Ordering·lt e =
+  before : (some : 0 < c .first .left) (more : 0 < c .second .left) → order firstKey secondKey ≡ Ordering·lt → PairIs bs cs c (ofFirst c p)
+  before some more e =
       let x = inFirst some in
       let y = inSecond more in
-      way-before some (alone-first some (λ op. rw (y .is) (combined-lt op firstKey secondKey
-      (x .list) (y .list) (entriesLeft bs (beyondOf (c .first) p)) (entriesLeft cs (beyondOf (c .second) q)) e)))
-  way-of-both some more Ordering·eq e = record {
-    moving = ((some, inFirst some .few), (more, inSecond more .few));
-    pair = both-have some more (order-eq firstKey secondKey e);
-  }
-  way-of-both some more Ordering·gt e =
+      alone-first some (λ op. rw (y .is) (combined-lt op firstKey secondKey
+      (x .list) (y .list) (entriesLeft bs (beyondOf (c .first) p)) (entriesLeft cs (beyondOf (c .second) q)) e))
+
+  after : (some : 0 < c .first .left) (more : 0 < c .second .left) → order firstKey secondKey ≡ Ordering·gt → PairIs bs cs c (ofSecond c q)
+  after some more e =
       let x = inFirst some in
       let y = inSecond more in
-      way-after more (alone-second more (λ op. rw (x .is) (combined-gt op firstKey secondKey
-      (x .list) (y .list) (entriesLeft bs (beyondOf (c .first) p)) (entriesLeft cs (beyondOf (c .second) q)) (order-flip firstKey secondKey ∙ ap flip e))))
+      alone-second more (λ op. rw (x .is) (combined-gt op firstKey secondKey
+      (x .list) (y .list) (entriesLeft bs (beyondOf (c .first) p)) (entriesLeft cs (beyondOf (c .second) q)) (order-flip firstKey secondKey ∙ ap flip e)))
 
-  pub ways : 0 < entriesOfBoth c → (o : KeyOrder) → o ≡ orderRead (nextOrder (entriesLeft bs (c .first)) (entriesLeft cs (c .second))) → Ways o
-  ways left o told = split (ltb 0 (c .second .left))
-      (λ h. let more : 0 < c .second .left = ltb-true 0 (c .second .left) h in
-      split (ltb 0 (c .first .left))
-      (λ k. let some : 0 < c .first .left = ltb-true 0 (c .first .left) k in
-      let is : o ≡ orderRead (order firstKey secondKey) = told ∙ rw (inFirst some .is, inSecond more .is) in
-      rw is (way-of-both some more (order firstKey secondKey) refl))
-      (λ k. let gone : c .first .left ≡ 0 = omega tests in
-      rw (told ∙ sym (order-begins bs cs (c .first) (c .second) p q (i .first) (i .second) tp tq more gone))
-      (way-after more (alone-second more (λ op. rw (none-ahead bs (c .first) gone))))))
-      (λ h. let gone : c .second .left ≡ 0 = omega tests in
-      let some : 0 < c .first .left = omega arith in
-      rw (told ∙ sym (order-ends bs cs (c .first) (c .second) gone))
-      (way-before some (alone-first some (λ op. rw (none-ahead cs (c .second) gone)))))
+  -- the first set has the next uuid alone, or the second
+  pub first-next : UuidNext bs cs c Before → Moves (c .first) p × PairIs bs cs c (ofFirst c p)
+  first-next (some, inl gone) = ((some, inFirst some .few), alone-first some (λ op. rw (none-ahead cs (c .second) gone)))
+  first-next (some, inr (more, e)) = ((some, inFirst some .few), before some more (keys-order some more ∙ rw e))
+
+  pub second-next : UuidNext bs cs c After → Moves (c .second) q × PairIs bs cs c (ofSecond c q)
+  second-next (more, inl gone) = ((more, inSecond more .few), alone-second more (λ op. rw (none-ahead bs (c .first) gone)))
+  second-next (more, inr (some, e)) = ((more, inSecond more .few), after some more (keys-order some more ∙ rw e))
+
+  -- both have it
+  module _ (n : UuidNext bs cs c Same) where
+    pub tags-inside : (p .«tag_at» + p .«tag_len» ≤ length bs) × (q .«tag_at» + q .«tag_len» ≤ length cs)
+    tags-inside = (inFirst (n .0) .tag-inside, inSecond (n .1) .tag-inside)
+
+    pub both-move : Moves (c .first) p × Moves (c .second) q
+    both-move = ((n .0, inFirst (n .0) .few), (n .1, inSecond (n .1) .few))
+
+    by-tags : (o : Ordering) → order (part bs (p .«tag_at») (p .«tag_len»)) (part cs (q .«tag_at») (q .«tag_len»)) ≡ o → PairIs bs cs c (pairOf (orderRead o))
+    by-tags Ordering·lt e = before (n .0) (n .1) (keys-order (n .0) (n .1) ∙ rw (n .2, e))
+    by-tags Ordering·eq e = both-have (n .0) (n .1) (order-eq firstKey secondKey (keys-order (n .0) (n .1) ∙ rw (n .2, e)))
+    by-tags Ordering·gt e = after (n .0) (n .1) (keys-order (n .0) (n .1) ∙ rw (n .2, e))
+
+    pub tags-say : (r : KeyOrder) → r ≡ orderRead (order (part bs (p .«tag_at») (p .«tag_len»)) (part cs (q .«tag_at») (q .«tag_len»)))
+        → PairIs bs cs c (pairOf r)
+    tags-say r told = rw told (by-tags _ refl)
+
+-- the order of two uuids
+pub uuids-say : (bs cs : List ℕ) (c : Cursors) → 0 < c .first .left → 0 < c .second .left → (r : KeyOrder)
+    → r ≡ orderRead (uuidsOrder bs cs c) → UuidNext bs cs c r
+uuids-say bs cs c some more r told = rw told (go (uuidsOrder bs cs c) refl)
+  where
+    go : (o : Ordering) → uuidsOrder bs cs c ≡ o → UuidNext bs cs c (orderRead o)
+    go Ordering·lt e = (some, inr (more, e))
+    go Ordering·eq e = (some, more, e)
+    go Ordering·gt e = (more, inr (some, e))

@@ -5,6 +5,7 @@ use mathlib.Core.Bool.{Bool, true, false}
 use mathlib.Core.List.{List, [], _∷_, _++_}
 use lib.ListN.{length}
 use Rattle.misc.specs.Le.{leBytes}
+use Rattle.misc.specs.Output.{WhereFits}
 use Rattle.gtid_sets.specs.Combine.{either, both, without, sweep, Rising}
 use Rattle.set_check.specs.Places.{numberAt}
 use Rattle.two_sets.specs.declared.Operation.{Operation}
@@ -84,6 +85,15 @@ pub record NextIs (op : Bool → Bool → Bool) (bs cs : List ℕ) (s : Sides) (
   pub sides : SidesAre bs cs (r .sides)
   pub less : oneIf (r .flips) + leftOf (r .sides) ≤ leftOf s
 
+-- ---- writing
+
 unfoldable pub marksBytes : List ℕ → List ℕ
 marksBytes [] = []
 marksBytes (m ∷ ms) = leBytes 8 m ++ marksBytes ms
+
+-- marks are written from a place on, where there is room, and counted; none of them, and nothing is touched
+pub record MarksPut (ms : List ℕ) (most : ℕ) (l : List ℕ) (at : ℕ) (l′ : List ℕ) (r : ℕ) : Type 0 where
+  pub counted : r ≡ length ms
+  pub few : r ≤ most
+  pub fits : WhereFits l at (marksBytes ms) l′ (at + 8 * r)
+  pub none : r ≡ 0 → l′ ≡ l

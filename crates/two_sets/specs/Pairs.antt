@@ -1,15 +1,16 @@
 -- The entries of two sets, one key after another, as they stand in the bytes.
-use Prim.Native.Nat.{ℕ, _+_, _-_, _*_, _<_, _≤_, Ordering, Ordering·lt, Ordering·gt}
+use Prim.Native.Nat.{ℕ, _+_, _-_, _*_, _<_, _≤_, Ordering, Ordering·lt, Ordering·eq, Ordering·gt}
 use mathlib.Core.Path.{_≡_}
+use mathlib.Core.Logic.{_⊎_}
 use mathlib.Core.Bool.{Bool, true, false}
-use mathlib.Core.List.{List, [], _∷_, _++_}
+use mathlib.Core.List.{List, _++_}
 use lib.ListN.{length}
 use Rattle.misc.specs.Pick.{pick}
 use Rattle.misc.specs.Parse.{part}
 use Rattle.packets.specs.Key.{Key, order}
 use Rattle.packets.specs.declared.KeyOrder.{KeyOrder}
 use Rattle.packets.specs.declared.KeyOrder.the-variants.{Before, Same, After}
-use Rattle.previous_gtids_event.specs.Entry.{Entry, entry}
+use Rattle.previous_gtids_event.specs.Entry.{Entry}
 use Rattle.previous_gtids_event.specs.Previous.{GoodKey}
 use Rattle.gtid_sets.specs.Set.{SetForm}
 use Rattle.gtid_sets.specs.Lent.{GoodKeys}
@@ -50,13 +51,17 @@ placesOfBoth c = c .first .at + c .second .at
 abbrev pub combining : (Bool → Bool → Bool) → List ℕ → List ℕ → Cursors → List Entry
 combining op bs cs c = combined op (entriesLeft bs (c .first)) (entriesLeft cs (c .second))
 
--- ---- what `next_order` and `pair_of` make
+-- ---- the next key
 
--- which of two sets has the next key; the first where neither has one
-abbrev pub nextOrder : List Entry → List Entry → Ordering
-nextOrder s [] = Ordering·lt
-nextOrder [] (e ∷ t) = Ordering·gt
-nextOrder (entry k is ∷ s) (entry j js ∷ t) = order k j
+-- how the uuids of the next entries stand to each other
+abbrev pub uuidsOrder : List ℕ → List ℕ → Cursors → Ordering
+uuidsOrder bs cs c = order (part bs (c .first .at) 16) (part cs (c .second .at) 16)
+
+-- which of two sets has the next uuid: the first, both or the second; where one has no entry left, the other has it
+abbrev pub UuidNext : List ℕ → List ℕ → Cursors → KeyOrder → Type 0
+UuidNext bs cs c Before = (0 < c .first .left) × ((c .second .left ≡ 0) ⊎ ((0 < c .second .left) × (uuidsOrder bs cs c ≡ Ordering·lt)))
+UuidNext bs cs c Same = (0 < c .first .left) × (0 < c .second .left) × (uuidsOrder bs cs c ≡ Ordering·eq)
+UuidNext bs cs c After = (0 < c .second .left) × ((c .first .left ≡ 0) ⊎ ((0 < c .first .left) × (uuidsOrder bs cs c ≡ Ordering·gt)))
 
 abbrev pub sideOf : EntryPlace → Side
 sideOf p = record { at = p .first; left = 2 * p .count }
@@ -70,34 +75,34 @@ keyPlace first c p = record { «of_first» = first; at = c .at; «tag_at» = p .
 abbrev pub beyondOf : Cursor → EntryPlace → Cursor
 beyondOf c p = record { tagged = c .tagged; at = p .next; left = c .left - 1 }
 
-abbrev pub pairOf : Cursors → EntryPlace → EntryPlace → KeyOrder → Pair
-pairOf c p q Before =
+-- the next key is in the first set alone, in the second alone, or in both
+abbrev pub ofFirst : Cursors → EntryPlace → Pair
+ofFirst c p =
     record {
       key = keyPlace true (c .first) p;
       sides = record { one = sideOf p; two = noSide };
       after = record { first = beyondOf (c .first) p; second = c .second };
     }
-pairOf c p q Same =
-    record {
-      key = keyPlace true (c .first) p;
-      sides = record { one = sideOf p; two = sideOf q };
-      after = record { first = beyondOf (c .first) p; second = beyondOf (c .second) q };
-    }
-pairOf c p q After =
+
+abbrev pub ofSecond : Cursors → EntryPlace → Pair
+ofSecond c q =
     record {
       key = keyPlace false (c .second) q;
       sides = record { one = noSide; two = sideOf q };
       after = record { first = c .first; second = beyondOf (c .second) q };
     }
 
+abbrev pub ofBoth : Cursors → EntryPlace → EntryPlace → Pair
+ofBoth c p q =
+    record {
+      key = keyPlace true (c .first) p;
+      sides = record { one = sideOf p; two = sideOf q };
+      after = record { first = beyondOf (c .first) p; second = beyondOf (c .second) q };
+    }
+
 -- there is an entry to pass, and its intervals aren't many
 abbrev pub Moves : Cursor → EntryPlace → Type 0
 Moves c p = (0 < c .left) × (p .count ≤ 65536)
-
-abbrev pub Moving : Cursors → EntryPlace → EntryPlace → KeyOrder → Type 0
-Moving c p q Before = Moves (c .first) p
-Moving c p q Same = Moves (c .first) p × Moves (c .second) q
-Moving c p q After = Moves (c .second) q
 
 -- ---- what `next_pair` tells
 

@@ -9,11 +9,9 @@ use misc::put::put_u64_le;
 use set_check::places::number_at;
 ghost use mathlib.Core.Path.{_≡_};
 ghost use mathlib.Core.Bool.{true};
-ghost use Prim.Native.Nat.{_+_, _*_, _%_, _^_, _<_, _≤_, min};
+ghost use Prim.Native.Nat.{_+_, _*_, _%_, _^_, _<_, min};
 ghost use lib.Dec.{eqb};
-ghost use lib.ListN.{length};
-ghost use Rattle.misc.specs.Output.{WhereFits};
-ghost use Rattle.two_sets.specs.Marks.{saidBy, marksOf, nextMark, passedSide, leftOf, going, allIf, SideIs, SidesAre, TurnIs, NextIs, marksBytes};
+ghost use Rattle.two_sets.specs.Marks.{saidBy, marksOf, nextMark, passedSide, leftOf, going, allIf, SideIs, SidesAre, TurnIs, NextIs, MarksPut};
 
 // Above all marks.
 const NO_MARK: u64 = 0xffff_ffff_ffff_ffff;
@@ -111,9 +109,7 @@ pub(crate) fn next_mark(operation: Operation, first: &[u8], second: &[u8], sides
 // them are marks of the result. Returns how many there are, room or not.
 fn put_alone(kept: bool, set: &[u8], side: Side, out: &mut [u8], at: usize) -> usize
     requires { ⌜ SideIs (now set) side ⌝ }
-    ensures { λ r. ⌜ (r ≡ length (allIf kept (marksOf (now (set .entry)) side))) × (r ≤ side .left) ⌝ }
-    ensures { λ r. ⌜ WhereFits (now (out .entry)) at (marksBytes (allIf kept (marksOf (now (set .entry)) side))) (now (out .exit)) (at + 8 * r) ⌝ }
-    ensures { λ r. ⌜ (r ≡ 0 → now (out .exit) ≡ now (out .entry)) ⌝ }
+    ensures { λ r. ⌜ MarksPut (allIf kept (marksOf (now (set .entry)) side)) (side .left) (now (out .entry)) at (now (out .exit)) r ⌝ }
 {
     if !kept {
         return 0;
@@ -135,10 +131,8 @@ fn put_swept(
 ) -> usize
     requires { ⌜ SidesAre (now first) (now second) sides ⌝ }
     requires { ⌜ at + 8 * leftOf sides < 2 ^ 64 ⌝ }
-    ensures { λ r. ⌜ (r ≡ length (going (saidBy operation) (now (first .entry)) (now (second .entry)) sides)) × (r ≤ leftOf sides) ⌝ }
-    ensures { λ r. ⌜ WhereFits (now (out .entry)) at (marksBytes (going (saidBy operation) (now (first .entry)) (now (second .entry)) sides))
-        (now (out .exit)) (at + 8 * r) ⌝ }
-    ensures { λ r. ⌜ (r ≡ 0 → now (out .exit) ≡ now (out .entry)) ⌝ }
+    ensures { λ r. ⌜ MarksPut (going (saidBy operation) (now (first .entry)) (now (second .entry)) sides) (leftOf sides)
+        (now (out .entry)) at (now (out .exit)) r ⌝ }
 {
     let mut count: usize = 0;
     let mut next = next_mark(operation, first, second, sides);
@@ -161,10 +155,8 @@ pub(crate) fn put_marks(
 ) -> usize
     requires { ⌜ SidesAre (now first) (now second) sides ⌝ }
     requires { ⌜ at + 8 * leftOf sides < 2 ^ 64 ⌝ }
-    ensures { λ r. ⌜ (r ≡ length (going (saidBy operation) (now (first .entry)) (now (second .entry)) sides)) × (r ≤ leftOf sides) ⌝ }
-    ensures { λ r. ⌜ WhereFits (now (out .entry)) at (marksBytes (going (saidBy operation) (now (first .entry)) (now (second .entry)) sides))
-        (now (out .exit)) (at + 8 * r) ⌝ }
-    ensures { λ r. ⌜ (r ≡ 0 → now (out .exit) ≡ now (out .entry)) ⌝ }
+    ensures { λ r. ⌜ MarksPut (going (saidBy operation) (now (first .entry)) (now (second .entry)) sides) (leftOf sides)
+        (now (out .entry)) at (now (out .exit)) r ⌝ }
 {
     let one = sides.one;
     let two = sides.two;

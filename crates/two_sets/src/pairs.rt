@@ -6,14 +6,16 @@ use crate::Pair;
 use crate::Side;
 use crate::Sides;
 use packets::KeyOrder;
+use packets::key_order;
 use set_check::EntryPlace;
-use set_check::places::parts_order;
 use set_check::places::place_at;
 ghost use mathlib.Core.Path.{_≡_};
-ghost use Prim.Native.Nat.{_≤_, _<_};
-ghost use Rattle.packets.specs.Key.{orderRead};
-ghost use Rattle.set_check.specs.Places.{placeIn};
-ghost use Rattle.two_sets.specs.Pairs.{entriesLeft, CursorsAre, entriesOfBoth, nextOrder, sideOf, noSide, keyPlace, beyondOf, pairOf, Moving, PairIs};
+ghost use Prim.Native.Nat.{_+_, _≤_, _<_};
+ghost use lib.ListN.{length};
+ghost use Rattle.misc.specs.Parse.{part};
+ghost use Rattle.packets.specs.Key.{order, orderRead};
+ghost use Rattle.packets.specs.declared.KeyOrder.the-variants.{Same};
+ghost use Rattle.two_sets.specs.Pairs.{CursorsAre, entriesOfBoth, sideOf, noSide, keyPlace, beyondOf, Moves, ofFirst, ofSecond, ofBoth, UuidNext, PairIs};
 
 // The marks of an entry.
 fn side_of(place: EntryPlace) -> Side
@@ -56,18 +58,71 @@ fn beyond(from: Cursor, place: EntryPlace) -> Cursor
     }
 }
 
-// Which of two sets has the next key: the first, both or the second.
-fn next_order(
-    first: &[u8],
-    second: &[u8],
-    from: Cursors,
-    one: EntryPlace,
-    two: EntryPlace,
-) -> KeyOrder
+// The next key is one of the first set alone.
+fn of_first(from: Cursors, one: EntryPlace) -> Pair
+    requires { ⌜ Moves (from .first) one ⌝ }
+    ensures { λ r. ⌜ r ≡ ofFirst from one ⌝ }
+{
+    let first = from.first;
+    let second = from.second;
+    Pair {
+        key: key_of(true, first, one),
+        sides: Sides {
+            one: side_of(one),
+            two: no_side(),
+        },
+        after: Cursors {
+            first: beyond(first, one),
+            second,
+        },
+    }
+}
+
+// One of the second set alone.
+fn of_second(from: Cursors, two: EntryPlace) -> Pair
+    requires { ⌜ Moves (from .second) two ⌝ }
+    ensures { λ r. ⌜ r ≡ ofSecond from two ⌝ }
+{
+    let first = from.first;
+    let second = from.second;
+    Pair {
+        key: key_of(false, second, two),
+        sides: Sides {
+            one: no_side(),
+            two: side_of(two),
+        },
+        after: Cursors {
+            first,
+            second: beyond(second, two),
+        },
+    }
+}
+
+// One of both.
+fn of_both(from: Cursors, one: EntryPlace, two: EntryPlace) -> Pair
+    requires { ⌜ Moves (from .first) one × Moves (from .second) two ⌝ }
+    ensures { λ r. ⌜ r ≡ ofBoth from one two ⌝ }
+{
+    let first = from.first;
+    let second = from.second;
+    Pair {
+        key: key_of(true, first, one),
+        sides: Sides {
+            one: side_of(one),
+            two: side_of(two),
+        },
+        after: Cursors {
+            first: beyond(first, one),
+            second: beyond(second, two),
+        },
+    }
+}
+
+// Which of two sets has the next uuid: the first, both or the second.
+fn uuid_order(first: &[u8], second: &[u8], from: Cursors) -> KeyOrder
     requires { ⌜ CursorsAre (now first) (now second) from ⌝ }
-    requires { ⌜ one ≡ placeIn (from .first .tagged) (now first) (from .first .at) ⌝ }
-    requires { ⌜ two ≡ placeIn (from .second .tagged) (now second) (from .second .at) ⌝ }
-    ensures { λ r. ⌜ r ≡ orderRead (nextOrder (entriesLeft (now (first .entry)) (from .first)) (entriesLeft (now (second .entry)) (from .second))) ⌝ }
+    requires { ⌜ 0 < entriesOfBoth from ⌝ }
+    ensures { λ r. ⌜ UuidNext (now (first .entry)) (now (second .entry)) from r ⌝ }
 {
     if from.second.left == 0 {
         return KeyOrder::Before;
@@ -76,70 +131,49 @@ fn next_order(
         return KeyOrder::After;
     }
     let at = from.first.at;
-    let tag = one.tag_at;
-    let tag_end = tag + one.tag_len;
     let other = from.second.at;
-    let other_tag = two.tag_at;
-    let other_tag_end = other_tag + two.tag_len;
-    parts_order(
-        &first[at..at + 16],
-        &first[tag..tag_end],
-        &second[other..other + 16],
-        &second[other_tag..other_tag_end],
-    )
+    key_order(&first[at..at + 16], &second[other..other + 16])
 }
 
-fn pair_of(from: Cursors, one: EntryPlace, two: EntryPlace, order: KeyOrder) -> Pair
-    requires { ⌜ Moving from one two order ⌝ }
-    ensures { λ r. ⌜ r ≡ pairOf from one two order ⌝ }
+// The order of the tags of two entries.
+fn tag_order(first: &[u8], second: &[u8], one: EntryPlace, two: EntryPlace) -> KeyOrder
+    requires { ⌜ (one .«tag_at» + one .«tag_len» ≤ length (now first)) × (two .«tag_at» + two .«tag_len» ≤ length (now second)) ⌝ }
+    ensures { λ r. ⌜ r ≡ orderRead (order (part (now (first .entry)) (one .«tag_at») (one .«tag_len»))
+        (part (now (second .entry)) (two .«tag_at») (two .«tag_len»))) ⌝ }
 {
-    let first = from.first;
-    let second = from.second;
+    let tag = one.tag_at;
+    let end = tag + one.tag_len;
+    let other = two.tag_at;
+    let other_end = other + two.tag_len;
+    key_order(&first[tag..end], &second[other..other_end])
+}
+
+// The next key where both sets have its uuid: the tags decide.
+fn same_uuid(first: &[u8], second: &[u8], from: Cursors) -> Pair
+    requires { ⌜ CursorsAre (now first) (now second) from ⌝ }
+    requires { ⌜ UuidNext (now first) (now second) from Same ⌝ }
+    ensures { λ r. ⌜ PairIs (now (first .entry)) (now (second .entry)) from r ⌝ }
+{
+    let one = place_at(first, from.first.at, from.first.tagged);
+    let two = place_at(second, from.second.at, from.second.tagged);
+    let order = tag_order(first, second, one, two);
     match order {
-        KeyOrder::Before => Pair {
-            key: key_of(true, first, one),
-            sides: Sides {
-                one: side_of(one),
-                two: no_side(),
-            },
-            after: Cursors {
-                first: beyond(first, one),
-                second,
-            },
-        },
-        KeyOrder::Same => Pair {
-            key: key_of(true, first, one),
-            sides: Sides {
-                one: side_of(one),
-                two: side_of(two),
-            },
-            after: Cursors {
-                first: beyond(first, one),
-                second: beyond(second, two),
-            },
-        },
-        KeyOrder::After => Pair {
-            key: key_of(false, second, two),
-            sides: Sides {
-                one: no_side(),
-                two: side_of(two),
-            },
-            after: Cursors {
-                first,
-                second: beyond(second, two),
-            },
-        },
+        KeyOrder::Before => of_first(from, one),
+        KeyOrder::Same => of_both(from, one, two),
+        KeyOrder::After => of_second(from, two),
     }
 }
 
-// The next key of two sets.
+// The next key of two sets. Only an entry whose uuid comes next is looked at.
 pub(crate) fn next_pair(first: &[u8], second: &[u8], from: Cursors) -> Pair
     requires { ⌜ CursorsAre (now first) (now second) from ⌝ }
     requires { ⌜ 0 < entriesOfBoth from ⌝ }
     ensures { λ r. ⌜ PairIs (now (first .entry)) (now (second .entry)) from r ⌝ }
 {
-    let one = place_at(first, from.first.at, from.first.tagged);
-    let two = place_at(second, from.second.at, from.second.tagged);
-    let order = next_order(first, second, from, one, two);
-    pair_of(from, one, two, order)
+    let order = uuid_order(first, second, from);
+    match order {
+        KeyOrder::Before => of_first(from, place_at(first, from.first.at, from.first.tagged)),
+        KeyOrder::Same => same_uuid(first, second, from),
+        KeyOrder::After => of_second(from, place_at(second, from.second.at, from.second.tagged)),
+    }
 }

@@ -1,10 +1,11 @@
 -- `set_check::places::place_at` meets its contract.
-use Prim.Native.Nat.{_+_}
+use Prim.Native.Nat.{_+_, _/_}
 use mathlib.Core.Path.{_∙_}
 use native.Mathlib.Omega.{arith}
 use denote.Ref.{now}
 use borrow.Author.Needs.{needs}
-use Rattle.set_check.proofs.EntryPlaces.{place-gone, place-tagged, place-plain}
+use Rattle.set_check.specs.Places.{placeFrom}
+use Rattle.set_check.proofs.EntryPlaces.{cut, place-gone, place-tagged, place-plain}
 use Rattle.set_check.proofs.places.place_at.Statement.{statement}
 use Rattle.set_check.proofs.places.place_at.Tie as tie
 
@@ -28,19 +29,30 @@ shared-slice-read-wide c = search needs
 wide-requires : tie.Need-wide-requires
 wide-requires c κs = search needs
 
+add-if3 : tie.Need-add-if3
+add-if3 c = search needs
+
+nowhere-requires-2 : tie.Need-nowhere-requires-2
+nowhere-requires-2 c κs = search needs
+
+returns-2 : tie.Need-returns-2
+returns-2 c =
+    let a = c .before .before .before .before .before .before .before .before .args in
+    let b = c .before .before .wide in
+    place-tagged (now (a .set)) (a .tagged) (a .at) _ (b .result) (c .before .before .before .before .if2 .taken) (b .ensures)
+    (c .nowhere2 .ensures ∙ cut (now (a .set)) (placeFrom (now (a .set)) (a .at + 17) (b .result / 2)) (omega arith))
+
 add-place-from : tie.Need-add-place-from
 add-place-from c = search needs
 
 place-from-requires : tie.Need-place-from-requires
-place-from-requires c κs =
-    let a = c .before .before .before .before .before .before .args in
-    omega (arith, c .wide .ensures, c .before .shared-slice-known2 .given (a .at + 16) .fits)
+place-from-requires c κs = search needs
 
-returns-2 : tie.Need-returns-2
-returns-2 c =
-    let a = c .before .before .before .before .before .before .before .args in
-    let b = c .before .wide in
-    place-tagged (now (a .set)) (a .tagged) (a .at) _ (b .result) (c .before .before .before .if2 .taken) (b .ensures) (c .place-from .ensures)
+returns-3 : tie.Need-returns-3
+returns-3 c =
+    let a = c .before .before .before .before .before .before .before .before .args in
+    let b = c .before .before .wide in
+    place-tagged (now (a .set)) (a .tagged) (a .at) _ (b .result) (c .before .before .before .before .if2 .taken) (b .ensures) (c .place-from .ensures)
 
 add-place-from-2 : tie.Need-add-place-from-2
 add-place-from-2 c = search needs
@@ -48,8 +60,8 @@ add-place-from-2 c = search needs
 place-from-requires-2 : tie.Need-place-from-requires-2
 place-from-requires-2 c κs = search needs
 
-returns-3 : tie.Need-returns-3
-returns-3 c =
+returns-4 : tie.Need-returns-4
+returns-4 c =
     let a = c .before .before .before .before .before .args in
     place-plain (now (a .set)) (a .tagged) (a .at) _ (c .before .if2 .left) (c .place-from2 .ensures)
 
@@ -63,9 +75,12 @@ place-at-spec =
     add-wide
     shared-slice-read-wide
     wide-requires
+    add-if3
+    nowhere-requires-2
+    returns-2
     add-place-from
     place-from-requires
-    returns-2
+    returns-3
     add-place-from-2
     place-from-requires-2
-    returns-3)
+    returns-4)

@@ -8,20 +8,6 @@ use Rattle.set_check.proofs.EntryPlaces.{cut, place-made}
 use Rattle.set_check.proofs.places.place_from.Statement.{statement}
 use Rattle.set_check.proofs.places.place_from.Tie as tie
 
-left-at-requires : tie.Need-left-at-requires
-left-at-requires c κs = search needs
-
-add-if1 : tie.Need-add-if1
-add-if1 c = search needs
-
-nowhere-requires : tie.Need-nowhere-requires
-nowhere-requires c κs = search needs
-
-returns : tie.Need-returns
-returns c =
-    let a = c .before .before .before .before .args in
-    c .nowhere .ensures ∙ cut (now (a .set)) (placeFrom (now (a .set)) (a .tag-at) (a .tag-len)) (omega arith)
-
 add-counted : tie.Need-add-counted
 add-counted c = search needs
 
@@ -31,42 +17,38 @@ number-at-requires c κs = search needs
 add-first : tie.Need-add-first
 add-first c = search needs
 
-left-at-requires-2 : tie.Need-left-at-requires-2
-left-at-requires-2 c κs = search needs
+sub-if1 : tie.Need-sub-if1
+sub-if1 c = search needs
 
-nowhere-requires-2 : tie.Need-nowhere-requires-2
-nowhere-requires-2 c κs = search needs
+nowhere-requires : tie.Need-nowhere-requires
+nowhere-requires c κs = search needs
+
+returns : tie.Need-returns
+returns c =
+    let a = c .before .before .before .before .args in
+    c .nowhere .ensures ∙ cut (now (a .set)) (placeFrom (now (a .set)) (a .tag-at) (a .tag-len)) (omega arith)
+
+mul-t8 : tie.Need-mul-t8
+mul-t8 c = search needs
+
+add-t9 : tie.Need-add-t9
+add-t9 c = search needs
 
 returns-2 : tie.Need-returns-2
 returns-2 c =
-    let a = c .before .before .before .before .before .before .before .args in
-    c .nowhere2 .ensures ∙ cut (now (a .set)) (placeFrom (now (a .set)) (a .tag-at) (a .tag-len)) (omega arith)
-
-mul-t7 : tie.Need-mul-t7
-mul-t7 c = search needs
-
-add-t8 : tie.Need-add-t8
-add-t8 c = search needs
-
-returns-3 : tie.Need-returns-3
-returns-3 c =
-    let a = c .before .before .before .before .before .before .args in
-    place-made (now (a .set)) (a .tag-at) (a .tag-len) _ (c .before .before .number-at .ensures) (omega arith)
+    let a = c .before .before .before .args in
+    place-made (now (a .set)) (a .tag-at) (a .tag-len) _ (c .before .number-at .ensures) (omega arith)
 
 pub place-from-spec : {M : Type 1} → statement M
 place-from-spec =
     tie.close
     (tie.spec
-    left-at-requires
-    add-if1
-    nowhere-requires
-    returns
     add-counted
     number-at-requires
     add-first
-    left-at-requires-2
-    nowhere-requires-2
-    returns-2
-    mul-t7
-    add-t8
-    returns-3)
+    sub-if1
+    nowhere-requires
+    returns
+    mul-t8
+    add-t9
+    returns-2)

@@ -1,20 +1,17 @@
 -- `two_sets::marks::put_alone` meets its contract.
-use mathlib.Core.Path.{refl}
-use native.Mathlib.Omega.{arith}
 use native.Mathlib.Nat.{add-sub-cancel-left}
 use denote.Ref.{now}
 use borrow.Author.Tests.{not-true, not-false}
 use borrow.Author.Needs.{needs}
 use Rattle.misc.proofs.OutputLaws.{put-placed}
-use Rattle.two_sets.proofs.MarkLaws.{none-kept, all-kept, nothing-put}
+use Rattle.two_sets.proofs.MarkLaws.{none-kept, all-kept}
 use Rattle.two_sets.proofs.marks.put_alone.Statement.{statement}
 use Rattle.two_sets.proofs.marks.put_alone.Tie as tie
 
 returns : tie.Need-returns
 returns c =
     let s = c .before .before .before in
-    let h = none-kept (now (s .args .set)) (s .args .side) (s .pre) (λ i. c .before .before .shared-slice-known .given i .fits) (now (s .args .out)) (s .args .at) (s .args .kept) (not-true _ (c .if1 .taken)) in
-    ((h .0, omega arith), (h .1, λ _. refl))
+    none-kept (now (s .args .set)) (s .args .side) (s .pre) (now (s .args .out)) (s .args .at) (s .args .kept) (not-true _ (c .if1 .taken))
 
 mul-to : tie.Need-mul-to
 mul-to c = search needs
@@ -41,8 +38,9 @@ returns-2 : tie.Need-returns-2
 returns-2 c =
     let s = c .before .before .before .before .before .before .before .before .before in
     let w = rw add-sub-cancel-left at (c .before .before .put-bytes .ensures) in
-    let h = all-kept (now (s .args .set)) (s .args .side) (s .pre) (λ i. c .before .before .before .before .before .before .before .before .shared-slice-known .given i .fits) (now (s .args .out)) (s .args .at) (s .args .kept) (not-false _ (c .before .before .before .before .before .before .if1 .left)) _ _ (put-placed w) in
-    ((h .0, omega arith), (h .1, λ z. nothing-put (now (s .args .set)) (s .args .side) (now (s .args .out)) (s .args .at) z _ (w .1)))
+    all-kept (now (s .args .set)) (s .args .side) (s .pre) (now (s .args .out)) (s .args .at) (s .args .kept)
+    (not-false _ (c .before .before .before .before .before .before .if1 .left))
+    (λ i. c .before .before .before .before .before .before .before .before .shared-slice-known .given i .fits) _ _ (put-placed w) (w .1)
 
 pub put-alone-spec : {M : Type 1} → statement M
 put-alone-spec =

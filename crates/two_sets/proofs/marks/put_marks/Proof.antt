@@ -1,11 +1,9 @@
 -- `two_sets::marks::put_marks` meets its contract.
-use mathlib.Core.Path.{ap, _∙_}
 use native.Mathlib.Omega.{arith}
-use lib.ListN.{length}
 use denote.Ref.{now}
 use borrow.Author.Needs.{needs}
 use Rattle.two_sets.specs.Marks.{saidBy}
-use Rattle.two_sets.proofs.MarkLaws.{said-none, only-first, only-second}
+use Rattle.two_sets.proofs.MarkLaws.{said-none, only-first, only-second, marks-are}
 use Rattle.two_sets.proofs.marks.put_marks.Statement.{statement}
 use Rattle.two_sets.proofs.marks.put_marks.Tie as tie
 
@@ -21,9 +19,9 @@ same-length c = search needs
 returns : tie.Need-returns
 returns c =
     let s = c .before .before .before .before .before .before .before .before .before .before .before .before in
-    let e = only-first (saidBy (s .args .operation)) (said-none (s .args .operation)) (now (s .args .first)) (now (s .args .second)) (s .args .sides) _ (omega arith) (c .before .before .before .before .is-kept .ensures) in
-    let h = c .before .before .put-alone .ensures in
-    ((h .0 .0 ∙ ap length e, omega (arith, h .0 .1)), (rw e at (h .1 .0), h .1 .1))
+    let e = only-first (saidBy (s .args .operation)) (said-none (s .args .operation))
+    (now (s .args .first)) (now (s .args .second)) (s .args .sides) _ (omega arith) (c .before .before .before .before .is-kept .ensures) in
+    marks-are e (omega arith) (c .before .before .put-alone .ensures)
 
 is-kept-requires-2 : tie.Need-is-kept-requires-2
 is-kept-requires-2 c κs = search needs
@@ -37,9 +35,9 @@ same-length-2 c = search needs
 returns-2 : tie.Need-returns-2
 returns-2 c =
     let s = c .before .before .before .before .before .before .before .before .before .before .before .before .before .before in
-    let e = only-second (saidBy (s .args .operation)) (said-none (s .args .operation)) (now (s .args .first)) (now (s .args .second)) (s .args .sides) _ (omega arith) (c .before .before .before .before .is-kept2 .ensures) in
-    let h = c .before .before .put-alone2 .ensures in
-    ((h .0 .0 ∙ ap length e, omega (arith, h .0 .1)), (rw e at (h .1 .0), h .1 .1))
+    let e = only-second (saidBy (s .args .operation)) (said-none (s .args .operation))
+    (now (s .args .first)) (now (s .args .second)) (s .args .sides) _ (omega arith) (c .before .before .before .before .is-kept2 .ensures) in
+    marks-are e (omega arith) (c .before .before .put-alone2 .ensures)
 
 put-swept-requires : tie.Need-put-swept-requires
 put-swept-requires c κs = search needs

@@ -1,12 +1,12 @@
 -- `two_sets::marks::put_swept` meets its contract.
-use mathlib.Core.Path.{_≡_, refl, _∙_, sym, ap}
+use mathlib.Core.Path.{_≡_, refl, _∙_, ap}
 use native.Mathlib.Omega.{arith}
 use lib.ListN.{length}
 use denote.Ref.{now}
 use borrow.Author.Needs.{needs}
 use Rattle.misc.proofs.OutputLaws.{put-placed}
 use Rattle.two_sets.specs.Marks.{saidBy, oneIf}
-use Rattle.two_sets.proofs.MarkLaws.{told, weight, Putting, putting-none, putting-turn, putting-all, putting-fits}
+use Rattle.two_sets.proofs.MarkLaws.{told, weight, Putting, putting-none, putting-turn, putting-all}
 use Rattle.two_sets.proofs.marks.put_swept.Statement.{statement}
 use Rattle.two_sets.proofs.marks.put_swept.Tie as tie
 
@@ -22,8 +22,11 @@ next-mark-requires c κs = search needs
 
 loop-holds : tie.Need-loop-holds Inv-loop μ-loop
 loop-holds c =
-    let s = c .before .before .before .before in
-    (refl, putting-none (saidBy (s .args .operation)) (now (s .args .first)) (now (s .args .second)) (now (s .args .out)) (s .args .at) (s .args .sides) _ (c .next-mark .ensures))
+    let s = c .before .before .before .before in (
+      refl,
+      putting-none (saidBy (s .args .operation)) (now (s .args .first)) (now (s .args .second)) (now (s .args .out)) (s .args .at)
+          (s .args .sides) _ (c .next-mark .ensures),
+    )
 
 mul-put-u64-le : tie.Need-mul-put-u64-le Inv-loop μ-loop
 mul-put-u64-le c =
@@ -56,7 +59,9 @@ loop-again c =
     let l = c .before .before .before .before .before .before .loop in
     let a = c .before .before .before .before .before .before .before .before .before .before .before .args in (
       c .before .before .before .put-u64-le .kept .1 .0 ∙ l .inv .0,
-      putting-turn (saidBy (a .operation)) (now (a .first)) (now (a .second)) (now (a .out)) (a .at) _ _ (l .next) (l .out) (l .count) (l .inv .1) (c .before .before .before .before .before .loop-test .taken) _ (c .next-mark2 .ensures) _ _ (put-placed (c .before .before .before .put-u64-le .ensures)),
+      putting-turn (saidBy (a .operation)) (now (a .first)) (now (a .second)) (now (a .out)) (a .at) _ _ (l .next) (l .out) (l .count)
+          (l .inv .1) (c .before .before .before .before .before .loop-test .taken) _ (c .next-mark2 .ensures)
+          _ _ (put-placed (c .before .before .before .put-u64-le .ensures)),
     )
 
 same-length : tie.Need-same-length Inv-loop μ-loop
@@ -67,14 +72,8 @@ returns c =
     let l = c .before .loop in
     let i = c .before .before .next-mark .ensures in
     let a = c .before .before .before .before .before .before .args in
-    let last = c .loop-test .left in
-    let all = putting-all (saidBy (a .operation)) (now (a .first)) (now (a .second)) (now (a .out)) (a .at) _ _ (l .next) (l .out) (l .count) (l .inv .1) last in (
-      (all ∙ ap length (sym (i .goes)), omega (arith, l .inv .1 .few, i .less)),
-      (
-        rw (i .goes) (putting-fits (saidBy (a .operation)) (now (a .first)) (now (a .second)) (now (a .out)) (a .at) _ _ (l .next) (l .out) (l .count) (l .inv .1) last),
-        l .inv .1 .still,
-      ),
-    )
+    putting-all (saidBy (a .operation)) (now (a .first)) (now (a .second)) (now (a .out)) (a .at) _ _ (l .next) (l .out) (l .count) (l .inv .1)
+    (c .loop-test .left) (a .sides) (i .goes) (i .less)
 
 pub put-swept-spec : {M : Type 1} → statement M
 put-swept-spec =

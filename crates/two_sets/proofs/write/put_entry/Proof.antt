@@ -18,8 +18,16 @@ add-behind c =
 
 put-marks-requires : tie.Need-put-marks-requires
 put-marks-requires c κs =
-    let s = c .before .before .before .before .before .before .before in
-    (s .pre .0, omega (arith, c .before .head-len .ensures, head-short (s .args .work .tags) (s .args .pair .key .«tag_len»), s .pre .1 .0 .short, s .pre .1 .1))
+    let s = c .before .before .before .before .before .before .before in (
+      s .pre .0,
+      omega (
+        arith,
+        c .before .head-len .ensures,
+        head-short (s .args .work .tags) (s .args .pair .key .«tag_len»),
+        s .pre .1 .0 .short,
+        s .pre .1 .1,
+      ),
+    )
 
 same-length : tie.Need-same-length
 same-length c = search needs
@@ -29,8 +37,10 @@ returns c =
     let s = c .before .before .before .before .before .before .before .before .before .before .before in
     let m = c .before .before .before .put-marks in
     let none : m .result ≡ 0 = omega arith in (
-      (sym none ∙ m .ensures .0 .0, omega arith),
-      none-put (now (s .args .first)) (now (s .args .second)) (s .args .pair .key) (s .pre .1 .0) (s .args .work .tags) (going (saidBy (s .args .work .operation)) (now (s .args .first)) (now (s .args .second)) (s .args .pair .sides)) (m .result) (m .ensures .0 .0) (now (s .args .out)) _ (s .args .at) none (m .ensures .1 .1 none),
+      (sym none ∙ m .ensures .counted, omega arith),
+      none-put (now (s .args .first)) (now (s .args .second)) (s .args .pair .key) (s .pre .1 .0) (s .args .work .tags)
+          (going (saidBy (s .args .work .operation)) (now (s .args .first)) (now (s .args .second)) (s .args .pair .sides))
+          (m .result) (m .ensures .counted) (now (s .args .out)) _ (s .args .at) none (m .ensures .none none),
     )
 
 put-head-requires : tie.Need-put-head-requires
@@ -45,9 +55,13 @@ returns-2 : tie.Need-returns-2
 returns-2 c =
     let s = c .before .before .before .before .before .before .before .before .before .before .before .before .before .before .before .before in
     let m = c .before .before .before .before .before .before .before .before .put-marks in (
-      m .ensures .0,
-      some-put (now (s .args .first)) (now (s .args .second)) (s .args .pair .key) (s .pre .1 .0) (s .args .work .tags) (going (saidBy (s .args .work .operation)) (now (s .args .first)) (now (s .args .second)) (s .args .pair .sides)) (m .result) (m .ensures .0 .0) (now (s .args .out)) _ (s .args .at) (λ h. omega arith)
-          (now (s .args .first)) (rw (c .before .before .before .before .if2 .taken)) _ _ _ _ (c .before .before .before .before .before .before .before .before .before .before .head-len .ensures) (m .ensures .1 .0) (c .before .before .put-head .ensures),
+      (m .ensures .counted, m .ensures .few),
+      some-put (now (s .args .first)) (now (s .args .second)) (s .args .pair .key) (s .pre .1 .0) (s .args .work .tags)
+          (going (saidBy (s .args .work .operation)) (now (s .args .first)) (now (s .args .second)) (s .args .pair .sides))
+          (m .result) (m .ensures .counted) (now (s .args .out)) _ (s .args .at) (λ h. omega arith)
+          (now (s .args .first)) (rw (c .before .before .before .before .if2 .taken)) _ _ _ _
+          (c .before .before .before .before .before .before .before .before .before .before .head-len .ensures)
+          (m .ensures .fits) (c .before .before .put-head .ensures),
     )
 
 put-head-requires-2 : tie.Need-put-head-requires-2
@@ -62,9 +76,13 @@ returns-3 : tie.Need-returns-3
 returns-3 c =
     let s = c .before .before .before .before .before .before .before .before .before .before .before .before .before .before .before .before in
     let m = c .before .before .before .before .before .before .before .before .put-marks in (
-      m .ensures .0,
-      some-put (now (s .args .first)) (now (s .args .second)) (s .args .pair .key) (s .pre .1 .0) (s .args .work .tags) (going (saidBy (s .args .work .operation)) (now (s .args .first)) (now (s .args .second)) (s .args .pair .sides)) (m .result) (m .ensures .0 .0) (now (s .args .out)) _ (s .args .at) (λ h. omega arith)
-          (now (s .args .second)) (rw (c .before .before .before .before .if2 .left)) _ _ _ _ (c .before .before .before .before .before .before .before .before .before .before .head-len .ensures) (m .ensures .1 .0) (c .before .before .put-head2 .ensures),
+      (m .ensures .counted, m .ensures .few),
+      some-put (now (s .args .first)) (now (s .args .second)) (s .args .pair .key) (s .pre .1 .0) (s .args .work .tags)
+          (going (saidBy (s .args .work .operation)) (now (s .args .first)) (now (s .args .second)) (s .args .pair .sides))
+          (m .result) (m .ensures .counted) (now (s .args .out)) _ (s .args .at) (λ h. omega arith)
+          (now (s .args .second)) (rw (c .before .before .before .before .if2 .left)) _ _ _ _
+          (c .before .before .before .before .before .before .before .before .before .before .head-len .ensures)
+          (m .ensures .fits) (c .before .before .put-head2 .ensures),
     )
 
 pub put-entry-spec : {M : Type 1} → statement M
