@@ -26,7 +26,7 @@ use Rattle.set_check.specs.Places.{numberAt, intervalsAt, placeAt, placeIn, key
 use Rattle.set_check.specs.declared.EntryPlace.{EntryPlace}
 use Rattle.set_check.proofs.EntryPlaces.{place-here}
 use Rattle.two_sets.specs.Marks.{marksAt, marksOf, SideIs}
-use Rattle.two_sets.specs.Pairs.{entriesLeft, CursorIs, CursorsAre, combining, uuidsOrder, UuidNext, sideOf, noSide, keyPlace, beyondOf, ofFirst, ofSecond, ofBoth, Moves, keyIn, PairIs}
+use Rattle.two_sets.specs.Pairs.{entriesLeft, CursorIs, CursorsAre, combining, uuidsOrder, tagsOrder, UuidNext, sideOf, noSide, keyPlace, beyondOf, ofFirst, ofSecond, ofBoth, Moves, keyIn, PairIs}
 use Rattle.two_sets.specs.declared.Cursor.{Cursor}
 use Rattle.two_sets.specs.declared.Cursors.{Cursors}
 use Rattle.two_sets.specs.declared.Pair.{Pair}
@@ -125,7 +125,7 @@ module _ (bs cs : List ℕ) (c : Cursors) (i : CursorsAre bs cs c) (p q : EntryP
   abbrev secondKey : Key
   secondKey = keyIn bs cs (keyPlace false (c .second) q)
 
-  -- what is made of it, by the order of the tags
+  -- what is made of the next entries, by the order of their keys
   abbrev pairOf : KeyOrder → Pair
   pairOf Before = ofFirst c p
   pairOf Same = ofBoth c p q
@@ -188,8 +188,7 @@ module _ (bs cs : List ℕ) (c : Cursors) (i : CursorsAre bs cs c) (p q : EntryP
       }
 
   keys-order : (some : 0 < c .first .left) (more : 0 < c .second .left)
-      → order firstKey secondKey ≡ orElse (uuidsOrder bs cs c)
-      (order (part bs (p .«tag_at») (p .«tag_len»)) (part cs (q .«tag_at») (q .«tag_len»)))
+      → order firstKey secondKey ≡ orElse (uuidsOrder bs cs c) (tagsOrder bs cs p q)
   keys-order some more = order-append (part bs (c .first .at) 16) (part cs (c .second .at) 16)
       (part bs (p .«tag_at») (p .«tag_len»)) (part cs (q .«tag_at») (q .«tag_len»)) (inFirst some .uuid ∙ sym (inSecond more .uuid))
 
@@ -224,14 +223,13 @@ module _ (bs cs : List ℕ) (c : Cursors) (i : CursorsAre bs cs c) (p q : EntryP
     pub both-move : Moves (c .first) p × Moves (c .second) q
     both-move = ((n .0, inFirst (n .0) .few), (n .1, inSecond (n .1) .few))
 
-    by-tags : (o : Ordering) → order (part bs (p .«tag_at») (p .«tag_len»)) (part cs (q .«tag_at») (q .«tag_len»)) ≡ o → PairIs bs cs c (pairOf (orderRead o))
+    by-tags : (o : Ordering) → tagsOrder bs cs p q ≡ o → PairIs bs cs c (pairOf (orderRead o))
     by-tags Ordering·lt e = before (n .0) (n .1) (keys-order (n .0) (n .1) ∙ rw (n .2, e))
     by-tags Ordering·eq e = both-have (n .0) (n .1) (order-eq firstKey secondKey (keys-order (n .0) (n .1) ∙ rw (n .2, e)))
     by-tags Ordering·gt e = after (n .0) (n .1) (keys-order (n .0) (n .1) ∙ rw (n .2, e))
 
-    pub tags-say : (r : KeyOrder) → r ≡ orderRead (order (part bs (p .«tag_at») (p .«tag_len»)) (part cs (q .«tag_at») (q .«tag_len»)))
-        → PairIs bs cs c (pairOf r)
-    tags-say r told = rw told (by-tags _ refl)
+    pub tags-say : (r : KeyOrder) → r ≡ orderRead (tagsOrder bs cs p q) → PairIs bs cs c (pairOf r)
+    tags-say r told = rw told (by-tags (tagsOrder bs cs p q) refl)
 
 -- the order of two uuids
 pub uuids-say : (bs cs : List ℕ) (c : Cursors) → 0 < c .first .left → 0 < c .second .left → (r : KeyOrder)

@@ -91,7 +91,7 @@ unfoldable pub marksBytes : List ℕ → List ℕ
 marksBytes [] = []
 marksBytes (m ∷ ms) = leBytes 8 m ++ marksBytes ms
 
--- marks are written from a place on, where there is room, and counted; none of them, and nothing is touched
+-- marks are written from a place on, where there is room, and counted, room or not: so many at most, and where there are none nothing is touched
 pub record MarksPut (ms : List ℕ) (most : ℕ) (l : List ℕ) (at : ℕ) (l′ : List ℕ) (r : ℕ) : Type 0 where
   pub counted : r ≡ length ms
   pub few : r ≤ most

@@ -57,6 +57,10 @@ combining op bs cs c = combined op (entriesLeft bs (c .first)) (entriesLeft cs (
 abbrev pub uuidsOrder : List ℕ → List ℕ → Cursors → Ordering
 uuidsOrder bs cs c = order (part bs (c .first .at) 16) (part cs (c .second .at) 16)
 
+-- and the tags of two entries
+abbrev pub tagsOrder : List ℕ → List ℕ → EntryPlace → EntryPlace → Ordering
+tagsOrder bs cs p q = order (part bs (p .«tag_at») (p .«tag_len»)) (part cs (q .«tag_at») (q .«tag_len»))
+
 -- which of two sets has the next uuid: the first, both or the second; where one has no entry left, the other has it
 abbrev pub UuidNext : List ℕ → List ℕ → Cursors → KeyOrder → Type 0
 UuidNext bs cs c Before = (0 < c .first .left) × ((c .second .left ≡ 0) ⊎ ((0 < c .second .left) × (uuidsOrder bs cs c ≡ Ordering·lt)))

@@ -12,10 +12,9 @@ use set_check::places::place_at;
 ghost use mathlib.Core.Path.{_≡_};
 ghost use Prim.Native.Nat.{_+_, _≤_, _<_};
 ghost use lib.ListN.{length};
-ghost use Rattle.misc.specs.Parse.{part};
-ghost use Rattle.packets.specs.Key.{order, orderRead};
+ghost use Rattle.packets.specs.Key.{orderRead};
 ghost use Rattle.packets.specs.declared.KeyOrder.the-variants.{Same};
-ghost use Rattle.two_sets.specs.Pairs.{CursorsAre, entriesOfBoth, sideOf, noSide, keyPlace, beyondOf, Moves, ofFirst, ofSecond, ofBoth, UuidNext, PairIs};
+ghost use Rattle.two_sets.specs.Pairs.{CursorsAre, entriesOfBoth, sideOf, noSide, keyPlace, beyondOf, Moves, ofFirst, ofSecond, ofBoth, tagsOrder, UuidNext, PairIs};
 
 // The marks of an entry.
 fn side_of(place: EntryPlace) -> Side
@@ -138,8 +137,7 @@ fn uuid_order(first: &[u8], second: &[u8], from: Cursors) -> KeyOrder
 // The order of the tags of two entries.
 fn tag_order(first: &[u8], second: &[u8], one: EntryPlace, two: EntryPlace) -> KeyOrder
     requires { ⌜ (one .«tag_at» + one .«tag_len» ≤ length (now first)) × (two .«tag_at» + two .«tag_len» ≤ length (now second)) ⌝ }
-    ensures { λ r. ⌜ r ≡ orderRead (order (part (now (first .entry)) (one .«tag_at») (one .«tag_len»))
-        (part (now (second .entry)) (two .«tag_at») (two .«tag_len»))) ⌝ }
+    ensures { λ r. ⌜ r ≡ orderRead (tagsOrder (now (first .entry)) (now (second .entry)) one two) ⌝ }
 {
     let tag = one.tag_at;
     let end = tag + one.tag_len;
