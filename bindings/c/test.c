@@ -263,6 +263,15 @@ static uint8_t lies_within(const uint8_t *first, size_t first_len, const uint8_t
     return number == 0 ? within : number;
 }
 
+/* Which of two sets has all ids of the other: 1 or 2, or the number of the refusal. */
+static uint8_t head_of(const uint8_t *first, size_t first_len, const uint8_t *second, size_t second_len)
+{
+    uint8_t head = 9, number = gtid_head(first, first_len, second, second_len, &head);
+
+    EXPECT(number == 0 ? head == 1 || head == 2 : head == 0);
+    return number == 0 ? head : number;
+}
+
 /* The numbers 1 to 5 and 4 to 8. */
 static void work_with_two_sets(void)
 {
@@ -321,6 +330,27 @@ static void refuse_two_sets(of_two *call)
     EXPECT(memcmp(next, set, sizeof next) == 0);
     EXPECT(call(one, one_len, other, other_len, next, 48, &len) == 0 && len == 48);
     EXPECT(memcmp(next + 48, set + 48, sizeof next - 48) == 0);
+}
+
+/* 1 to 5 and 1 to 8, equal sets in two places and in one, the empty set, and 1 to 5 and 4 to 8; and what is no set. */
+static void choose_a_head(void)
+{
+    const uint8_t empty[8] = {0}, zeros[8] = {0};
+    size_t one_len = put_set(one, 1, 1, 5), other_len = put_set(other, 1, 1, 8);
+
+    EXPECT(head_of(one, one_len, other, other_len) == 2 && head_of(other, other_len, one, one_len) == 1);
+    EXPECT(head_of(empty, sizeof empty, one, one_len) == 2 && head_of(one, one_len, empty, sizeof empty) == 1);
+    EXPECT(head_of(one, one_len, one, one_len) == 1 && head_of(empty, sizeof empty, zeros, sizeof zeros) == 1);
+    EXPECT(head_of(one, one_len - 1, other, other_len) == 14 && head_of(one, one_len, other, other_len - 1) == 14);
+    EXPECT(head_of(one, 0, other, 0) == 14);
+    other_len = put_set(other, 1, 4, 5);
+    EXPECT(head_of(one, one_len, other, other_len) == 22 && head_of(other, other_len, one, one_len) == 22);
+    EXPECT(head_of(one, one_len - 1, other, other_len) == 14 && head_of(one, one_len, other, other_len - 1) == 14);
+    memcpy(other, one, one_len);
+    EXPECT(head_of(one, one_len, other, one_len) == 1 && head_of(other, one_len, one, one_len) == 1);
+    /* a part of its own bytes, zeros of its uuid, is the empty set */
+    memset(one + 8, 0, 16);
+    EXPECT(head_of(one, one_len, one + 8, 8) == 1 && head_of(one + 8, 8, one, one_len) == 2);
 }
 
 static void refuse_within(void)
@@ -691,6 +721,7 @@ int main(void)
     refuse_two_sets(gtid_both);
     refuse_two_sets(gtid_without);
     refuse_within();
+    choose_a_head();
     crowd_by_two_sets();
     tell_tags_apart();
     fill_by_two_sets();

@@ -77,6 +77,7 @@ refusals! {
     Full = 16: "full: the set would pass 384 entries or 2,560 intervals",
     Crowded = 17: "crowded: an entry of the set would pass 1,024 intervals",
     AbsentId = 21: "absent id: the fields of a tagged event end without its uuid or its number",
+    Diverged = 22: "diverged: each of the two sets has an id that the other lacks",
 }
 
 impl Refusal {
@@ -95,8 +96,10 @@ impl Refusal {
             Refusal::WrongType | Refusal::NotWritable | Refusal::NoRoom => {
                 io::ErrorKind::InvalidInput
             }
-            // nothing is wrong with the event
-            Refusal::Full | Refusal::Crowded | Refusal::Unknown(_) => io::ErrorKind::Other,
+            // nothing is wrong with the event, or with either set
+            Refusal::Full | Refusal::Crowded | Refusal::Diverged | Refusal::Unknown(_) => {
+                io::ErrorKind::Other
+            }
             _ => io::ErrorKind::InvalidData,
         }
     }

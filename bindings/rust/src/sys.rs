@@ -59,6 +59,13 @@ extern "C" {
         second_len: usize,
         within: *mut u8,
     ) -> u8;
+    pub fn gtid_head(
+        first: *const u8,
+        first_len: usize,
+        second: *const u8,
+        second_len: usize,
+        head: *mut u8,
+    ) -> u8;
     pub fn gtid_rewrite(
         body: *const u8,
         body_len: usize,

@@ -122,18 +122,7 @@ impl ResumeSet {
     /// # Ok::<(), gtid_resume::Refusal>(())
     /// ```
     pub fn is_subset(&self, other: &ResumeSet) -> bool {
-        let (first, second) = (self.as_bytes(), other.as_bytes());
-        let mut within = 0;
-        let number = unsafe {
-            sys::gtid_within(
-                first.as_ptr(),
-                first.len(),
-                second.as_ptr(),
-                second.len(),
-                &mut within,
-            )
-        };
-        number == 0 && within == 1
+        told(sys::gtid_within, self, other) == Ok(1)
     }
 
     /// Whether all ids of the other set are in this one. It is never refused.
@@ -150,6 +139,65 @@ impl ResumeSet {
     pub fn is_superset(&self, other: &ResumeSet) -> bool {
         other.is_subset(self)
     }
+
+    /// The one of two sets that has all ids of the other: this one if it has, also where they are equal, else the other. It is lent on, not
+    /// copied.
+    ///
+    /// After a switch of servers there are two opening sets, the old server's and the new one's. If the new server has all that the old one
+    /// had, its set is the head, and the [`difference`](ResumeSet::difference) is what came since. A follower goes on from its own set in
+    /// any case: an opening set has ids that it may not have copied.
+    ///
+    /// # Errors
+    ///
+    /// [`Refusal::Diverged`] if each has an id that the other lacks: then neither tells all that was done, and somebody has to look at both
+    /// servers. The differences, both ways round, are what each lacks.
+    ///
+    /// ```
+    /// use gtid_resume::{Refusal, ResumeSet};
+    ///
+    /// # use gtid_resume::{GtidEvent, GTID_EVENT};
+    /// # fn set_of(gnos: std::ops::RangeInclusive<u64>) -> Result<ResumeSet, Refusal> {
+    /// #     let mut set = ResumeSet::empty();
+    /// #     for gno in gnos {
+    /// #         set.offer(GTID_EVENT, &GtidEvent::new([7; 16], gno).write()?)?.commit();
+    /// #     }
+    /// #     Ok(set)
+    /// # }
+    /// let (old, new) = (set_of(1..=5)?, set_of(1..=8)?);
+    /// assert!(std::ptr::eq(old.head(&new)?, &new));
+    /// assert!(std::ptr::eq(new.head(&old)?, &new));
+    /// // equal sets: the one that was asked
+    /// let copy = new.clone();
+    /// assert!(std::ptr::eq(new.head(&copy)?, &new));
+    /// // 4 and 5 are the old server's alone, 6 to 8 the new one's
+    /// let other = (&new - &set_of(4..=5)?)?;
+    /// assert_eq!(old.head(&other), Err(Refusal::Diverged));
+    /// # Ok::<(), Refusal>(())
+    /// ```
+    pub fn head<'a>(&'a self, other: &'a ResumeSet) -> Result<&'a ResumeSet, Refusal> {
+        match told(sys::gtid_head, self, other)? {
+            1 => Ok(self),
+            _ => Ok(other),
+        }
+    }
+}
+
+/// A call that tells something of two sets, in a byte.
+type Tells = unsafe extern "C" fn(*const u8, usize, *const u8, usize, *mut u8) -> u8;
+
+fn told(call: Tells, first: &ResumeSet, second: &ResumeSet) -> Result<u8, Refusal> {
+    let (first, second) = (first.as_bytes(), second.as_bytes());
+    let mut said = 0;
+    let number = unsafe {
+        call(
+            first.as_ptr(),
+            first.len(),
+            second.as_ptr(),
+            second.len(),
+            &mut said,
+        )
+    };
+    Refusal::unless_zero(number).map(|()| said)
 }
 
 /// A call that writes a set made of two.

@@ -203,6 +203,7 @@ fn refusals_tell_name_number_and_words() {
         (Refusal::Full, 16),
         (Refusal::Crowded, 17),
         (Refusal::AbsentId, 21),
+        (Refusal::Diverged, 22),
         (Refusal::Unknown(200), 200),
     ] {
         assert_eq!(refusal.number(), number);
@@ -236,6 +237,7 @@ fn refusals_have_the_names_and_numbers_of_the_source() {
         Refusal::Full,
         Refusal::Crowded,
         Refusal::AbsentId,
+        Refusal::Diverged,
     ];
     for refusal in all {
         let shown = format!("{refusal:?}");
@@ -262,6 +264,7 @@ fn refusals_become_errors_of_io() {
         (Refusal::Full, io::ErrorKind::Other),
         (Refusal::Crowded, io::ErrorKind::Other),
         (Refusal::AbsentId, io::ErrorKind::InvalidData),
+        (Refusal::Diverged, io::ErrorKind::Other),
     ] {
         let error = io::Error::from(refusal);
         assert_eq!(error.kind(), kind);

@@ -3,6 +3,7 @@ use gtid_resume::{
     list, GtidEvent, Offered, Refusal, ResumeSet, HIGHEST_GNO, LONGEST_SET, PREVIOUS_GTIDS_EVENT,
 };
 use std::collections::{BTreeMap, BTreeSet};
+use std::ptr;
 
 mod common;
 use common::{body, entries, set, take, uuid, Listed, Random};
@@ -113,6 +114,19 @@ fn assert_calls(a: &ResumeSet, b: &ResumeSet) {
     }
     assert_eq!(a.is_subset(b), in_a.is_subset(&in_b));
     assert_eq!(a.is_superset(b), in_a.is_superset(&in_b));
+    assert_head(a, b, &in_a, &in_b);
+}
+
+/// The set that is handed back is the very one that was lent, also where the other has the same bytes.
+fn assert_head(a: &ResumeSet, b: &ResumeSet, in_a: &Ids, in_b: &Ids) {
+    match a.head(b) {
+        Ok(head) if in_a.is_superset(in_b) => assert!(ptr::eq(head, a)),
+        Ok(head) => assert!(ptr::eq(head, b) && in_b.is_superset(in_a)),
+        Err(refusal) => {
+            assert_eq!(refusal, Refusal::Diverged);
+            assert!(!in_a.is_superset(in_b) && !in_b.is_superset(in_a));
+        }
+    }
 }
 
 // ---- any sets
@@ -189,6 +203,9 @@ fn laws_hold() -> Result<(), Refusal> {
         assert_eq!((&a - &empty)?, a);
         assert_eq!((&empty - &a)?, empty);
         assert_eq!(a.is_subset(&b), left == empty);
+        // the head is the union, whichever is asked
+        assert_eq!(a.head(&b), b.head(&a));
+        assert!(a.head(&b).map_or(a != either && b != either, |head| *head == either));
         assert!(a.is_subset(&either) && both.is_subset(&a) && left.is_subset(&a));
         assert!(a.is_subset(&a) && empty.is_subset(&a));
     }
@@ -263,6 +280,54 @@ fn the_highest_number_is_one_like_others() {
     assert_eq!(&below | &highest, Ok(all.clone()));
     assert_eq!(&all & &highest, Ok(highest.clone()));
     assert!(highest.is_subset(&all) && !highest.is_subset(&below) && !all.is_subset(&below));
+}
+
+// ---- two heads
+
+/// The first, the second, or the refusal.
+fn head_of(a: &ResumeSet, b: &ResumeSet) -> Result<u8, Refusal> {
+    let head = a.head(b)?;
+    assert!(ptr::eq(head, a) || ptr::eq(head, b));
+    Ok(if ptr::eq(head, a) { 1 } else { 2 })
+}
+
+#[test]
+fn the_head_has_all_of_the_other() {
+    let old = set(&[(1, b"", &[(1, 41)]), (1, b"depot", &[(1, 8)])]);
+    let new = set(&[
+        (1, b"", &[(1, 44)]),
+        (1, b"depot", &[(1, 8)]),
+        (2, b"", &[(1, 2)]),
+    ]);
+    assert_eq!(head_of(&old, &new), Ok(2));
+    assert_eq!(head_of(&new, &old), Ok(1));
+    assert_eq!(head_of(&old, &old), Ok(1));
+    assert_eq!(head_of(&old, &old.clone()), Ok(1));
+    let empty = ResumeSet::empty();
+    assert_eq!(head_of(&empty, &old), Ok(2));
+    assert_eq!(head_of(&old, &empty), Ok(1));
+    assert_eq!(head_of(&empty, &ResumeSet::empty()), Ok(1));
+}
+
+#[test]
+fn neither_is_the_head_if_each_lacks_an_id() {
+    let apart = |a: &[Listed], b: &[Listed]| {
+        let (a, b) = (set(a), set(b));
+        assert_eq!(a.head(&b), Err(Refusal::Diverged));
+        assert_eq!(b.head(&a), Err(Refusal::Diverged));
+    };
+    // one number each, in the middle, at the ends, and next to each other
+    apart(&[(1, b"", &[(1, 9)])], &[(1, b"", &[(1, 4), (5, 10)])]);
+    apart(&[(1, b"", &[(1, 5)])], &[(1, b"", &[(2, 6)])]);
+    apart(&[(1, b"", &[(1, 2)])], &[(1, b"", &[(2, 3)])]);
+    // of different keys, the first or the last; the shorter set has an id of its own, too
+    apart(&[(1, b"", &[(1, 2)])], &[(2, b"", &[(1, 2)])]);
+    apart(&[(1, b"", &[(1, 2)])], &[(1, b"a", &[(1, 2)])]);
+    let long: Listed = (2, b"", &[(1, 2), (3, 4), (5, 6), (7, 8)]);
+    apart(&[(2, b"", &[(1, 3)])], &[long]);
+    apart(&[(1, b"", &[(1, 3)]), (3, b"", &[(1, 2)])], &[(1, b"", &[(1, 4)]), long]);
+    // as many ids in as many intervals
+    apart(&[(1, b"", &[(1, 3), (5, 7)])], &[(1, b"", &[(1, 3), (6, 8)])]);
 }
 
 // ---- limits

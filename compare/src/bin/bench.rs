@@ -80,6 +80,13 @@ mod linked {
             second_len: usize,
             within: *mut u8,
         ) -> u8;
+        pub fn gtid_head(
+            first: *const u8,
+            first_len: usize,
+            second: *const u8,
+            second_len: usize,
+            head: *mut u8,
+        ) -> u8;
         pub fn gtid_rewrite(
             body: *const u8,
             body_len: usize,
@@ -371,13 +378,28 @@ mod ours {
         };
         (refusal, within)
     }
+
+    #[inline(always)]
+    pub fn head(first: &[u8], second: &[u8]) -> (u8, u8) {
+        let mut head = 0;
+        let refusal = unsafe {
+            linked::gtid_head(
+                first.as_ptr(),
+                first.len(),
+                second.as_ptr(),
+                second.len(),
+                &raw mut head,
+            )
+        };
+        (refusal, head)
+    }
 }
 
 // ---- what is counted ----
 
 /// A word for it, what it is, and the smaller number of turns; the other is twice that.
 #[rustfmt::skip]
-const TABLE: [(&str, &str, u64); 68] = [
+const TABLE: [(&str, &str, u64); 74] = [
     ("varint-1", "read 64 variable-length integers of 1 byte", 1000),
     ("varint-2", "read 64 variable-length integers of 2 bytes", 1000),
     ("varint-3", "read 64 variable-length integers of 3 bytes", 1000),
@@ -442,6 +464,12 @@ const TABLE: [(&str, &str, u64); 68] = [
     ("without-2560", "without, the same two sets: 2,560", 10),
     ("within-2560", "within, the first of them in the result of either: yes", 10),
     ("within-no", "within, the first of them in the second: no, the first id is missing", 10),
+    ("head-first", "head, the result of either and the first of them: the first", 10),
+    ("head-second", "head, the same the other way round: the second", 10),
+    ("head-last", "head, 2,560 intervals of three uuids and the same but for the last one: the second, which has it", 10),
+    ("head-neither", "head, the same with a last one of its own in each: 22", 10),
+    ("head-apart", "head, the sets of the first row: 22, at the first ids", 10),
+    ("head-longest", "head, the longest set and itself: the first", 10),
     ("either-uuids", "either, 192 uuids and 192 others between them, 1 interval each", 10),
     ("either-384", "either, 384 uuids and the same uuids with other intervals, 1 each: 2 each", 10),
     ("either-tags", "either, 384 tags of one uuid and the same tags with other intervals, 1 each: 2 each", 10),
@@ -538,6 +566,12 @@ fn made(what: &str) -> Option<Made> {
         "without-2560" => of_two(ours::without, &tens(11, 16), &tens(14, 19), &tens(11, 14)),
         "within-2560" => lying_within(&tens(11, 16), &tens(11, 19), 1),
         "within-no" => lying_within(&tens(11, 16), &tens(14, 19), 0),
+        "head-first" => choosing(&tens(11, 19), &tens(11, 16), (0, 1)),
+        "head-second" => choosing(&tens(11, 16), &tens(11, 19), (0, 2)),
+        "head-last" => choosing(&but_last(&[]), &but_last(&[interval(511)]), (0, 2)),
+        "head-neither" => choosing(&but_last(&[interval(511)]), &but_last(&[interval(512)]), (22, 0)),
+        "head-apart" => choosing(&tens(11, 16), &tens(14, 19), (22, 0)),
+        "head-longest" => choosing(&longest(), &longest(), (0, 1)),
         "either-uuids" => of_two(
             ours::either,
             &every_second(0),
@@ -968,6 +1002,19 @@ fn lying_within(first: &[Entry], second: &[Entry], expected: u8) -> Made {
     }
 }
 
+fn choosing(first: &[Entry], second: &[Entry], expected: (u8, u8)) -> Made {
+    let (first, second) = (body(first), body(second));
+    assert_eq!(ours::head(&first, &second), expected);
+
+    Made {
+        bytes: first.len() + second.len(),
+        ours: turns(move || {
+            black_box(ours::head(black_box(&first), black_box(&second)));
+        }),
+        theirs: None,
+    }
+}
+
 fn listing(event_type: u8, body: &[u8], expected: &str) -> Made {
     let mut input = vec![event_type];
     input.extend(body);
@@ -1206,6 +1253,13 @@ fn tens(first: u64, end: u64) -> Vec<Entry> {
     several(&[1024, 1024, 512].map(|count| (0..count).map(one).collect()))
 }
 
+/// 2,559 intervals of three uuids, and these behind the last.
+fn but_last(more: &[(u64, u64)]) -> Vec<Entry> {
+    let mut lists = [1024, 1024, 511].map(intervals);
+    lists[2].extend(more);
+    several(&lists)
+}
+
 /// Of 384 uuids the first, the third and so on, or the others.
 fn every_second(place: usize) -> Vec<Entry> {
     uuids(384, false)
@@ -1409,7 +1463,7 @@ impl Sent {
 
 #[rustfmt::skip]
 fn stack() {
-    let rows: [(&str, &[&str]); 16] = [
+    let rows: [(&str, &[&str]); 17] = [
         ("gtid_read_varlen_uint", &["varint-1", "varint-7", "varint-9"]),
         ("gtid_read", &["read-untagged", "read-short", "read-tagged", "read-tagged-32"]),
         ("gtid_read_present", &["read-present", "read-present-32"]),
@@ -1425,6 +1479,7 @@ fn stack() {
         ("gtid_both", &["both-2560", "both-longest"]),
         ("gtid_without", &["without-2560", "without-longest"]),
         ("gtid_within", &["within-2560", "within-no", "within-longest"]),
+        ("gtid_head", &["head-first", "head-second", "head-last", "head-neither", "head-apart", "head-longest"]),
         ("gtid_list", &["list-35", "list-35-merged", "list-35-tags", "list-33", "list-42"]),
     ];
     println!("| call | bytes of stack | on the input |");

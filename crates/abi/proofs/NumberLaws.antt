@@ -1,6 +1,6 @@
 -- Answers of the library taken apart into numbers.
 use Prim.Native.Nat.{ℕ}
-use mathlib.Core.Path.{_≡_, ap}
+use mathlib.Core.Path.{_≡_, refl, ap}
 use mathlib.Core.List.{List}
 use Rattle.misc.specs.declared.Wrote.{Wrote}
 use Rattle.misc.specs.declared.ReadUint.{ReadUint}
@@ -10,8 +10,10 @@ use Rattle.resume_set.specs.declared.SetRead.{SetRead}
 use Rattle.resume_set.specs.declared.Contained.{Contained}
 use Rattle.resume_set.specs.declared.Offered.{Offered}
 use Rattle.two_sets.specs.declared.AllWithin.{AllWithin}
+use Rattle.two_sets.specs.declared.Choice.{Choice}
 use Rattle.abi.specs.declared.OfferNumbers.{OfferNumbers}
-use Rattle.abi.specs.Answers.{numbersOf, bit}
+use Rattle.abi.specs.declared.HeadNumbers.{HeadNumbers}
+use Rattle.abi.specs.Answers.{numbersOf, headNumbers, bit}
 
 pub wrote-parts : (w v : Wrote) (l m : List ℕ) → (w ≡ v) × (l ≡ m) → (w .refusal ≡ v .refusal) × ((w .len ≡ v .len) × (l ≡ m))
 wrote-parts w v l m e = (ap (λ (x : Wrote). x .refusal) (e .0), (ap (λ (x : Wrote). x .len) (e .0), e .1))
@@ -47,3 +49,7 @@ pub offer-parts : (n : OfferNumbers) (answer wanted : Offered) (l m : List ℕ)
     → (answer ≡ wanted) × (l ≡ m)
     → (n .refusal ≡ numbersOf wanted .refusal) × ((n .kind ≡ numbersOf wanted .kind) × ((n .len ≡ numbersOf wanted .len) × (l ≡ m)))
 offer-parts n answer wanted l m told e = (cc, (cc, (cc, e .1)))
+
+pub head-parts : (a b : Choice) (w : HeadNumbers) → w ≡ headNumbers a → a ≡ b
+    → (w .refusal ≡ headNumbers b .refusal) × (w .head ≡ headNumbers b .head)
+head-parts a b w e same = rw (e, same) (refl, refl)

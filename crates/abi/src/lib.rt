@@ -11,6 +11,7 @@ use misc::varlen::read_varlen_uint;
 use previous_gtids_event::read::entry_at;
 use previous_gtids_event::read::header_of;
 use resume_set::Offered;
+use two_sets::Choice;
 ghost use mathlib.Core.Path.{_≡_};
 ghost use lib.ListN.{length};
 ghost use Rattle.misc.specs.Parse.{uintRead};
@@ -23,9 +24,9 @@ ghost use Rattle.gtid_event_read.specs.Read.{seen, gtid};
 ghost use Rattle.gtid_sets.specs.Lent.{lentSet};
 ghost use Rattle.resume_set.specs.Answers.{setRead, contained, takeInAnswers, takeInLeaves, offerAnswers, offerLeaves};
 ghost use Rattle.gtid_sets.specs.Combine.{either, both, without};
-ghost use Rattle.two_sets.specs.Answers.{combineAnswers, combineLeaves, withinAnswers};
+ghost use Rattle.two_sets.specs.Answers.{combineAnswers, combineLeaves, withinAnswers, whichAnswers};
 ghost use Rattle.listing.specs.EventText.{listing};
-ghost use Rattle.abi.specs.Answers.{numbersOf, bit, entryIn};
+ghost use Rattle.abi.specs.Answers.{numbersOf, headNumbers, bit, entryIn};
 ghost use Rattle.abi.specs.Flat.{readOutput, readUsed, readPresent, writeOutput};
 
 mod flat;
@@ -251,6 +252,39 @@ pub extern "C" fn gtid_within(first: &[u8], second: &[u8], within: &mut u8) -> u
     let said = two_sets::within(first, second);
     *within = said.all as u8;
     said.refusal
+}
+
+// Which of two sets contains the other.
+struct HeadNumbers {
+    refusal: u8,
+    head: u8,
+}
+
+fn head_numbers(answer: Choice) -> HeadNumbers
+    ensures { λ r. ⌜ r ≡ headNumbers answer ⌝ }
+{
+    match answer {
+        Choice::Refused(refusal) => HeadNumbers { refusal, head: 0 },
+        Choice::First => HeadNumbers {
+            refusal: 0,
+            head: 1,
+        },
+        Choice::Second => HeadNumbers {
+            refusal: 0,
+            head: 2,
+        },
+    }
+}
+
+// Which of two sets contains the other: 1 is the first, also where they are equal, 2 the second, and 0 none of them.
+#[no_mangle]
+pub extern "C" fn gtid_head(first: &[u8], second: &[u8], head: &mut u8) -> u8
+    ensures { λ r. ⌜ r ≡ headNumbers (whichAnswers (now (first .entry)) (now (second .entry))) .refusal ⌝ }
+    ensures { λ _. ⌜ now (head .exit) ≡ headNumbers (whichAnswers (now (first .entry)) (now (second .entry))) .head ⌝ }
+{
+    let numbers = head_numbers(two_sets::which(first, second));
+    *head = numbers.head;
+    numbers.refusal
 }
 
 // Reads a GTID event of this type: its record is written, as 116 bytes, `used` is how many bytes of the body the event has, and `present`

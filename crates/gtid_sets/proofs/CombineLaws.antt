@@ -133,6 +133,12 @@ module _ (op : Bool → Bool → Bool) (none : op false false ≡ false) where
       → ((k : Key) (n : ℕ) → has u k n ≡ op (has s k n) (has t k n)) → u ≡ combined op s t
   is-combined s t u f g h m = set-unique u (combined op s t) h (combined-form s t f g) (λ k n. m k n ∙ sym (combined-has s t k n f g))
 
+-- the sets the other way round
+pub combined-swap : (op : Bool → Bool → Bool) → op false false ≡ false → (s t : List Entry) → SetForm s → SetForm t
+    → combined op s t ≡ combined (λ x y. op y x) t s
+combined-swap op none s t f g =
+    is-combined (λ x y. op y x) none t s (combined op s t) g f (combined-form op none s t f g) (λ k n. combined-has op none s t k n f g)
+
 -- ---- all ids of the first lie in the second
 
 pub not-first : (x y : Bool) → x ≡ true → without x y ≡ false → y ≡ true

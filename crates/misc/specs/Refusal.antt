@@ -85,3 +85,7 @@ crowded = numbered 17
 -- a tagged event was sent without its uuid or its gno, and its id is asked for (CR 6)
 abbrev pub absentId : Refusal
 absentId = numbered 21
+
+-- diverged: each of two sets has an id that the other lacks (CR 9)
+abbrev pub diverged : Refusal
+diverged = numbered 22

@@ -34,3 +34,5 @@ pub const FULL: u8 = 16;
 pub const CROWDED: u8 = 17;
 
 pub const ABSENT_ID: u8 = 21;
+
+pub const DIVERGED: u8 = 22;

@@ -18,10 +18,10 @@ const OUT_ROOM: usize = 140_000;
 const LINE_ROOM: usize = 450_000;
 
 // The line by the library's answer.
-fn answer_by_call(
+fn answer_by_call<'a>(
     head: Head,
-    a: &[u8],
-    b: &[u8],
+    a: &'a [u8],
+    b: &'a [u8],
     c: &[u8],
     out: &mut [u8],
     line: &mut [u8],
@@ -36,7 +36,7 @@ fn answer_by_call(
     if call < 48 {
         return probe_previous::answer(call, a, out, line);
     }
-    if (52 <= call) & (call < 56) {
+    if (52 <= call) & (call < 57) {
         return probe_two_sets::answer(call, head.number, a, b, out, line);
     }
     if (call < 64) | (call == 66) {
@@ -47,14 +47,28 @@ fn answer_by_call(
 
 // Puts the line that answers a request, without its end, at the front of `line`; returns its length. It ends in ` abi` where the
 // archive's function for the same call answers or writes something else.
-fn answer(head: Head, a: &[u8], b: &[u8], c: &[u8], out: &mut [u8], line: &mut [u8]) -> usize {
+fn answer<'a>(
+    head: Head,
+    a: &'a [u8],
+    b: &'a [u8],
+    c: &[u8],
+    out: &mut [u8],
+    line: &mut [u8],
+) -> usize {
     let end = answer_by_call(head, a, b, c, out, line);
     let another = probe_abi::another(head.call, head.event_type, head.number, a, b, c, out);
     probe_lines::line::push_text_if(line, end, another, b" abi")
 }
 
 // Answers the request whose parts stand at the front of `a`, `b` and `c`; false where one doesn't fit there.
-fn answer_read(head: Head, a: &[u8], b: &[u8], c: &[u8], out: &mut [u8], line: &mut [u8]) -> bool {
+fn answer_read<'a>(
+    head: Head,
+    a: &'a [u8],
+    b: &'a [u8],
+    c: &[u8],
+    out: &mut [u8],
+    line: &mut [u8],
+) -> bool {
     let a_len = head.a_len;
     let b_len = head.b_len;
     let c_len = head.c_len;

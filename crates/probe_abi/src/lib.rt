@@ -50,7 +50,7 @@ fn asked(
         48 => sets::take_in(a, out, twin),
         49 => sets::offer(a, event_type, b, out, twin),
         50 => sets::check_set(a),
-        52 | 53 | 54 | 55 => two::another(call, number, a, b, out, twin),
+        52 | 53 | 54 | 55 | 56 => two::another(call, number, a, b, out, twin),
         64 => bodies::list(a, out, twin),
         66 => sets::contains(a, b, c, number),
         _ => false,

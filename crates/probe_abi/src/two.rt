@@ -3,6 +3,7 @@ use crate::UNSET;
 use crate::differs;
 use misc::Wrote;
 use probe_lines::checks::fill;
+use two_sets::Choice;
 
 fn by_library(call: u8, first: &[u8], second: &[u8], out: &mut [u8]) -> Wrote {
     match call {
@@ -36,11 +37,28 @@ fn within(first: &[u8], second: &[u8]) -> bool {
     (said.refusal != refusal) | (said.all as u8 != all)
 }
 
-fn asked(call: u8, first: &[u8], second: &[u8], out: &mut [u8], twin: &mut [u8]) -> bool {
-    if call == 55 {
-        return within(first, second);
+// What the archive should say: the refusal, and the number of the set.
+fn head_differs(refusal: u8, head: u8, wanted_refusal: u8, wanted: u8) -> bool {
+    (refusal != wanted_refusal) | (head != wanted)
+}
+
+fn head(first: &[u8], second: &[u8]) -> bool {
+    let this = two_sets::which(first, second);
+    let mut head: u8 = 0xa5;
+    let refusal = abi::gtid_head(first, second, &mut head);
+    match this {
+        Choice::First => head_differs(refusal, head, 0, 1),
+        Choice::Second => head_differs(refusal, head, 0, 2),
+        Choice::Refused(number) => head_differs(refusal, head, number, 0),
     }
-    written(call, first, second, out, twin)
+}
+
+fn asked(call: u8, first: &[u8], second: &[u8], out: &mut [u8], twin: &mut [u8]) -> bool {
+    match call {
+        55 => within(first, second),
+        56 => head(first, second),
+        _ => written(call, first, second, out, twin),
+    }
 }
 
 pub(crate) fn another(

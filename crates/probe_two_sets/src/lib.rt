@@ -1,8 +1,10 @@
-// Calls 52 to 55 of the test program: two sets. An odd number lends the first set as both.
+// Calls 52 to 56 of the test program: two sets. An odd number lends the first set as both.
 use misc::Wrote;
 use probe_lines::answers;
 use probe_lines::checks;
 use probe_lines::line::push_text;
+use probe_lines::line::push_text_if;
+use two_sets::Choice;
 use two_sets::both;
 use two_sets::either;
 use two_sets::without;
@@ -35,15 +37,46 @@ fn within(first: &[u8], second: &[u8], line: &mut [u8]) -> usize {
     push_text(line, at, b"no")
 }
 
-fn asked(call: u8, first: &[u8], second: &[u8], out: &mut [u8], line: &mut [u8]) -> usize {
+// The word for one of the two sets, and whether the part has all of its bytes.
+fn handed(line: &mut [u8], word: &[u8], set: &[u8], part: &[u8]) -> usize {
+    let at = answers::ok(line);
+    let end = push_text(line, at, word);
+    push_text_if(line, end, !checks::is_suffix(set, 0, part), b" notpart")
+}
+
+fn head<'a>(first: &'a [u8], second: &'a [u8], line: &mut [u8]) -> usize {
+    let part = two_sets::head(first, second);
+    let this = two_sets::which(first, second);
+    match this {
+        Choice::First => handed(line, b"first", first, part),
+        Choice::Second => handed(line, b"second", second, part),
+        Choice::Refused(refusal) => answers::refused(line, refusal, part.len() != 0),
+    }
+}
+
+fn asked<'a>(
+    call: u8,
+    first: &'a [u8],
+    second: &'a [u8],
+    out: &mut [u8],
+    line: &mut [u8],
+) -> usize {
     match call {
         52 | 53 | 54 => written(call, first, second, out, line),
         55 => within(first, second, line),
+        56 => head(first, second, line),
         _ => answers::none(line),
     }
 }
 
-pub fn answer(call: u8, number: u64, a: &[u8], b: &[u8], out: &mut [u8], line: &mut [u8]) -> usize {
+pub fn answer<'a>(
+    call: u8,
+    number: u64,
+    a: &'a [u8],
+    b: &'a [u8],
+    out: &mut [u8],
+    line: &mut [u8],
+) -> usize {
     if number % 2 == 1 {
         return asked(call, a, a, out, line);
     }

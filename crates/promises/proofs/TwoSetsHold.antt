@@ -36,7 +36,7 @@ use Rattle.abi.specs.Answers.{bit}
 use Rattle.resume_set_laws.specs.History.{member}
 use Rattle.promises.specs.PlainFaults.{ShortFault, WriteFault}
 use Rattle.promises.specs.Exact.{Exactly}
-use Rattle.promises.specs.TwoSets.{Keeps, PairFault, CombineFault, ResultAs, CombineAnswer, CombinesExactly, ourCalls, WithinAnswer, allIn, ComparesExactly, Exceeding, TwoSets}
+use Rattle.promises.specs.TwoSets.{Keeps, Lacks, PairFault, CombineFault, ResultAs, CombineAnswer, CombinesExactly, ourCalls, WithinAnswer, allIn, ComparesExactly, Exceeding, TwoSets}
 use Rattle.promises.proofs.LimitsExact.{entry-limit, limits-refuse}
 use Rattle.promises.proofs.AtLimits.{spread, uuids, uuids-laid, fours, oneAndFour, threes, otherThrees}
 use Rattle.promises.proofs.SetsTold.{as-number}
@@ -46,7 +46,7 @@ use Rattle.promises.proofs.SetsExact.{apart, unfit-fault, fault-unfit}
 
 module _ (first second : List ℕ) where
   -- a fault of the pair, and what it comes to
-  pair-unfit : {P : Type 0} (n : ℕ) → PairFault first second n → (n ≡ 14 → lentSet first ≡ unfit → P)
+  pub pair-unfit : {P : Type 0} (n : ℕ) → PairFault first second n → (n ≡ 14 → lentSet first ≡ unfit → P)
       → (n ≡ 14 → (s : List Entry) → lentSet first ≡ form s → lentSet second ≡ unfit → P) → P
   pair-unfit n (PairFault.badFirst fault) one two = let (this, lent) = fault-unfit first n fault in one this lent
   pair-unfit n (PairFault.badSecond {s = s} laid fault) one two = let (this, lent) = fault-unfit second n fault in two this s (is-lent first s laid) lent
@@ -147,19 +147,22 @@ in-first true true h = clash h refl
 in-first true false h = (refl, refl)
 in-first false y h = clash h refl
 
-module _ (first second : List ℕ) where
-  module _ (s t : List Entry) (i : SetLaid first s) (j : SetLaid second t) where
-    told-as : WithinAnswer first second (record { refusal = 0; all = subset s t })
-    told-as = split (subset s t)
-        (λ all. rw all (WithinAnswer.inside i j (subset-says s t (i .formed) (j .formed) all)))
-        (λ not-all.
-        let (k, (n, there)) = first-member (combined without s t) (combined-form without refl s t (i .formed) (j .formed)) not-all in
-        let (here, gone) = in-first (has s k n) (has t k n) (sym (combined-has without refl s t k n (i .formed) (j .formed)) ∙ there) in
-        rw not-all (WithinAnswer.missing k n i j here gone))
+module _ (s t : List Entry) (f : SetForm s) (g : SetForm t) where
+  -- a member of what is left is an id that is missing, and the other way round
+  pub lacking : subset s t ≡ false → Lacks t s
+  lacking not-all =
+      let (k, (n, there)) = first-member (combined without s t) (combined-form without refl s t f g) not-all in
+      let (here, gone) = in-first (has s k n) (has t k n) (sym (combined-has without refl s t k n f g) ∙ there) in
+      record { key = k; gno = n; there = here; lacked = gone }
 
-    -- an id that is missing is a member of what is left
-    not-within : (k : Key) (n : ℕ) → has s k n ≡ true → has t k n ≡ false → subset s t ≡ false
-    not-within k n here gone = split (subset s t) (λ all. clash (subset-says s t (i .formed) (j .formed) all k n here) gone) (λ h. h)
+  pub not-within : Lacks t s → subset s t ≡ false
+  not-within l = split (subset s t) (λ all. clash (subset-says s t f g all (l .key) (l .gno) (l .there)) (l .lacked)) (λ h. h)
+
+module _ (first second : List ℕ) where
+  told-as : (s t : List Entry) → SetLaid first s → SetLaid second t → WithinAnswer first second (record { refusal = 0; all = subset s t })
+  told-as s t i j = split (subset s t)
+      (λ all. rw all (WithinAnswer.inside i j (subset-says s t (i .formed) (j .formed) all)))
+      (λ not-all. rw not-all (WithinAnswer.missing i j (lacking s t (i .formed) (j .formed) not-all)))
 
   within-found : (x y : Lent) → lentSet first ≡ x → lentSet second ≡ y → WithinAnswer first second (withinRead x y)
   within-found unfit y p q = WithinAnswer.refused (PairFault.badFirst (unfit-fault first p))
@@ -169,7 +172,7 @@ module _ (first second : List ℕ) where
   within-forced : (r : AllWithin) → WithinAnswer first second r → withinAnswers first second ≡ r
   within-forced r (WithinAnswer.refused {n = n} fault) = pair-unfit first second n fault (λ this p. rw (p, this)) (λ this s p q. rw (p, q, this))
   within-forced r (WithinAnswer.inside {s = s} {t = t} i j all) = rw (is-lent first s i, is-lent second t j, subset-from s t (i .formed) (j .formed) all)
-  within-forced r (WithinAnswer.missing {s = s} {t = t} k n i j here gone) = rw (is-lent first s i, is-lent second t j, not-within s t i j k n here gone)
+  within-forced r (WithinAnswer.missing {s = s} {t = t} i j lacks) = rw (is-lent first s i, is-lent second t j, not-within s t (i .formed) (j .formed) lacks)
 
 pub compares-exactly : ComparesExactly withinAnswers
 compares-exactly first second r = (
@@ -221,7 +224,7 @@ module _ (op : Bool → Bool → Bool) (none : op false false ≡ false) (first 
           (λ over. let clash : 13 ≡ 0 = rw (e, over) at zero in absurd (omega arith))
 
 -- the empty set
-none-fine : limits [] ≡ fine
+pub none-fine : limits [] ≡ fine
 none-fine = limits-from [] refl (omega arith) (omega arith)
 
 only-empty : (u : List Entry) → SetForm u → GoodKeys u → limits u ≡ fine → bodyBytes u ≡ bodyBytes [] → u ≡ []
@@ -236,7 +239,7 @@ module _ (first second : List ℕ) where
   empty-kept r (WithinAnswer.refused fault) e = clash (ap (λ (x : AllWithin). x .all) e) refl
   empty-kept r (WithinAnswer.inside {s = s} {t = t} i j all) e =
       ResultAs.kept {u = []} i j (record { formed = tt; members = λ k n. sym (in-second (has s k n) (has t k n) (all k n)) }) none-fine
-  empty-kept r (WithinAnswer.missing k n i j here gone) e = clash (ap (λ (x : AllWithin). x .all) e) refl
+  empty-kept r (WithinAnswer.missing i j lacks) e = clash (ap (λ (x : AllWithin). x .all) e) refl
 
   kept-empty : (bs : List ℕ) → ResultAs without first second bs → bs ≡ bodyBytes [] → WithinAnswer first second allIn
   kept-empty bs (ResultAs.kept {s = s} {t = t} {u = u} i j k within) e =

@@ -22,7 +22,9 @@ use Rattle.gtid_event_write.specs.Size.{payloadSize, sizeIn64}
 use Rattle.gtid_event_write.specs.Write.{eventBytes}
 use Rattle.gtid_sets.specs.Set.{add}
 use Rattle.gtid_sets.specs.Combine.{either, both, without, marks, combined, subset}
-use Rattle.abi.specs.Answers.{bit}
+use Rattle.gtid_sets.specs.Lent.{form}
+use Rattle.two_sets.specs.Answers.{headRead}
+use Rattle.abi.specs.Answers.{headNumbers, bit}
 use Rattle.abi.specs.Flat.{flat, flatRead}
 
 -- a row: what a definition gives, and what the rules say
@@ -49,6 +51,10 @@ present type body = gtidRead (seen type body) .present
 abbrev firstPairs : List Entry → List ℕ
 firstPairs [] = []
 firstPairs (entry k is ∷ s) = marks is
+
+-- which of two sets has all ids of the other: the refusal, and 1 for the first, 2 for the second
+abbrev headAs : List Entry → List Entry → List ℕ
+headAs s t = let n = headNumbers (headRead (form s) (form t)) in n .refusal ∷ n .head ∷ []
 
 -- zero uuid, gno 1, tag "a", sequence number 1, all else 0
 abbrev small : GtidEvent
@@ -188,6 +194,11 @@ edges =
     ∷ edge (truth (subset (ofZeros (interval 3 6 ∷ [])) (ofZeros oneList))) (only 1)
     ∷ edge (truth (subset (ofZeros oneList) (ofZeros otherList))) (only 0)
     ∷ edge (truth (subset [] (ofZeros oneList))) (only 1)
+    -- so of {3-5} and the first the second is the head, and the other way round the first; of the two sets neither; of two empty ones the first
+    ∷ edge (headAs (ofZeros (interval 3 6 ∷ [])) (ofZeros oneList)) (0 ∷ 2 ∷ [])
+    ∷ edge (headAs (ofZeros oneList) (ofZeros (interval 3 6 ∷ []))) (0 ∷ 1 ∷ [])
+    ∷ edge (headAs (ofZeros oneList) (ofZeros otherList)) (22 ∷ 0 ∷ [])
+    ∷ edge (headAs [] []) (0 ∷ 1 ∷ [])
     -- the same uuid with a tag is another key: none is in both, two entries in either; and an entry that is left empty goes
     ∷ edge (only (length (combined both (ofZeros oneList) (ofTag oneList)))) (only 0)
     ∷ edge (only (length (combined either (ofZeros oneList) (ofTag oneList)))) (only 2)

@@ -30,6 +30,17 @@ pub record Keeps (op : Bool → Bool → Bool) (s t u : List Entry) : Type 0 whe
   pub formed : SetForm u
   pub members : (k : Key) (n : ℕ) → has u k n ≡ op (has s k n) (has t k n)
 
+-- every id of t is one of s
+abbrev pub Contains : List Entry → List Entry → Type 0
+Contains s t = (k : Key) (n : ℕ) → has t k n ≡ true → has s k n ≡ true
+
+-- an id of t that s lacks
+pub record Lacks (s t : List Entry) : Type 0 where
+  pub key : Key
+  pub gno : ℕ
+  pub there : has t key gno ≡ true
+  pub lacked : has s key gno ≡ false
+
 -- ---- refusals
 
 -- which of the two was judged can't be told by the number
@@ -77,15 +88,16 @@ ourCalls op = record { answers = combineAnswers op; leaves = combineLeaves op }
 pub data WithinAnswer (first second : List ℕ) : AllWithin → Type 0 where
   refused : {n : ℕ} → PairFault first second n → WithinAnswer first second (record { refusal = n; all = false })
   -- yes: every id of the first set is in the second
-  inside : {s t : List Entry} → SetLaid first s → SetLaid second t → ((k : Key) (n : ℕ) → has s k n ≡ true → has t k n ≡ true)
-      → WithinAnswer first second (record { refusal = 0; all = true })
+  inside : {s t : List Entry} → SetLaid first s → SetLaid second t → Contains t s → WithinAnswer first second (record { refusal = 0; all = true })
   -- no: there is one that isn't
-  missing : {s t : List Entry} (k : Key) (n : ℕ) → SetLaid first s → SetLaid second t → has s k n ≡ true → has t k n ≡ false
-      → WithinAnswer first second (record { refusal = 0; all = false })
+  missing : {s t : List Entry} → SetLaid first s → SetLaid second t → Lacks t s → WithinAnswer first second (record { refusal = 0; all = false })
 
--- the answer yes
+-- the answers yes and no
 abbrev pub allIn : AllWithin
 allIn = record { refusal = 0; all = true }
+
+abbrev pub notAllIn : AllWithin
+notAllIn = record { refusal = 0; all = false }
 
 abbrev pub ComparesExactly : (List ℕ → List ℕ → AllWithin) → Type 0
 ComparesExactly f = (first second : List ℕ) (r : AllWithin) → Exactly (f first second ≡ r) (WithinAnswer first second r)

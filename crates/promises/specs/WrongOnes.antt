@@ -1,6 +1,6 @@
--- Wrong programs that the demands shut out: `ShutOut`, `Crowding`, `Absent` and `TwoShut` of proofs/.
+-- Wrong programs that the demands shut out: `ShutOut`, `Crowding`, `Absent`, `TwoShut` and `HeadsShut` of proofs/.
 use Prim.Native.Nat.{ℕ, _+_}
-use mathlib.Core.Bool.{Bool, false, _&&_}
+use mathlib.Core.Bool.{Bool, true, false, not, _&&_, _||_}
 use mathlib.Core.List.{List, [], _∷_, _++_}
 use lib.ListN.{length, set, replicate}
 use lib.Dec.{eqb, ltb, leb}
@@ -25,8 +25,10 @@ use Rattle.gtid_sets.specs.Run.{Event, anonymous, broken, names}
 use Rattle.gtid_sets.specs.Lent.{lentSet}
 use Rattle.gtid_sets.specs.Combine.{either, both, without}
 use Rattle.resume_set.specs.Answers.{setRead, says, eventOf, offered, output}
-use Rattle.two_sets.specs.Answers.{withinAnswers}
+use Rattle.two_sets.specs.Answers.{combineAnswers, withinAnswers}
 use Rattle.two_sets.specs.declared.AllWithin.{AllWithin}
+use Rattle.two_sets.specs.declared.Choice.{Choice}
+use Rattle.two_sets.specs.declared.Choice.the-variants as chosen-as
 use Rattle.resume_set.specs.declared.Offered.{Offered}
 use Rattle.resume_set.specs.declared.Offered.the-variants.{NoId, AlreadyThere, Taken, Refused}
 use Rattle.resume_set_laws.specs.History.{Offering}
@@ -36,6 +38,7 @@ use Rattle.promises.specs.TaggedLayout.{the-tag, seenIn}
 use Rattle.promises.specs.Meaning.{EventReader, EventWriter, EntriesReader}
 use Rattle.promises.specs.Exact.{Asking, asks}
 use Rattle.promises.specs.TwoSets.{Combiner, ourCalls}
+use Rattle.promises.specs.Heads.{Handing, ourHead}
 
 -- refuses whatever comes
 abbrev pub refusesAll : EventReader
@@ -281,3 +284,38 @@ comparesLengths = testedBy (λ a b. leb (length a) (length b))
 
 abbrev pub wantsSame : List ℕ → List ℕ → AllWithin
 wantsSame = testedBy (λ a b. same a b)
+
+-- ---- two heads
+
+-- chooses one of two sets, or refuses, by other tests: the first of them that holds decides
+abbrev pub chosenBy : (List ℕ → List ℕ → Bool) → (List ℕ → List ℕ → Bool) → List ℕ → List ℕ → Choice
+chosenBy isFirst isSecond first second =
+    pick (eqb (withinAnswers first second .refusal) 0) (pick (isFirst first second) chosen-as.First (pick (isSecond first second) chosen-as.Second (chosen-as.Refused 22)))
+    (chosen-as.Refused (withinAnswers first second .refusal))
+
+-- the first, where one of the two contains the other
+abbrev pub firstOfTwo : List ℕ → List ℕ → Choice
+firstOfTwo = chosenBy (λ a b. withinAnswers a b .all || withinAnswers b a .all) (λ a b. false)
+
+-- the longer one
+abbrev pub longerOne : List ℕ → List ℕ → Choice
+longerOne = chosenBy (λ a b. leb (length b) (length a)) (λ a b. true)
+
+-- one that has more than the other: neither of two that are equal
+abbrev pub wantsMore : List ℕ → List ℕ → Choice
+wantsMore = chosenBy (λ a b. withinAnswers b a .all && not (same a b)) (λ a b. withinAnswers a b .all && not (same a b))
+
+-- the second of two that are equal
+abbrev pub secondOfEqual : List ℕ → List ℕ → Choice
+secondOfEqual = chosenBy (λ a b. withinAnswers b a .all && not (same a b)) (λ a b. withinAnswers a b .all)
+
+-- asks for an id in common: the empty set is in none
+abbrev pub common : List ℕ → List ℕ → Bool
+common a b = ltb (length (bodyBytes [])) (combineAnswers both a b [] .len)
+
+abbrev pub wantsCommon : List ℕ → List ℕ → Choice
+wantsCommon = chosenBy (λ a b. withinAnswers b a .all && common a b) (λ a b. withinAnswers a b .all && common a b)
+
+-- hands back the right bytes, but of the second of two that are equal
+abbrev pub equalElsewhere : Handing
+equalElsewhere = record { part = ourHead .part; place = λ first second p q. pick (same first second) q (ourHead .place first second p q) }

@@ -2,14 +2,15 @@
 use Prim.Native.Nat.{ℕ, _+_, _<_, _≤_}
 use mathlib.Core.Path.{_≡_, refl, sym, ap, _∙_}
 use mathlib.Core.Logic.{inl, inr}
-use mathlib.Core.Bool.{Bool, true, false}
+use mathlib.Core.Bool.{Bool, true, false, not, _&&_, Bool·not-not}
 use mathlib.Core.List.{List, [], _∷_, _++_}
 use native.Mathlib.Omega.{arith}
 use lib.Dec.{ltb}
 use lib.ListN.{length, length-append}
 use borrow.Author.Tests.{ltb-false}
+use Rattle.misc.specs.Pick.{pick}
 use Rattle.misc.specs.Refusal.{notASet}
-use Rattle.misc.specs.Output.{outputOf, answerOf, WhereFits}
+use Rattle.misc.specs.Output.{refused, outputOf, answerOf, WhereFits}
 use Rattle.misc.specs.declared.Wrote.{Wrote}
 use Rattle.misc.proofs.OutputLaws.{_also_, output-refused}
 use Rattle.packets.specs.Key.{Key}
@@ -18,13 +19,13 @@ use Rattle.previous_gtids_event.specs.Entry.{Entry, entry, tagOf}
 use Rattle.previous_gtids_event.specs.Rewrite.{entriesBytes, anyTag, headerBytes, bodyBytes}
 use Rattle.previous_gtids_event.proofs.Writing.{length-header, entry-length}
 use Rattle.gtid_sets.specs.Limits.{judgedAs, judged, limits}
-use Rattle.gtid_sets.specs.Lent.{form, unfit, lentSet, GoodKeys}
-use Rattle.gtid_sets.specs.Combine.{without, marks, isOpen, spans, keep, combined, isEmpty}
+use Rattle.gtid_sets.specs.Lent.{Lent, form, unfit, lentSet, GoodKeys}
+use Rattle.gtid_sets.specs.Combine.{without, marks, isOpen, spans, keep, combined, isEmpty, subset}
 use Rattle.gtid_sets.proofs.Bools.{or-false-parts}
 use Rattle.gtid_sets.proofs.ByteLaws.{entries-least}
 use Rattle.gtid_sets.proofs.LimitLaws.{longestSet-is, limits-judged}
 use Rattle.gtid_sets.proofs.LentLaws.{lent-short}
-use Rattle.gtid_sets.proofs.CombineLaws.{combined-good}
+use Rattle.gtid_sets.proofs.CombineLaws.{combined-good, combined-swap}
 use Rattle.set_check.specs.Check.{checkedOf}
 use Rattle.set_check.specs.declared.Checked.{Checked}
 use Rattle.set_check.proofs.PlaceLaws.{one-byte}
@@ -32,12 +33,15 @@ use Rattle.resume_set.specs.Answers.{saved}
 use Rattle.resume_set.specs.Find.{setOf, Fits}
 use Rattle.resume_set.proofs.SetOfLaws.{set-bytes, set-stands}
 use Rattle.resume_set.proofs.AnswerLaws.{check-told, check-unfit, saved-refused, joined-short, joined-fits}
-use Rattle.two_sets.specs.Answers.{combineAnswers, combineLeaves, withinAnswers, begun, OneUnfit, BeginningIs}
+use Rattle.two_sets.specs.Answers.{combinedOutput, combineAnswers, combineLeaves, withinRead, withinAnswers, headRead, whichAnswers, begun, OneUnfit, BeginningIs}
 use Rattle.two_sets.specs.Marks.{going, anyMark}
 use Rattle.two_sets.specs.Pairs.{entriesLeft, CursorIs, CursorsAre, combining, keyIn, PairIs}
 use Rattle.two_sets.specs.Write.{MadeIs, madeLength}
 use Rattle.two_sets.specs.declared.Cursors.{Cursors}
+use Rattle.two_sets.specs.Heads.{none, ownIds}
 use Rattle.two_sets.specs.declared.AllWithin.{AllWithin}
+use Rattle.two_sets.specs.declared.Choice.the-variants.{First, Second, Refused}
+use Rattle.two_sets.specs.declared.Own.{Own}
 use Rattle.two_sets.specs.declared.Beginning.{Beginning}
 use Rattle.two_sets.specs.declared.Pair.{Pair}
 use Rattle.two_sets.specs.declared.Made.{Made}
@@ -84,15 +88,19 @@ module _ (bs cs : List ℕ) (c : Checked) (p : c ≡ checkedOf (lentSet bs)) (fr
 
 -- ---- what the calls answer then
 
+-- one of the two is no set
+unfit-told : {A : Type 0} (answer : Lent → Lent → A) (a : A) → ((y : Lent) → a ≡ answer unfit y) → ((s : List Entry) → a ≡ answer (form s) unfit)
+    → (bs cs : List ℕ) → OneUnfit bs cs → a ≡ answer (lentSet bs) (lentSet cs)
+unfit-told answer a one two bs cs (inl p) = rw p (one (lentSet cs))
+unfit-told answer a one two bs cs (inr (s, p, q)) = rw (p, q) (two s)
+
 module _ (bs cs : List ℕ) (r : Beginning) (i : BeginningIs bs cs r) where
   module _ (op : Bool → Bool → Bool) (out : List ℕ) where
     pub combine-unfit : (r .refusal ≡ 0 → ⊥)
         → (_≡_ {A = Wrote} (record { refusal = r .refusal; len = 0 }) (combineAnswers op bs cs out)) × (out ≡ combineLeaves op bs cs out)
-    combine-unfit some = let (this, one) = i .unfit some in rw this (go one)
-      where
-        go : OneUnfit bs cs → (_≡_ {A = Wrote} (record { refusal = 14; len = 0 }) (combineAnswers op bs cs out)) × (out ≡ combineLeaves op bs cs out)
-        go (inl p) = rw p (output-refused out notASet)
-        go (inr (s, p, q)) = rw (p, q) (output-refused out notASet)
+    combine-unfit some =
+        let (this, one) = i .unfit some in
+        rw (this, ← unfit-told (combinedOutput op) (refused notASet) (λ _. refl) (λ _. refl) bs cs one) (output-refused out notASet)
 
     pub combine-lent : r .refusal ≡ 0 → (w : Wrote) (l : List ℕ)
         → (w ≡ answerOf out (saved (combining op bs cs (r .from)))) × (l ≡ outputOf out (saved (combining op bs cs (r .from))))
@@ -100,15 +108,38 @@ module _ (bs cs : List ℕ) (r : Beginning) (i : BeginningIs bs cs r) where
     combine-lent fine w l h = let b = i .lent fine in rw (b .first, b .second) h
 
   pub within-unfit : (r .refusal ≡ 0 → ⊥) → _≡_ {A = AllWithin} (record { refusal = r .refusal; all = false }) (withinAnswers bs cs)
-  within-unfit some = let (this, one) = i .unfit some in rw this (go one)
-    where
-      go : OneUnfit bs cs → _≡_ {A = AllWithin} (record { refusal = 14; all = false }) (withinAnswers bs cs)
-      go (inl p) = rw p
-      go (inr (s, p, q)) = rw (p, q)
+  within-unfit some =
+      let (this, one) = i .unfit some in
+      rw this (unfit-told withinRead (record { refusal = 14; all = false }) (λ _. refl) (λ _. refl) bs cs one)
 
   pub within-lent : r .refusal ≡ 0 → (b : Bool) → b ≡ isEmpty (combining without bs cs (r .from))
       → _≡_ {A = AllWithin} (record { refusal = 0; all = b }) (withinAnswers bs cs)
   within-lent fine b e = let l = i .lent fine in rw (l .first, l .second, e)
+
+  pub which-unfit : (r .refusal ≡ 0 → ⊥) → Refused (r .refusal) ≡ whichAnswers bs cs
+  which-unfit some = let (this, one) = i .unfit some in rw this (unfit-told headRead (Refused 14) (λ _. refl) (λ _. refl) bs cs one)
+
+  module _ (fine : r .refusal ≡ 0) (own : Own) (is : own ≡ ownIds bs cs (r .from) none) where
+    abbrev s : List Entry
+    s = entriesLeft bs (r .from .first)
+
+    abbrev t : List Entry
+    t = entriesLeft cs (r .from .second)
+
+    -- the second has no id of its own exactly if it is a subset of the first, and so the other way round
+    which-told : pick (not (own .second)) First (pick (not (own .first)) Second (Refused 22)) ≡ whichAnswers bs cs
+    which-told =
+        let l = i .lent fine in
+        rw (is, l .first, l .second, ← combined-swap without refl t s (l .cursors .second .formed) (l .cursors .first .formed), Bool·not-not (subset t s), Bool·not-not (subset s t))
+
+    pub first-has : not (own .second) ≡ true → First ≡ whichAnswers bs cs
+    first-has e = rw e at which-told
+
+    pub second-has : not (own .second) ≡ false → not (own .first) ≡ true → Second ≡ whichAnswers bs cs
+    second-has e f = rw (e, f) at which-told
+
+    pub neither-has : not (own .second) ≡ false → not (own .first) ≡ false → Refused 22 ≡ whichAnswers bs cs
+    neither-has e f = rw (e, f) at which-told
 
 -- ---- whether an id is missing
 
@@ -118,17 +149,13 @@ pub record Missing (bs cs : List ℕ) (from left : Cursors) : Type 0 where
   pub same : isEmpty (combining without bs cs from) ≡ isEmpty (combining without bs cs left)
 
 -- marks make an entry that isn't empty
-not-empty : (k : Key) (ms : List ℕ) (s : List Entry) → isOpen ms ≡ false → anyMark ms ≡ true → isEmpty (keep k (spans ms) s) ≡ false
-not-empty k [] s h e = clash e refl
-not-empty k (x ∷ []) s h e = clash refl h
-not-empty k (x ∷ y ∷ ms) s h e = refl
-
-no-marks : (ms : List ℕ) → anyMark ms ≡ false → ms ≡ []
-no-marks [] e = refl
-no-marks (m ∷ ms) e = clash refl e
+pub not-empty : (k : Key) (ms : List ℕ) (s : List Entry) → isOpen ms ≡ false → isEmpty (keep k (spans ms) s) ≡ not (anyMark ms) && isEmpty s
+not-empty k [] s h = refl
+not-empty k (x ∷ []) s h = clash refl h
+not-empty k (x ∷ y ∷ ms) s h = refl
 
 -- nothing is left of no set
-none-without : (t : List Entry) → combined without [] t ≡ []
+pub none-without : (t : List Entry) → combined without [] t ≡ []
 none-without [] = refl
 none-without (entry j js ∷ t) = rw (alone-second without refl (marks js)) (none-without t)
 
@@ -143,16 +170,16 @@ module _ (bs cs : List ℕ) (from : Cursors) where
         sym (g .same ∙ ap isEmpty none)
 
     module _ (r : Pair) (i : PairIs bs cs left r) (any : Bool) (is : any ≡ anyMark (going without bs cs (r .sides))) where
+      next-missing : isEmpty (combining without bs cs from) ≡ not any && isEmpty (combining without bs cs (r .after))
+      next-missing =
+          g .same ∙ ap isEmpty (i .goes without)
+          ∙ rw is (not-empty (keyIn bs cs (r .key)) (going without bs cs (r .sides)) (combining without bs cs (r .after)) (i .shut without refl))
+
       pub missing-turn : any ≡ false → Missing bs cs from (r .after)
-      missing-turn e =
-          let none : going without bs cs (r .sides) ≡ [] = no-marks (going without bs cs (r .sides)) (sym is ∙ e) in
-          let same : combining without bs cs left ≡ combining without bs cs (r .after) = i .goes without ∙ rw none in
-          record { cursors = i .after; same = g .same ∙ ap isEmpty same }
+      missing-turn e = record { cursors = i .after; same = next-missing ∙ rw e }
 
       pub missing-found : any ≡ true → false ≡ isEmpty (combining without bs cs from)
-      missing-found e =
-          sym (g .same ∙ ap isEmpty (i .goes without) ∙ not-empty (keyIn bs cs (r .key)) (going without bs cs (r .sides)) (combining without bs cs (r .after))
-          (i .shut without refl) (sym is ∙ e))
+      missing-found e = sym (next-missing ∙ rw e)
 
 -- ---- a result that was measured
 

@@ -24,11 +24,12 @@ use Rattle.gtid_sets.proofs.Bools.{or-false-parts}
 use Rattle.gtid_sets.proofs.SweepLaws.{lower, sweep-lt, sweep-eq, sweep-gt}
 use Rattle.set_check.specs.Places.{numberAt}
 use Rattle.set_check.proofs.PlaceLaws.{Bytes, number-stands}
-use Rattle.two_sets.specs.Marks.{saidBy, marksAt, marksOf, nextMark, passedSide, leftOf, going, anyMark, allIf, flipped, oneIf, SideIs, SidesAre, TurnIs, NextIs, marksBytes, MarksPut}
+use Rattle.two_sets.specs.Marks.{saidBy, marksAt, marksOf, nextMark, passedSide, leftOf, going, anyMark, allIf, flipped, oneIf, SideIs, SidesAre, keepsNow, StepIs, TurnIs, NextIs, marksBytes, MarksPut}
 use Rattle.two_sets.specs.declared.Operation.{Operation}
 use Rattle.two_sets.specs.declared.Operation.the-variants as operation
 use Rattle.two_sets.specs.declared.Side.{Side}
 use Rattle.two_sets.specs.declared.Sides.{Sides}
+use Rattle.two_sets.specs.declared.Step.{Step}
 use Rattle.two_sets.specs.declared.Turn.{Turn}
 
 -- an id that is in neither set is never kept
@@ -133,7 +134,7 @@ fewer true false one two p q o = omega (arith, p refl)
 fewer false true one two p q o = omega (arith, q refl)
 fewer false false one two p q o = clash (o refl) refl
 
-module _ (op : Bool → Bool → Bool) (bs cs : List ℕ) (s : Sides) (i : SidesAre bs cs s) (some : 0 < leftOf s)
+module _ (bs cs : List ℕ) (s : Sides) (i : SidesAre bs cs s) (some : 0 < leftOf s)
     (m n : ℕ) (em : m ≡ nextMark (marksOf bs (s .one))) (en : n ≡ nextMark (marksOf cs (s .two))) where
   marked : 0 < length (marksOf bs (s .one)) + length (marksOf cs (s .two))
   marked = omega (arith, marks-count (s .one .left) bs (s .one .at), marks-count (s .two .left) cs (s .two .at))
@@ -155,24 +156,15 @@ module _ (op : Bool → Bool → Bool) (bs cs : List ℕ) (s : Sides) (i : Sides
       )
 
   -- what the code makes of the next mark
-  module _ (a b : Side) (ea : a ≡ passedSide (leb m n) (s .one)) (eb : b ≡ passedSide (leb n m) (s .two)) (x y u v before behind : Bool)
-      (ex : x ≡ eqb (s .one .left % 2) 1) (ey : y ≡ eqb (s .two .left % 2) 1) (eu : u ≡ eqb (a .left % 2) 1) (ev : v ≡ eqb (b .left % 2) 1)
-      (is-before : before ≡ op x y) (is-behind : behind ≡ op u v) (l : ℕ) (el : l ≡ min m n) where
-    said : before ≡ keeps op (marksOf bs (s .one)) (marksOf cs (s .two))
-    said = is-before
-        ∙ rw (ex ∙ marks-open (s .one .left) bs (s .one .at), ey ∙ marks-open (s .two .left) cs (s .two .at))
-
-    said-behind : behind ≡ keeps op (marksOf bs a) (marksOf cs b)
-    said-behind = is-behind ∙ rw (eu ∙ marks-open (a .left) bs (a .at), ev ∙ marks-open (b .left) cs (b .at))
-
-    goes : going op bs cs s ≡ flipped (differ before behind) l (going op bs cs (record { one = a; two = b }))
-    goes =
+  module _ (a b : Side) (ea : a ≡ passedSide (leb m n) (s .one)) (eb : b ≡ passedSide (leb n m) (s .two)) (l : ℕ) (el : l ≡ min m n) where
+    goes : (op : Bool → Bool → Bool) → going op bs cs s ≡ mark (keepsNow op bs cs s) (keeps op (marksOf bs a) (marksOf cs b)) l
+        (going op bs cs (record { one = a; two = b }))
+    goes op =
         sweep-next op (marksOf bs (s .one)) (marksOf cs (s .two)) (i .first .rises) (i .second .rises) marked
-        ∙ rw (← em, ← en, ← passed-marks bs (leb m n) (s .one), ← passed-marks cs (leb n m) (s .two), ← ea, ← eb, ← said, ← said-behind, ← el)
-        (mark-flips before behind l (going op bs cs (record { one = a; two = b })))
+        ∙ rw (← em, ← en, ← passed-marks bs (leb m n) (s .one), ← passed-marks cs (leb n m) (s .two), ← ea, ← eb, ← el)
 
-    pub turn-is : TurnIs op bs cs s (record { sides = record { one = a; two = b }; flips = differ before behind; mark = l })
-    turn-is = record {
+    pub step-is : StepIs bs cs s (record { sides = record { one = a; two = b }; mark = l })
+    step-is = record {
       goes = goes;
       sides = record {
         first = rw ea (passed-side bs (leb m n) (s .one) pass-one (i .first));
@@ -180,6 +172,19 @@ module _ (op : Bool → Bool → Bool) (bs cs : List ℕ) (s : Sides) (i : Sides
       };
       less = rw (ea, eb) (fewer (leb m n) (leb n m) (s .one) (s .two) pass-one pass-two (λ h. le-leb n m (omega tests)));
     }
+
+-- what an operation says before a mark and behind it
+module _ (op : Bool → Bool → Bool) (bs cs : List ℕ) (s : Sides) where
+  pub keeps-said : (x y kept : Bool) → x ≡ eqb (s .one .left % 2) 1 → y ≡ eqb (s .two .left % 2) 1 → kept ≡ op x y → kept ≡ keepsNow op bs cs s
+  keeps-said x y kept ex ey e = e ∙ rw (ex ∙ marks-open (s .one .left) bs (s .one .at), ey ∙ marks-open (s .two .left) cs (s .two .at))
+
+  pub turn-is : (r : Step) → StepIs bs cs s r → (before behind : Bool) → before ≡ keepsNow op bs cs s → behind ≡ keepsNow op bs cs (r .sides)
+      → TurnIs op bs cs s (record { sides = r .sides; flips = differ before behind; mark = r .mark })
+  turn-is r i before behind e f = record {
+    goes = i .goes op ∙ rw (← e, ← f) (mark-flips before behind (r .mark) (going op bs cs (r .sides)));
+    sides = i .sides;
+    less = i .less;
+  }
 
 -- ---- up to the next mark of the result
 

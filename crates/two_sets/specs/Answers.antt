@@ -3,8 +3,9 @@ use Prim.Native.Nat.{ℕ, _≤_}
 use mathlib.Core.Path.{_≡_}
 use mathlib.Core.Logic.{_⊎_}
 use mathlib.Core.Bool.{Bool, false}
-use mathlib.Core.List.{List}
-use Rattle.misc.specs.Refusal.{number, notASet}
+use mathlib.Core.List.{List, []}
+use Rattle.misc.specs.Pick.{pick}
+use Rattle.misc.specs.Refusal.{number, notASet, diverged}
 use Rattle.misc.specs.Output.{Output, refused, outputOf, answerOf}
 use Rattle.misc.specs.declared.Wrote.{Wrote}
 use Rattle.previous_gtids_event.specs.Entry.{Entry}
@@ -13,6 +14,8 @@ use Rattle.gtid_sets.specs.Lent.{Lent, form, unfit, lentSet}
 use Rattle.resume_set.specs.Answers.{saved}
 use Rattle.set_check.specs.declared.Checked.{Checked}
 use Rattle.two_sets.specs.declared.AllWithin.{AllWithin}
+use Rattle.two_sets.specs.declared.Choice.{Choice}
+use Rattle.two_sets.specs.declared.Choice.the-variants.{First, Second, Refused}
 use Rattle.two_sets.specs.declared.Cursor.{Cursor}
 use Rattle.two_sets.specs.declared.Cursors.{Cursors}
 use Rattle.two_sets.specs.declared.Beginning.{Beginning}
@@ -42,6 +45,29 @@ withinRead (form s) (form t) = record { refusal = 0; all = subset s t }
 
 abbrev pub withinAnswers : List ℕ → List ℕ → AllWithin
 withinAnswers first second = withinRead (lentSet first) (lentSet second)
+
+-- ---- `which` and `head`
+
+-- the first, if it has all ids of the second; else the second, if it has all of the first; else neither is
+abbrev pub headRead : Lent → Lent → Choice
+headRead unfit t = Refused (number notASet)
+headRead (form s) unfit = Refused (number notASet)
+headRead (form s) (form t) = pick (subset t s) First (pick (subset s t) Second (Refused (number diverged)))
+
+abbrev pub whichAnswers : List ℕ → List ℕ → Choice
+whichAnswers first second = headRead (lentSet first) (lentSet second)
+
+-- the bytes of the part that is handed back: all of the lent ones, or none
+abbrev pub partOf : Choice → List ℕ → List ℕ → List ℕ
+partOf First first second = first
+partOf Second first second = second
+partOf (Refused r) first second = []
+
+-- and where it stands in memory: where the lent ones do, an empty part where the first do
+abbrev pub placeOf : Choice → ℕ × ℕ → ℕ × ℕ → ℕ × ℕ
+placeOf First first second = first
+placeOf Second first second = second
+placeOf (Refused r) first second = first
 
 -- ---- inside
 

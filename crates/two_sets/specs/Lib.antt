@@ -2,5 +2,6 @@
 -- promise.
 pub mod Marks
 pub mod Pairs
+pub mod Heads
 pub mod Write
 pub mod Answers

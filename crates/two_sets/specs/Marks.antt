@@ -6,12 +6,13 @@ use mathlib.Core.List.{List, [], _∷_, _++_}
 use lib.ListN.{length}
 use Rattle.misc.specs.Le.{leBytes}
 use Rattle.misc.specs.Output.{WhereFits}
-use Rattle.gtid_sets.specs.Combine.{either, both, without, sweep, Rising}
+use Rattle.gtid_sets.specs.Combine.{either, both, without, isOpen, mark, keeps, sweep, Rising}
 use Rattle.set_check.specs.Places.{numberAt}
 use Rattle.two_sets.specs.declared.Operation.{Operation}
 use Rattle.two_sets.specs.declared.Operation.the-variants as operation
 use Rattle.two_sets.specs.declared.Side.{Side}
 use Rattle.two_sets.specs.declared.Sides.{Sides}
+use Rattle.two_sets.specs.declared.Step.{Step}
 use Rattle.two_sets.specs.declared.Turn.{Turn}
 
 -- what each operation says of an id
@@ -44,6 +45,10 @@ leftOf s = s .one .left + s .two .left
 abbrev pub going : (Bool → Bool → Bool) → List ℕ → List ℕ → Sides → List ℕ
 going op bs cs s = sweep op (marksOf bs (s .one)) (marksOf cs (s .two))
 
+-- no number before the first mark is in
+abbrev pub Shut : List ℕ → List ℕ → Sides → Type 0
+Shut bs cs s = (op : Bool → Bool → Bool) → op false false ≡ false → isOpen (going op bs cs s) ≡ false
+
 -- whether there is a mark
 abbrev pub anyMark : List ℕ → Bool
 anyMark [] = false
@@ -72,7 +77,17 @@ pub record SidesAre (bs cs : List ℕ) (s : Sides) : Type 0 where
   pub first : SideIs bs (s .one)
   pub second : SideIs cs (s .two)
 
--- one mark is passed
+-- whether the numbers before the next mark are kept
+abbrev pub keepsNow : (Bool → Bool → Bool) → List ℕ → List ℕ → Sides → Bool
+keepsNow op bs cs s = keeps op (marksOf bs (s .one)) (marksOf cs (s .two))
+
+-- one mark is passed, whatever is kept
+pub record StepIs (bs cs : List ℕ) (s : Sides) (r : Step) : Type 0 where
+  pub goes : (op : Bool → Bool → Bool) → going op bs cs s ≡ mark (keepsNow op bs cs s) (keepsNow op bs cs (r .sides)) (r .mark) (going op bs cs (r .sides))
+  pub sides : SidesAre bs cs (r .sides)
+  pub less : leftOf (r .sides) < leftOf s
+
+-- the same for an operation
 pub record TurnIs (op : Bool → Bool → Bool) (bs cs : List ℕ) (s : Sides) (r : Turn) : Type 0 where
   pub goes : going op bs cs s ≡ flipped (r .flips) (r .mark) (going op bs cs (r .sides))
   pub sides : SidesAre bs cs (r .sides)

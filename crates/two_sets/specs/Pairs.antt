@@ -14,10 +14,10 @@ use Rattle.previous_gtids_event.specs.Entry.{Entry}
 use Rattle.previous_gtids_event.specs.Previous.{GoodKey}
 use Rattle.gtid_sets.specs.Set.{SetForm}
 use Rattle.gtid_sets.specs.Lent.{GoodKeys}
-use Rattle.gtid_sets.specs.Combine.{spans, isOpen, keep, combined}
+use Rattle.gtid_sets.specs.Combine.{spans, keep, combined}
 use Rattle.set_check.specs.Places.{entriesAt, EntriesIn}
 use Rattle.set_check.specs.declared.EntryPlace.{EntryPlace}
-use Rattle.two_sets.specs.Marks.{going, leftOf, SidesAre}
+use Rattle.two_sets.specs.Marks.{going, leftOf, Shut, SidesAre}
 use Rattle.two_sets.specs.declared.Side.{Side}
 use Rattle.two_sets.specs.declared.Cursor.{Cursor}
 use Rattle.two_sets.specs.declared.Cursors.{Cursors}
@@ -132,7 +132,7 @@ pub record KeyIs (bs cs : List ℕ) (k : KeyPlace) : Type 0 where
 -- the next entry of any result, unless it is empty, and what is left then
 pub record PairIs (bs cs : List ℕ) (c : Cursors) (r : Pair) : Type 0 where
   pub goes : (op : Bool → Bool → Bool) → combining op bs cs c ≡ keep (keyIn bs cs (r .key)) (spans (going op bs cs (r .sides))) (combining op bs cs (r .after))
-  pub shut : (op : Bool → Bool → Bool) → op false false ≡ false → isOpen (going op bs cs (r .sides)) ≡ false
+  pub shut : Shut bs cs (r .sides)
   pub sides : SidesAre bs cs (r .sides)
   pub after : CursorsAre bs cs (r .after)
   pub key : KeyIs bs cs (r .key)

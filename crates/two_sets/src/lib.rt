@@ -1,18 +1,23 @@
-// Work with two sets: the ids in either, in both, and in the first without the second, each written as a set; and whether all of the
-// first are in the second. What they answer is said by `combineAnswers` and `withinAnswers` of specs/Answers.antt, and what is written by
-// `combineLeaves`, on `lentSet` and `combined` of gtid_sets. Both sets are only read, so that they may be the same bytes.
+// Work with two sets: the ids in either, in both, and in the first without the second, each written as a set; whether all of the first
+// are in the second; and which of the two has all of the other. What they answer is said by `combineAnswers`, `withinAnswers` and
+// `whichAnswers` of specs/Answers.antt, and what is written by `combineLeaves`, on `lentSet` and `combined` of gtid_sets. Both sets are
+// only read, so that they may be the same bytes.
+use heads::own_ids;
 use marks::next_mark;
 use misc::Wrote;
+use misc::refusal::DIVERGED;
 use pairs::next_pair;
 use set_check::Checked;
 use set_check::check::check;
 use write::write_combined;
+ghost use denote.Ref.{ptr};
 ghost use mathlib.Core.Path.{_≡_};
 ghost use Rattle.gtid_sets.specs.Combine.{either, both, without, subset};
 ghost use Rattle.two_sets.specs.Marks.{saidBy, going, anyMark, SidesAre};
 ghost use Rattle.two_sets.specs.Pairs.{entriesLeft, CursorsAre};
-ghost use Rattle.two_sets.specs.Answers.{combineAnswers, combineLeaves, withinAnswers, begun, BeginningIs};
+ghost use Rattle.two_sets.specs.Answers.{combineAnswers, combineLeaves, withinAnswers, whichAnswers, partOf, placeOf, begun, BeginningIs};
 
+mod heads;
 mod marks;
 mod pairs;
 mod write;
@@ -21,6 +26,14 @@ mod write;
 pub struct AllWithin {
     pub refusal: u8,
     pub all: bool,
+}
+
+// Which of two sets has all ids of the other: the first where it has, also where they are equal, else the second. Refused are bytes that
+// are no set (14), the first before the second, and two sets of which each has an id that the other lacks (22).
+pub enum Choice {
+    First,
+    Second,
+    Refused(u8),
 }
 
 // ---- inside
@@ -50,7 +63,13 @@ pub(crate) struct Sides {
     pub(crate) two: Side,
 }
 
-// A mark that was passed: what is left behind it, and whether it is one of the result.
+// A mark that was passed, and what is left behind it.
+pub(crate) struct Step {
+    pub(crate) sides: Sides,
+    pub(crate) mark: u64,
+}
+
+// The same, and whether it is one of the result.
 pub(crate) struct Turn {
     pub(crate) sides: Sides,
     pub(crate) flips: bool,
@@ -89,6 +108,12 @@ pub(crate) struct Pair {
     pub(crate) key: KeyPlace,
     pub(crate) sides: Sides,
     pub(crate) after: Cursors,
+}
+
+// Whether the first set has an id of its own, one that the second lacks, and whether the second has one that the first lacks.
+pub(crate) struct Own {
+    pub(crate) first: bool,
+    pub(crate) second: bool,
 }
 
 // How large a result is: whether it has tags; how many entries, intervals, and entries with too many intervals it has; and the place behind
@@ -221,5 +246,37 @@ pub fn within(first: &[u8], second: &[u8]) -> AllWithin
     AllWithin {
         refusal: 0,
         all: none_missing(first, second, from),
+    }
+}
+
+// Which of two sets has all ids of the other, or the refusal.
+pub fn which(first: &[u8], second: &[u8]) -> Choice
+    ensures { λ r. ⌜ r ≡ whichAnswers (now (first .entry)) (now (second .entry)) ⌝ }
+{
+    let beginning = begin(first, second);
+    let refusal = beginning.refusal;
+    if refusal != 0 {
+        return Choice::Refused(refusal);
+    }
+    let own = own_ids(first, second, beginning.from);
+    if !own.second {
+        return Choice::First;
+    }
+    if !own.first {
+        return Choice::Second;
+    }
+    Choice::Refused(DIVERGED)
+}
+
+// The set that has all ids of the other: the caller's own bytes, no copy; none of them where `which` refuses.
+pub fn head<'a>(first: &'a [u8], second: &'a [u8]) -> &'a [u8]
+    ensures { λ r. ⌜ now r ≡ partOf (whichAnswers (now (first .entry)) (now (second .entry))) (now (first .entry)) (now (second .entry)) ⌝ }
+    ensures { λ r. ⌜ ptr r ≡ placeOf (whichAnswers (now (first .entry)) (now (second .entry))) (ptr (first .entry)) (ptr (second .entry)) ⌝ }
+{
+    let this = which(first, second);
+    match this {
+        Choice::First => first,
+        Choice::Second => second,
+        Choice::Refused(_) => &first[..0],
     }
 }

@@ -3,6 +3,7 @@
 use crate::Operation;
 use crate::Side;
 use crate::Sides;
+use crate::Step;
 use crate::Turn;
 use misc::put::put_bytes;
 use misc::put::put_u64_le;
@@ -11,7 +12,7 @@ ghost use mathlib.Core.Path.{_≡_};
 ghost use mathlib.Core.Bool.{true};
 ghost use Prim.Native.Nat.{_+_, _*_, _%_, _^_, _<_, min};
 ghost use lib.Dec.{eqb};
-ghost use Rattle.two_sets.specs.Marks.{saidBy, marksOf, nextMark, passedSide, leftOf, going, allIf, SideIs, SidesAre, TurnIs, NextIs, MarksPut};
+ghost use Rattle.two_sets.specs.Marks.{saidBy, marksOf, nextMark, passedSide, leftOf, going, allIf, SideIs, SidesAre, StepIs, TurnIs, NextIs, MarksPut};
 
 // Above all marks.
 const NO_MARK: u64 = 0xffff_ffff_ffff_ffff;
@@ -28,7 +29,7 @@ fn is_kept(operation: Operation, x: bool, y: bool) -> bool
 }
 
 // Whether the numbers before the marks are in: a mark begins what the next one ends.
-fn is_open(side: Side) -> bool
+pub(crate) fn is_open(side: Side) -> bool
     ensures { λ r. ⌜ r ≡ eqb (side .left % 2) 1 ⌝ }
 {
     side.left % 2 == 1
@@ -66,22 +67,37 @@ fn lower(m: u64, n: u64) -> u64
     n
 }
 
-// The next mark of two sides; one that both have is passed on both.
+// Passes the next mark of two sides; one that both have is passed on both.
+pub(crate) fn step(first: &[u8], second: &[u8], sides: Sides) -> Step
+    requires { ⌜ SidesAre (now first) (now second) sides ⌝ }
+    requires { ⌜ 0 < leftOf sides ⌝ }
+    ensures { λ r. ⌜ StepIs (now (first .entry)) (now (second .entry)) sides r ⌝ }
+{
+    let m = mark_at(first, sides.one);
+    let n = mark_at(second, sides.two);
+    Step {
+        sides: Sides {
+            one: passed(sides.one, m <= n),
+            two: passed(sides.two, n <= m),
+        },
+        mark: lower(m, n),
+    }
+}
+
+// The next mark of two sides, and whether it is one of the result: what is kept before it and behind it differs.
 fn turn(operation: Operation, first: &[u8], second: &[u8], sides: Sides) -> Turn
     requires { ⌜ SidesAre (now first) (now second) sides ⌝ }
     requires { ⌜ 0 < leftOf sides ⌝ }
     ensures { λ r. ⌜ TurnIs (saidBy operation) (now (first .entry)) (now (second .entry)) sides r ⌝ }
 {
-    let m = mark_at(first, sides.one);
-    let n = mark_at(second, sides.two);
-    let one = passed(sides.one, m <= n);
-    let two = passed(sides.two, n <= m);
+    let next = step(first, second, sides);
+    let left = next.sides;
     let before = is_kept(operation, is_open(sides.one), is_open(sides.two));
-    let behind = is_kept(operation, is_open(one), is_open(two));
+    let behind = is_kept(operation, is_open(left.one), is_open(left.two));
     Turn {
-        sides: Sides { one, two },
+        sides: left,
         flips: (before & !behind) | (!before & behind),
-        mark: lower(m, n),
+        mark: next.mark,
     }
 }
 

@@ -1,0 +1,61 @@
+// Which of two sets has ids of its own, ones that the other lacks: one walk over both sees it of each.
+use crate::Cursors;
+use crate::Own;
+use crate::Sides;
+use crate::marks::is_open;
+use crate::marks::step;
+use crate::pairs::next_pair;
+ghost use mathlib.Core.Path.{_≡_};
+ghost use Rattle.two_sets.specs.Marks.{Shut, SidesAre};
+ghost use Rattle.two_sets.specs.Pairs.{CursorsAre};
+ghost use Rattle.two_sets.specs.Heads.{none, ownMarks, ownIds};
+
+// The same of the numbers of a key, where `seen` tells of the keys before it. The numbers behind a mark are in the sides that are open.
+fn own_marks(first: &[u8], second: &[u8], sides: Sides, seen: Own) -> Own
+    requires { ⌜ SidesAre (now first) (now second) sides ⌝ }
+    requires { ⌜ Shut (now first) (now second) sides ⌝ }
+    ensures { λ r. ⌜ r ≡ ownMarks (now (first .entry)) (now (second .entry)) sides seen ⌝ }
+{
+    let mut left = sides;
+    let mut own = seen;
+    while (0 < left.one.left) & (0 < left.two.left) {
+        left = step(first, second, left).sides;
+        let one = is_open(left.one);
+        let two = is_open(left.two);
+        own = Own {
+            first: own.first | (one & !two),
+            second: own.second | (two & !one),
+        };
+        if own.first & own.second {
+            return own;
+        }
+    }
+    Own {
+        first: own.first | (0 < left.one.left),
+        second: own.second | (0 < left.two.left),
+    }
+}
+
+// Each id of a set whose other has no entries left is its own. The walk ends where both have one.
+pub(crate) fn own_ids(first: &[u8], second: &[u8], from: Cursors) -> Own
+    requires { ⌜ CursorsAre (now first) (now second) from ⌝ }
+    ensures { λ r. ⌜ r ≡ ownIds (now (first .entry)) (now (second .entry)) from none ⌝ }
+{
+    let mut left = from;
+    let mut own = Own {
+        first: false,
+        second: false,
+    };
+    while (0 < left.first.left) & (0 < left.second.left) {
+        let pair = next_pair(first, second, left);
+        own = own_marks(first, second, pair.sides, own);
+        if own.first & own.second {
+            return own;
+        }
+        left = pair.after;
+    }
+    Own {
+        first: own.first | (0 < left.first.left),
+        second: own.second | (0 < left.second.left),
+    }
+}
