@@ -72,12 +72,12 @@ uint8_t gtid_without(const uint8_t *first, size_t first_len, const uint8_t *seco
  * gtid_without tells which ids are missing. */
 uint8_t gtid_within(const uint8_t *first, size_t first_len, const uint8_t *second, size_t second_len, uint8_t *within);
 
-/* Which of two sets has all ids of the other: `*head` is 1 if the first has, also where they are equal, else 2 if the second has.
- * The two may be the same bytes, or overlap. Refuses with 14 if the first bytes are no set, and then if the second are none, and
- * with 22 if each has an id that the other lacks; then `*head` is 0. No limit is in its way, and nothing is copied.
- * So after a switch of servers it is seen whether one of them has all that the other has, by the opening sets of both. If neither
- * has (22), gtid_without, both ways round, tells which ids each lacks. A follower goes on from its own set in any case: an opening
- * set has ids that it may not have copied. */
+/* Which of two sets has all ids of the other: `*head` is 1 if the first has, also where they are equal, else 2 if the second
+ * has. The two may be the same bytes, or overlap. Refuses with 14 if the first bytes are no set, and then if the second are
+ * none, and with 22 if each has an id that the other lacks; then `*head` is 0. No limit is in its way, and nothing is copied.
+ * So after a switch of servers it is seen whether one of them has all that the other has, by the opening sets of both. If
+ * neither has (22), gtid_without, both ways round, tells which ids each lacks. A follower goes on from its own set in any case:
+ * an opening set has ids that it may not have copied. */
 uint8_t gtid_head(const uint8_t *first, size_t first_len, const uint8_t *second, size_t second_len, uint8_t *head);
 
 /* Writes the entries that the body of a Previous-GTIDs event holds anew, as they stand: with tags only if one of them has

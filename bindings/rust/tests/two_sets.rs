@@ -205,7 +205,9 @@ fn laws_hold() -> Result<(), Refusal> {
         assert_eq!(a.is_subset(&b), left == empty);
         // the head is the union, whichever is asked
         assert_eq!(a.head(&b), b.head(&a));
-        assert!(a.head(&b).map_or(a != either && b != either, |head| *head == either));
+        assert!(a
+            .head(&b)
+            .map_or(a != either && b != either, |head| *head == either));
         assert!(a.is_subset(&either) && both.is_subset(&a) && left.is_subset(&a));
         assert!(a.is_subset(&a) && empty.is_subset(&a));
     }
@@ -325,9 +327,15 @@ fn neither_is_the_head_if_each_lacks_an_id() {
     apart(&[(1, b"", &[(1, 2)])], &[(1, b"a", &[(1, 2)])]);
     let long: Listed = (2, b"", &[(1, 2), (3, 4), (5, 6), (7, 8)]);
     apart(&[(2, b"", &[(1, 3)])], &[long]);
-    apart(&[(1, b"", &[(1, 3)]), (3, b"", &[(1, 2)])], &[(1, b"", &[(1, 4)]), long]);
+    apart(
+        &[(1, b"", &[(1, 3)]), (3, b"", &[(1, 2)])],
+        &[(1, b"", &[(1, 4)]), long],
+    );
     // as many ids in as many intervals
-    apart(&[(1, b"", &[(1, 3), (5, 7)])], &[(1, b"", &[(1, 3), (6, 8)])]);
+    apart(
+        &[(1, b"", &[(1, 3), (5, 7)])],
+        &[(1, b"", &[(1, 3), (6, 8)])],
+    );
 }
 
 // ---- limits

@@ -569,7 +569,11 @@ fn made(what: &str) -> Option<Made> {
         "head-first" => choosing(&tens(11, 19), &tens(11, 16), (0, 1)),
         "head-second" => choosing(&tens(11, 16), &tens(11, 19), (0, 2)),
         "head-last" => choosing(&but_last(&[]), &but_last(&[interval(511)]), (0, 2)),
-        "head-neither" => choosing(&but_last(&[interval(511)]), &but_last(&[interval(512)]), (22, 0)),
+        "head-neither" => choosing(
+            &but_last(&[interval(511)]),
+            &but_last(&[interval(512)]),
+            (22, 0),
+        ),
         "head-apart" => choosing(&tens(11, 16), &tens(14, 19), (22, 0)),
         "head-longest" => choosing(&longest(), &longest(), (0, 1)),
         "either-uuids" => of_two(

@@ -40,7 +40,10 @@ module _ (first second : List ℕ) where
   found : (x y : Lent) → lentSet first ≡ x → lentSet second ≡ y → HeadAnswer first second (headRead x y)
   found unfit y p q = HeadAnswer.refused (HeadFault.badSet (PairFault.badFirst (unfit-fault first p)))
   found (form s) unfit p q = HeadAnswer.refused (HeadFault.badSet (PairFault.badSecond (lent-is first s p) (unfit-fault second q)))
-  found (form s) (form t) p q = let (i, j) : SetLaid first s × SetLaid second t = (lent-is first s p, lent-is second t q) in lent-as s t (i .formed) (j .formed) i j
+  found (form s) (form t) p q =
+      let i = lent-is first s p in
+      let j = lent-is second t q in
+      lent-as s t (i .formed) (j .formed) i j
 
   pub answered : HeadAnswer first second (whichAnswers first second)
   answered = found (lentSet first) (lentSet second) refl refl

@@ -1,6 +1,6 @@
 -- The demands hold of what our functions promise. Demand 1: `integers-exact`, `events-exact`, `bodies-exact`, `reader-exact`, `sets-exact`,
--- `listing-exact`, `archive-exact`, `offers-exactly`, `asks-exactly`, `two-sets`, `heads`, `sets-told`; `integers-told`, `events-told`, `bodies-told`, `listing-told`;
--- `presence`, `orders`, `zeros`, `outputs`, `rules` and `highest`. Demand 2: `records-mean`, `records-back`, `records-again`, `least-size`,
+-- `listing-exact`, `archive-exact`, `offers-exactly`, `asks-exactly`, `two-sets`, `heads`, `sets-told`; `integers-told`, `events-told`, `bodies-told`,
+-- `listing-told`; `presence`, `orders`, `zeros`, `outputs`, `rules` and `highest`. Demand 2: `records-mean`, `records-back`, `records-again`, `least-size`,
 -- `entries-back`, `entries-mean`, `building`. Demand 3: `tells-history`, `replays`, `refusals-keep`. No two cases hold at once, and what is laid out
 -- has no fault (`OneOutcome`). Wrong programs don't meet the demands (`ShutOut`, `Crowding`, `TwoShut`, `HeadsShut`, `Absent`).
 pub mod EdgesAgree

@@ -290,8 +290,9 @@ wantsSame = testedBy (λ a b. same a b)
 -- chooses one of two sets, or refuses, by other tests: the first of them that holds decides
 abbrev pub chosenBy : (List ℕ → List ℕ → Bool) → (List ℕ → List ℕ → Bool) → List ℕ → List ℕ → Choice
 chosenBy isFirst isSecond first second =
-    pick (eqb (withinAnswers first second .refusal) 0) (pick (isFirst first second) chosen-as.First (pick (isSecond first second) chosen-as.Second (chosen-as.Refused 22)))
-    (chosen-as.Refused (withinAnswers first second .refusal))
+    let refusal = withinAnswers first second .refusal in
+    pick (eqb refusal 0) (pick (isFirst first second) chosen-as.First (pick (isSecond first second) chosen-as.Second (chosen-as.Refused 22)))
+    (chosen-as.Refused refusal)
 
 -- the first, where one of the two contains the other
 abbrev pub firstOfTwo : List ℕ → List ℕ → Choice

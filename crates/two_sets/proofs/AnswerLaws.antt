@@ -130,7 +130,8 @@ module _ (bs cs : List ℕ) (r : Beginning) (i : BeginningIs bs cs r) where
     which-told : pick (not (own .second)) First (pick (not (own .first)) Second (Refused 22)) ≡ whichAnswers bs cs
     which-told =
         let l = i .lent fine in
-        rw (is, l .first, l .second, ← combined-swap without refl t s (l .cursors .second .formed) (l .cursors .first .formed), Bool·not-not (subset t s), Bool·not-not (subset s t))
+        let turned = combined-swap without refl t s (l .cursors .second .formed) (l .cursors .first .formed) in
+        rw (is, l .first, l .second, ← turned, Bool·not-not (subset t s), Bool·not-not (subset s t))
 
     pub first-has : not (own .second) ≡ true → First ≡ whichAnswers bs cs
     first-has e = rw e at which-told

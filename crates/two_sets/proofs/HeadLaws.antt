@@ -56,6 +56,13 @@ mark-seen true z z′ m ms shut = refl
 mark-seen false z true m ms shut = rw (shut refl)
 mark-seen false z false m ms shut = rw (shut refl)
 
+-- so of a step, for any operation
+step-seen : (bs cs : List ℕ) (left : Sides) (r : Step) → StepIs bs cs left r → (op : Bool → Bool → Bool) (seen : Bool)
+    → (seen ≡ false → keepsNow op bs cs left ≡ false) → (z : Bool) → z ≡ keepsNow op bs cs (r .sides)
+    → seen || anyMark (going op bs cs left) ≡ (seen || z) || anyMark (going op bs cs (r .sides))
+step-seen bs cs left r i op seen shut z e =
+    rw (i .goes op, e) (mark-seen seen (keepsNow op bs cs left) (keepsNow op bs cs (r .sides)) (r .mark) (going op bs cs (r .sides)) shut)
+
 -- what is found of all marks is what was found and what is found of those that are left
 pub record Seeing (bs cs : List ℕ) (s : Sides) (seen : Own) (left : Sides) (own : Own) : Type 0 where
   pub same : ownMarks bs cs s seen ≡ ownMarks bs cs left own
@@ -100,10 +107,10 @@ module _ (bs cs : List ℕ) (s : Sides) (seen : Own) where
     seeing-turn r i x y ex ey =
         let first : x && not y ≡ keepsNow without bs cs (r .sides) = keeps-said without bs cs (r .sides) x y (x && not y) ex ey refl in
         let second : y && not x ≡ keepsNow back bs cs (r .sides) = keeps-said back bs cs (r .sides) x y (y && not x) ex ey refl in
-        let one = mark-seen (own .first) (keepsNow without bs cs left) (keepsNow without bs cs (r .sides)) (r .mark) (going without bs cs (r .sides)) (g .shut-first) in
-        let two = mark-seen (own .second) (keepsNow back bs cs left) (keepsNow back bs cs (r .sides)) (r .mark) (going back bs cs (r .sides)) (g .shut-second) in
+        let one = step-seen bs cs left r i without (own .first) (g .shut-first) (x && not y) first in
+        let two = step-seen bs cs left r i back (own .second) (g .shut-second) (y && not x) second in
         record {
-          same = g .same ∙ both-told (ap (λ ms. own .first || anyMark ms) (i .goes without) ∙ one ∙ rw first) (ap (λ ms. own .second || anyMark ms) (i .goes back) ∙ two ∙ rw second);
+          same = g .same ∙ both-told one two;
           sides = i .sides;
           shut-first = λ h. sym first ∙ or-last (own .first) (x && not y) h;
           shut-second = λ h. sym second ∙ or-last (own .second) (y && not x) h;
