@@ -22,8 +22,8 @@ use Rattle.two_sets.specs.declared.Choice.{Choice}
 use Rattle.two_sets.specs.declared.Choice.the-variants.{First, Second, Refused}
 use Rattle.abi.specs.Answers.{headNumbers}
 use Rattle.promises.specs.Exact.{Exactly}
-use Rattle.promises.specs.TwoSets.{Keeps, PairFault, ResultAs, allIn, notAllIn}
-use Rattle.promises.specs.Heads.{HeadFault, HeadAnswer, ChoosesExactly, HandedBack, HandsExactly, ourHead, Heads}
+use Rattle.promises.specs.TwoSets.{Keeps, Contains, PairFault, ResultAs, allIn, notAllIn}
+use Rattle.promises.specs.Heads.{HeadFault, HeadAnswer, ChoosesExactly, HandedBack, HandsExactly, ourHead, HeadTold, Heads}
 use Rattle.promises.proofs.SetsExact.{apart, unfit-fault}
 use Rattle.promises.proofs.TwoSetsHold.{pair-unfit, lacking, not-within}
 
@@ -45,7 +45,7 @@ module _ (first second : List ℕ) where
       let j = lent-is second t q in
       lent-as s t (i .formed) (j .formed) i j
 
-  pub answered : HeadAnswer first second (whichAnswers first second)
+  answered : HeadAnswer first second (whichAnswers first second)
   answered = found (lentSet first) (lentSet second) refl refl
 
   fault-forced : (n : ℕ) → HeadFault first second n → whichAnswers first second ≡ Refused n
@@ -53,11 +53,17 @@ module _ (first second : List ℕ) where
   fault-forced n (HeadFault.apart {s = s} {t = t} i j one two) =
       rw (is-lent first s i, is-lent second t j, not-within t s (j .formed) (i .formed) two, not-within s t (i .formed) (j .formed) one)
 
-  pub forced : (r : Choice) → HeadAnswer first second r → whichAnswers first second ≡ r
+  forced : (r : Choice) → HeadAnswer first second r → whichAnswers first second ≡ r
   forced r (HeadAnswer.refused {n = n} fault) = fault-forced n fault
   forced r (HeadAnswer.first {s = s} {t = t} i j all) = rw (is-lent first s i, is-lent second t j, subset-from t s (j .formed) (i .formed) all)
   forced r (HeadAnswer.second {s = s} {t = t} i j lacks all) =
       rw (is-lent first s i, is-lent second t j, not-within t s (j .formed) (i .formed) lacks, subset-from s t (i .formed) (j .formed) all)
+
+  -- a refusal has its fault
+  fault-of : (n : ℕ) (r : Choice) → HeadAnswer first second r → r ≡ Refused n → HeadFault first second n
+  fault-of n r (HeadAnswer.refused {n = m} fault) e = let same : m ≡ n = cc in rw (← same) fault
+  fault-of n r (HeadAnswer.first i j all) e = apart cc
+  fault-of n r (HeadAnswer.second i j lacks all) e = apart cc
 
 pub chooses-exactly : ChoosesExactly whichAnswers
 chooses-exactly first second r = (λ is. rw is at (answered first second), forced first second r)
@@ -69,12 +75,7 @@ module _ (first second : List ℕ) (p q : ℕ × ℕ) where
       → HandedBack first second p q (ourHead .part first second) (ourHead .place first second p q)
   handed First is e = rw e (HandedBack.first is)
   handed Second is e = rw e (HandedBack.second is)
-  handed (Refused n) is e = rw e (HandedBack.none (fault-of (Refused n) is refl))
-    where
-      fault-of : (r : Choice) → HeadAnswer first second r → r ≡ Refused n → HeadFault first second n
-      fault-of r (HeadAnswer.refused {n = m} fault) e = let same : m ≡ n = cc in rw (← same) fault
-      fault-of r (HeadAnswer.first i j all) e = apart cc
-      fault-of r (HeadAnswer.second i j lacks all) e = apart cc
+  handed (Refused n) is e = rw e (HandedBack.none (fault-of first second n (Refused n) is refl))
 
   back-forced : (bs : List ℕ) (at : ℕ × ℕ) → HandedBack first second p q bs at → (ourHead .part first second ≡ bs) × (ourHead .place first second p q ≡ at)
   back-forced bs at (HandedBack.first is) = rw (forced first second First is) (refl, refl)
@@ -150,14 +151,21 @@ absorbed true y h = h refl
 absorbed false y h = refl
 
 module _ (first second : List ℕ) where
-  is-union : (r : Choice) → HeadAnswer first second r → ((n : ℕ) → r ≡ Refused n → ⊥) → ResultAs either first second (partOf r first second)
-  is-union r (HeadAnswer.refused {n = n} fault) some = absurd (some n refl)
-  is-union r (HeadAnswer.first {s = s} {t = t} i j all) some =
-      let keeps : Keeps either s t s = record { formed = i .formed; members = λ k n. absorbs (has s k n) (has t k n) (all k n) } in
-      rw (← i .written) at (ResultAs.kept i j keeps (i .limited))
-  is-union r (HeadAnswer.second {s = s} {t = t} i j lacks all) some =
-      let keeps : Keeps either s t t = record { formed = j .formed; members = λ k n. absorbed (has s k n) (has t k n) (all k n) } in
-      rw (← j .written) at (ResultAs.kept i j keeps (j .limited))
+  module _ {s t : List Entry} (i : SetLaid first s) (j : SetLaid second t) where
+    first-united : Contains s t → ResultAs either first second first
+    first-united all =
+        let keeps : Keeps either s t s = record { formed = i .formed; members = λ k n. absorbs (has s k n) (has t k n) (all k n) } in
+        rw (← i .written) at (ResultAs.kept i j keeps (i .limited))
+
+    second-united : Contains t s → ResultAs either first second second
+    second-united all =
+        let keeps : Keeps either s t t = record { formed = j .formed; members = λ k n. absorbed (has s k n) (has t k n) (all k n) } in
+        rw (← j .written) at (ResultAs.kept i j keeps (j .limited))
+
+  is-united : (r : Choice) → HeadAnswer first second r → (r ≡ First → ResultAs either first second first) × (r ≡ Second → ResultAs either first second second)
+  is-united r (HeadAnswer.refused fault) = (λ e. apart cc, λ e. apart cc)
+  is-united r (HeadAnswer.first i j all) = (λ _. first-united i j all, λ e. apart cc)
+  is-united r (HeadAnswer.second i j lacks all) = (λ e. apart cc, λ _. second-united i j all)
 
   -- a set has bytes
   not-empty : (set : List ℕ) (s : List Entry) → SetLaid set s → set ≡ [] → ⊥
@@ -203,16 +211,19 @@ module _ (first second : List ℕ) where
       go (form s) unfit p q = refl
       go (form s) (form t) p q = chosen-part (subset t s) (subset s t) (alike s t (lent-is first s p) (lent-is second t q))
 
-same-numbers : (a b : Choice) → headNumbers a .refusal ≡ headNumbers b .refusal → headNumbers a .head ≡ headNumbers b .head → a ≡ b
-same-numbers First First p q = refl
-same-numbers First Second p q = absurd (omega arith)
-same-numbers First (Refused n) p q = absurd (omega arith)
-same-numbers Second First p q = absurd (omega arith)
-same-numbers Second Second p q = refl
-same-numbers Second (Refused n) p q = absurd (omega arith)
-same-numbers (Refused m) First p q = absurd (omega arith)
-same-numbers (Refused m) Second p q = absurd (omega arith)
-same-numbers (Refused m) (Refused n) p q = ap Refused p
+-- ---- the archive's numbers
+
+module _ (first second : List ℕ) where
+  told-as : (r : Choice) → HeadAnswer first second r → HeadTold first second (headNumbers r .refusal) (headNumbers r .head)
+  told-as First is = HeadTold.first is
+  told-as Second is = HeadTold.second is
+  told-as (Refused n) is = HeadTold.refused (fault-of first second n (Refused n) is refl)
+
+  told-forced : (n m : ℕ) → HeadTold first second n m
+      → (headNumbers (whichAnswers first second) .refusal ≡ n) × (headNumbers (whichAnswers first second) .head ≡ m)
+  told-forced n m (HeadTold.first is) = rw (forced first second First is) (refl, refl)
+  told-forced n m (HeadTold.second is) = rw (forced first second Second is) (refl, refl)
+  told-forced n m (HeadTold.refused fault) = rw (fault-forced first second n fault) (refl, refl)
 
 pub heads : Heads
 heads = record {
@@ -221,12 +232,13 @@ heads = record {
   within-first = λ first second. ways (lentSet first) (lentSet second) .first;
   within-second = λ first second. ways (lentSet first) (lentSet second) .second;
   within-neither = λ first second. ways (lentSet first) (lentSet second) .neither;
-  united = is-union;
+  united-first = λ first second is. is-united first second First is .0 refl;
+  united-second = λ first second is. is-united first second Second is .1 refl;
   empty = none-exactly;
   turned = same-part;
   twice = λ set s p q i. HandedBack.first (HeadAnswer.first i i (λ k n here. here));
-  «gtid_head» = λ first second r. (
-    λ (p, q). chooses-exactly first second r .0 (same-numbers (whichAnswers first second) r p q),
-    λ is. rw (forced first second r is) (refl, refl),
+  «gtid_head» = λ first second n m. (
+    λ (p, q). rw (p, q) at (told-as first second (whichAnswers first second) (answered first second)),
+    told-forced first second n m,
   );
 }

@@ -55,6 +55,13 @@ ourHead = record {
   place = λ first second p q. placeOf (whichAnswers first second) p q;
 }
 
+-- ---- the archive's numbers: the refusal, and which one
+
+pub data HeadTold (first second : List ℕ) : ℕ → ℕ → Type 0 where
+  first : HeadAnswer first second First → HeadTold first second 0 1
+  second : HeadAnswer first second Second → HeadTold first second 0 2
+  refused : {n : ℕ} → HeadFault first second n → HeadTold first second n 0
+
 -- ---- together
 
 pub record Heads : Type 0 where
@@ -67,14 +74,13 @@ pub record Heads : Type 0 where
   pub within-neither : (first second : List ℕ)
       → Exactly (whichAnswers first second ≡ Refused 22) ((withinAnswers first second ≡ notAllIn) × (withinAnswers second first ≡ notAllIn))
   -- what is handed back is the set of the ids in either
-  pub united : (first second : List ℕ) (r : Choice) → HeadAnswer first second r → ((n : ℕ) → r ≡ Refused n → ⊥)
-      → ResultAs either first second (partOf r first second)
+  pub united-first : (first second : List ℕ) → HeadAnswer first second First → ResultAs either first second first
+  pub united-second : (first second : List ℕ) → HeadAnswer first second Second → ResultAs either first second second
   -- nothing is handed back exactly with a refusal, so that no other sign of it is needed
   pub empty : (first second : List ℕ) → Exactly (ourHead .part first second ≡ []) ((n : ℕ) × HeadFault first second n)
   -- the same bytes, whichever is lent first
   pub turned : (first second : List ℕ) → ourHead .part first second ≡ ourHead .part second first
   -- one set lent twice, at one place or at two, the empty set too: the first
   pub twice : (set : List ℕ) (s : List Entry) (p q : ℕ × ℕ) → SetLaid set s → HandedBack set set p q set p
-  -- the archive's numbers tell every answer from every other: 1 is the first, 2 the second
-  pub «gtid_head» : (first second : List ℕ) (r : Choice) → let told = headNumbers (whichAnswers first second) in
-      Exactly ((told .refusal ≡ headNumbers r .refusal) × (told .head ≡ headNumbers r .head)) (HeadAnswer first second r)
+  pub «gtid_head» : (first second : List ℕ) (refusal head : ℕ) → let told = headNumbers (whichAnswers first second) in
+      Exactly ((told .refusal ≡ refusal) × (told .head ≡ head)) (HeadTold first second refusal head)

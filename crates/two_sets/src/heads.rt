@@ -10,7 +10,8 @@ ghost use Rattle.two_sets.specs.Marks.{Shut, SidesAre};
 ghost use Rattle.two_sets.specs.Pairs.{CursorsAre};
 ghost use Rattle.two_sets.specs.Heads.{none, ownMarks, ownIds};
 
-// The same of the numbers of a key, where `seen` tells of the keys before it. The numbers behind a mark are in the sides that are open.
+// Of the numbers of a key, where `seen` tells of the keys before it. Those behind a mark are in the sides that are open; where one side
+// has no marks left, what the other still has is its own.
 fn own_marks(first: &[u8], second: &[u8], sides: Sides, seen: Own) -> Own
     requires { ⌜ SidesAre (now first) (now second) sides ⌝ }
     requires { ⌜ Shut (now first) (now second) sides ⌝ }
@@ -36,7 +37,8 @@ fn own_marks(first: &[u8], second: &[u8], sides: Sides, seen: Own) -> Own
     }
 }
 
-// Each id of a set whose other has no entries left is its own. The walk ends where both have one.
+// Of all ids that are left. The walk ends where each set has one of its own, or where one has no entries left: what the other still has
+// is its own.
 pub(crate) fn own_ids(first: &[u8], second: &[u8], from: Cursors) -> Own
     requires { ⌜ CursorsAre (now first) (now second) from ⌝ }
     ensures { λ r. ⌜ r ≡ ownIds (now (first .entry)) (now (second .entry)) from none ⌝ }

@@ -268,7 +268,8 @@ pub fn which(first: &[u8], second: &[u8]) -> Choice
     Choice::Refused(DIVERGED)
 }
 
-// The set that has all ids of the other: the caller's own bytes, no copy; none of them where `which` refuses.
+// The set that `which` names: the caller's own bytes, all of them and no copy; none of them where it refuses. Both are lent under one
+// lifetime, since the part may be of either.
 pub fn head<'a>(first: &'a [u8], second: &'a [u8]) -> &'a [u8]
     ensures { λ r. ⌜ now r ≡ partOf (whichAnswers (now (first .entry)) (now (second .entry))) (now (first .entry)) (now (second .entry)) ⌝ }
     ensures { λ r. ⌜ ptr r ≡ placeOf (whichAnswers (now (first .entry)) (now (second .entry))) (ptr (first .entry)) (ptr (second .entry)) ⌝ }
