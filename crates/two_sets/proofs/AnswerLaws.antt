@@ -2,7 +2,7 @@
 use Prim.Native.Nat.{ℕ, _+_, _<_, _≤_}
 use mathlib.Core.Path.{_≡_, refl, sym, ap, _∙_}
 use mathlib.Core.Logic.{inl, inr}
-use mathlib.Core.Bool.{Bool, true, false, not, _&&_, Bool·not-not}
+use mathlib.Core.Bool.{Bool, true, false, not, Bool·not-not}
 use mathlib.Core.List.{List, [], _∷_, _++_}
 use native.Mathlib.Omega.{arith}
 use lib.Dec.{ltb}
@@ -13,14 +13,13 @@ use Rattle.misc.specs.Refusal.{notASet}
 use Rattle.misc.specs.Output.{refused, outputOf, answerOf, WhereFits}
 use Rattle.misc.specs.declared.Wrote.{Wrote}
 use Rattle.misc.proofs.OutputLaws.{_also_, output-refused}
-use Rattle.packets.specs.Key.{Key}
-use Rattle.packets.proofs.Tests.{split, clash}
+use Rattle.packets.proofs.Tests.{split}
 use Rattle.previous_gtids_event.specs.Entry.{Entry, entry, tagOf}
 use Rattle.previous_gtids_event.specs.Rewrite.{entriesBytes, anyTag, headerBytes, bodyBytes}
 use Rattle.previous_gtids_event.proofs.Writing.{length-header, entry-length}
 use Rattle.gtid_sets.specs.Limits.{judgedAs, judged, limits}
 use Rattle.gtid_sets.specs.Lent.{Lent, form, unfit, lentSet, GoodKeys}
-use Rattle.gtid_sets.specs.Combine.{without, marks, isOpen, spans, keep, combined, isEmpty, subset}
+use Rattle.gtid_sets.specs.Combine.{without, isEmpty, subset}
 use Rattle.gtid_sets.proofs.Bools.{or-false-parts}
 use Rattle.gtid_sets.proofs.ByteLaws.{entries-least}
 use Rattle.gtid_sets.proofs.LimitLaws.{longestSet-is, limits-judged}
@@ -34,18 +33,15 @@ use Rattle.resume_set.specs.Find.{setOf, Fits}
 use Rattle.resume_set.proofs.SetOfLaws.{set-bytes, set-stands}
 use Rattle.resume_set.proofs.AnswerLaws.{check-told, check-unfit, saved-refused, joined-short, joined-fits}
 use Rattle.two_sets.specs.Answers.{combinedOutput, combineAnswers, combineLeaves, withinRead, withinAnswers, headRead, whichAnswers, begun, OneUnfit, BeginningIs}
-use Rattle.two_sets.specs.Marks.{going, anyMark}
-use Rattle.two_sets.specs.Pairs.{entriesLeft, CursorIs, CursorsAre, combining, keyIn, PairIs}
+use Rattle.two_sets.specs.Pairs.{entriesLeft, CursorIs, CursorsAre, combining}
 use Rattle.two_sets.specs.Write.{MadeIs, madeLength}
 use Rattle.two_sets.specs.declared.Cursors.{Cursors}
-use Rattle.two_sets.specs.Heads.{none, ownIds}
+use Rattle.two_sets.specs.Differ.{ownIds}
 use Rattle.two_sets.specs.declared.AllWithin.{AllWithin}
 use Rattle.two_sets.specs.declared.Choice.the-variants.{First, Second, Refused}
 use Rattle.two_sets.specs.declared.Own.{Own}
 use Rattle.two_sets.specs.declared.Beginning.{Beginning}
-use Rattle.two_sets.specs.declared.Pair.{Pair}
 use Rattle.two_sets.specs.declared.Made.{Made}
-use Rattle.two_sets.proofs.MarkLaws.{alone-second}
 
 -- ---- where the walk begins
 
@@ -112,14 +108,14 @@ module _ (bs cs : List ℕ) (r : Beginning) (i : BeginningIs bs cs r) where
       let (this, one) = i .unfit some in
       rw this (unfit-told withinRead (record { refusal = 14; all = false }) (λ _. refl) (λ _. refl) bs cs one)
 
-  pub within-lent : r .refusal ≡ 0 → (b : Bool) → b ≡ isEmpty (combining without bs cs (r .from))
-      → _≡_ {A = AllWithin} (record { refusal = 0; all = b }) (withinAnswers bs cs)
-  within-lent fine b e = let l = i .lent fine in rw (l .first, l .second, e)
+  pub within-lent : r .refusal ≡ 0 → (own : Own) → own ≡ ownIds bs cs (r .from) (record { first = false; second = true })
+      → _≡_ {A = AllWithin} (record { refusal = 0; all = not (own .first) }) (withinAnswers bs cs)
+  within-lent fine own is = let l = i .lent fine in rw (is, l .first, l .second, Bool·not-not (isEmpty (combining without bs cs (r .from))))
 
   pub which-unfit : (r .refusal ≡ 0 → ⊥) → Refused (r .refusal) ≡ whichAnswers bs cs
   which-unfit some = let (this, one) = i .unfit some in rw this (unfit-told headRead (Refused 14) (λ _. refl) (λ _. refl) bs cs one)
 
-  module _ (fine : r .refusal ≡ 0) (own : Own) (is : own ≡ ownIds bs cs (r .from) none) where
+  module _ (fine : r .refusal ≡ 0) (own : Own) (is : own ≡ ownIds bs cs (r .from) (record { first = false; second = false })) where
     abbrev s : List Entry
     s = entriesLeft bs (r .from .first)
 
@@ -141,46 +137,6 @@ module _ (bs cs : List ℕ) (r : Beginning) (i : BeginningIs bs cs r) where
 
     pub neither-has : not (own .second) ≡ false → not (own .first) ≡ false → Refused 22 ≡ whichAnswers bs cs
     neither-has e f = rw (e, f) at which-told
-
--- ---- whether an id is missing
-
--- the same ids are missing in what is left
-pub record Missing (bs cs : List ℕ) (from left : Cursors) : Type 0 where
-  pub cursors : CursorsAre bs cs left
-  pub same : isEmpty (combining without bs cs from) ≡ isEmpty (combining without bs cs left)
-
--- marks make an entry that isn't empty
-pub not-empty : (k : Key) (ms : List ℕ) (s : List Entry) → isOpen ms ≡ false → isEmpty (keep k (spans ms) s) ≡ not (anyMark ms) && isEmpty s
-not-empty k [] s h = refl
-not-empty k (x ∷ []) s h = clash refl h
-not-empty k (x ∷ y ∷ ms) s h = refl
-
--- nothing is left of no set
-pub none-without : (t : List Entry) → combined without [] t ≡ []
-none-without [] = refl
-none-without (entry j js ∷ t) = rw (alone-second without refl (marks js)) (none-without t)
-
-module _ (bs cs : List ℕ) (from : Cursors) where
-  pub missing-none : CursorsAre bs cs from → Missing bs cs from from
-  missing-none i = record { cursors = i; same = refl }
-
-  module _ (left : Cursors) (g : Missing bs cs from left) where
-    pub missing-all : left .first .left ≡ 0 → true ≡ isEmpty (combining without bs cs from)
-    missing-all p =
-        let none : combining without bs cs left ≡ [] = rw p (none-without (entriesLeft cs (left .second))) in
-        sym (g .same ∙ ap isEmpty none)
-
-    module _ (r : Pair) (i : PairIs bs cs left r) (any : Bool) (is : any ≡ anyMark (going without bs cs (r .sides))) where
-      next-missing : isEmpty (combining without bs cs from) ≡ not any && isEmpty (combining without bs cs (r .after))
-      next-missing =
-          g .same ∙ ap isEmpty (i .goes without)
-          ∙ rw is (not-empty (keyIn bs cs (r .key)) (going without bs cs (r .sides)) (combining without bs cs (r .after)) (i .shut without refl))
-
-      pub missing-turn : any ≡ false → Missing bs cs from (r .after)
-      missing-turn e = record { cursors = i .after; same = next-missing ∙ rw e }
-
-      pub missing-found : any ≡ true → false ≡ isEmpty (combining without bs cs from)
-      missing-found e = sym (next-missing ∙ rw e)
 
 -- ---- a result that was measured
 

@@ -3,4 +3,4 @@ pub mod MarkLaws
 pub mod PairLaws
 pub mod WriteLaws
 pub mod AnswerLaws
-pub mod HeadLaws
+pub mod DifferLaws

@@ -19,12 +19,12 @@ use Rattle.packets.specs.Gno.{gnoTop}
 use Rattle.packets.proofs.Tests.{split, clash, tests}
 use Rattle.packets.proofs.Keys.{compare-cases}
 use Rattle.packets.proofs.GnoLaws.{gnoTop-is}
-use Rattle.gtid_sets.specs.Combine.{without, isOpen, mark, keeps, sweep, Rising}
+use Rattle.gtid_sets.specs.Combine.{isOpen, mark, keeps, sweep, Rising}
 use Rattle.gtid_sets.proofs.Bools.{or-false-parts}
 use Rattle.gtid_sets.proofs.SweepLaws.{lower, sweep-lt, sweep-eq, sweep-gt}
 use Rattle.set_check.specs.Places.{numberAt}
 use Rattle.set_check.proofs.PlaceLaws.{Bytes, number-stands}
-use Rattle.two_sets.specs.Marks.{saidBy, marksAt, marksOf, nextMark, passedSide, leftOf, going, anyMark, allIf, flipped, oneIf, SideIs, SidesAre, keepsNow, StepIs, TurnIs, NextIs, marksBytes, MarksPut}
+use Rattle.two_sets.specs.Marks.{saidBy, marksAt, marksOf, nextMark, passedSide, leftOf, going, allIf, flipped, oneIf, SideIs, SidesAre, keepsNow, StepIs, TurnIs, NextIs, marksBytes, MarksPut}
 use Rattle.two_sets.specs.declared.Operation.{Operation}
 use Rattle.two_sets.specs.declared.Operation.the-variants as operation
 use Rattle.two_sets.specs.declared.Side.{Side}
@@ -306,7 +306,7 @@ module _ (op : Bool → Bool → Bool) (none : op false false ≡ false) where
   alone-first (m ∷ a) =
       rw (op-first (not (isOpen a)), op-first (isOpen a), alone-first a) (mark-alone (isOpen a) (op true false) m a)
 
-  pub alone-second : (b : List ℕ) → sweep op [] b ≡ allIf (op false true) b
+  alone-second : (b : List ℕ) → sweep op [] b ≡ allIf (op false true) b
   alone-second [] = go (op false true)
     where
       go : (k : Bool) → [] ≡ allIf k []
@@ -321,16 +321,6 @@ module _ (op : Bool → Bool → Bool) (none : op false false ≡ false) where
 
     pub only-second : s .one .left ≡ 0 → kept ≡ op false true → allIf kept (marksOf cs (s .two)) ≡ going op bs cs s
     only-second z e = rw (e, z) (sym (alone-second (marksOf cs (s .two))))
-
--- whether a mark is left
-module _ (bs cs : List ℕ) (s : Sides) where
-  pub none-of-first : s .one .left ≡ 0 → false ≡ anyMark (going without bs cs s)
-  none-of-first z = ap anyMark (only-second without refl bs cs s false z refl)
-
-  pub next-of-first : (t : Turn) → NextIs without bs cs s t → t .flips ≡ anyMark (going without bs cs s)
-  next-of-first t n = split (t .flips)
-      (λ h. let some : going without bs cs s ≡ t .mark ∷ going without bs cs (t .sides) = n .goes ∙ rw h in rw (h, some))
-      (λ h. let none : going without bs cs s ≡ [] = n .goes ∙ rw (h, n .none h) in rw (h, none))
 
 -- marks that stand in bytes are written as they stand
 marks-stand : (bs : List ℕ) → Bytes bs → (n at : ℕ) → at + 8 * n ≤ length bs → marksBytes (marksAt n bs at) ≡ part bs at (8 * n)

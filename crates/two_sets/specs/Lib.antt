@@ -2,6 +2,6 @@
 -- promise.
 pub mod Marks
 pub mod Pairs
-pub mod Heads
+pub mod Differ
 pub mod Write
 pub mod Answers

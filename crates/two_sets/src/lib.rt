@@ -2,22 +2,19 @@
 // are in the second; and which of the two has all of the other. What they answer is said by `combineAnswers`, `withinAnswers` and
 // `whichAnswers` of specs/Answers.antt, and what is written by `combineLeaves`, on `lentSet` and `combined` of gtid_sets. Both sets are
 // only read, so that they may be the same bytes.
-use heads::own_ids;
-use marks::next_mark;
+use differ::own_ids;
 use misc::Wrote;
 use misc::refusal::DIVERGED;
-use pairs::next_pair;
 use set_check::Checked;
 use set_check::check::check;
 use write::write_combined;
 ghost use denote.Ref.{ptr};
 ghost use mathlib.Core.Path.{_≡_};
-ghost use Rattle.gtid_sets.specs.Combine.{either, both, without, subset};
-ghost use Rattle.two_sets.specs.Marks.{saidBy, going, anyMark, SidesAre};
-ghost use Rattle.two_sets.specs.Pairs.{entriesLeft, CursorsAre};
+ghost use Rattle.gtid_sets.specs.Combine.{either, both, without};
+ghost use Rattle.two_sets.specs.Marks.{saidBy};
 ghost use Rattle.two_sets.specs.Answers.{combineAnswers, combineLeaves, withinAnswers, whichAnswers, partOf, placeOf, begun, BeginningIs};
 
-mod heads;
+mod differ;
 mod marks;
 mod pairs;
 mod write;
@@ -202,34 +199,6 @@ pub fn without(first: &[u8], second: &[u8], out: &mut [u8]) -> Wrote
     combine(Operation::Without, first, second, out)
 }
 
-// Whether the first set has an id of a key that the second lacks; none, where only the second has the key.
-fn any_missing(first: &[u8], second: &[u8], sides: Sides) -> bool
-    requires { ⌜ SidesAre (now first) (now second) sides ⌝ }
-    ensures { λ r. ⌜ r ≡ anyMark (going without (now (first .entry)) (now (second .entry)) sides) ⌝ }
-{
-    if sides.one.left == 0 {
-        return false;
-    }
-    next_mark(Operation::Without, first, second, sides).flips
-}
-
-// Whether no id of the first set is missing in the second. The first that is ends the walk, and so does the first set's end.
-fn none_missing(first: &[u8], second: &[u8], from: Cursors) -> bool
-    requires { ⌜ CursorsAre (now first) (now second) from ⌝ }
-    ensures { λ r. ⌜ r ≡ subset (entriesLeft (now (first .entry)) (from .first)) (entriesLeft (now (second .entry)) (from .second)) ⌝ }
-{
-    let mut left = from;
-    while 0 < left.first.left {
-        let pair = next_pair(first, second, left);
-        let sides = pair.sides;
-        if any_missing(first, second, sides) {
-            return false;
-        }
-        left = pair.after;
-    }
-    true
-}
-
 // Whether all ids of the first set are in the second. Refused are bytes that are no set (14), the first before the second.
 pub fn within(first: &[u8], second: &[u8]) -> AllWithin
     ensures { λ r. ⌜ r ≡ withinAnswers (now (first .entry)) (now (second .entry)) ⌝ }
@@ -242,10 +211,15 @@ pub fn within(first: &[u8], second: &[u8]) -> AllWithin
             all: false,
         };
     }
-    let from = beginning.from;
+    // an id that only the second set has isn't looked for
+    let seen = Own {
+        first: false,
+        second: true,
+    };
+    let own = own_ids(first, second, beginning.from, seen);
     AllWithin {
         refusal: 0,
-        all: none_missing(first, second, from),
+        all: !own.first,
     }
 }
 
@@ -258,7 +232,11 @@ pub fn which(first: &[u8], second: &[u8]) -> Choice
     if refusal != 0 {
         return Choice::Refused(refusal);
     }
-    let own = own_ids(first, second, beginning.from);
+    let seen = Own {
+        first: false,
+        second: false,
+    };
+    let own = own_ids(first, second, beginning.from, seen);
     if !own.second {
         return Choice::First;
     }

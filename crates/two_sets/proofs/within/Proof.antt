@@ -13,13 +13,15 @@ returns c =
     let s = c .before .before .before .before in
     within-unfit (now (s .args .first)) (now (s .args .second)) _ (c .before .begin .ensures) (c .if1 .taken)
 
-none-missing-requires : tie.Need-none-missing-requires
-none-missing-requires c κs = c .before .before .begin .ensures .lent (c .before .if1 .left) .cursors
+own-ids-requires : tie.Need-own-ids-requires
+own-ids-requires c κs = c .before .begin .ensures .lent (c .if1 .left) .cursors
 
 returns-2 : tie.Need-returns-2
 returns-2 c =
-    let s = c .before .before .before .before .before .before in
-    within-lent (now (s .args .first)) (now (s .args .second)) _ (c .before .before .before .begin .ensures) (c .before .before .if1 .left) _ (c .none-missing .ensures)
+    let o = c .before in
+    let b = o .before .before in
+    let s = b .before .before .before in
+    within-lent (now (s .args .first)) (now (s .args .second)) _ (b .begin .ensures) (o .before .if1 .left) _ (o .own-ids .ensures)
 
 pub within-spec : {M : Type 1} → statement M
-within-spec = tie.close (tie.spec begin-requires returns none-missing-requires returns-2)
+within-spec = tie.close (tie.spec begin-requires returns own-ids-requires returns-2)

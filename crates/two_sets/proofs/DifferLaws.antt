@@ -3,27 +3,27 @@ use Prim.Native.Nat.{ℕ, zero, suc, _+_, _%_, _<_}
 use mathlib.Core.Path.{_≡_, refl, sym, _∙_}
 use mathlib.Core.Logic.{_⊎_, inl, inr}
 use mathlib.Core.Bool.{Bool, true, false, not, _&&_, _||_, and-true}
-use mathlib.Core.List.{List, []}
+use mathlib.Core.List.{List, [], _∷_}
 use native.Mathlib.Omega.{arith}
 use lib.Dec.{ltb, eqb}
 use borrow.Author.Tests.{ltb-true, ltb-false, lt-ltb}
+use Rattle.packets.specs.Key.{Key}
 use Rattle.packets.proofs.Tests.{split, clash}
 use Rattle.previous_gtids_event.specs.Entry.{Entry}
 use Rattle.gtid_sets.specs.Set.{has, SetForm}
-use Rattle.gtid_sets.specs.Combine.{without, mark, combined, isEmpty}
+use Rattle.gtid_sets.specs.Combine.{without, isOpen, spans, mark, keep, combined, isEmpty}
 use Rattle.gtid_sets.proofs.SweepLaws.{sweep-open}
 use Rattle.gtid_sets.proofs.CombineLaws.{is-combined, combined-swap}
 use Rattle.set_check.specs.Places.{entriesAt}
 use Rattle.two_sets.specs.Marks.{marksAt, marksOf, going, anyMark, allIf, Shut, SidesAre, keepsNow, StepIs}
 use Rattle.two_sets.specs.Pairs.{entriesLeft, CursorsAre, combining, keyIn, PairIs}
-use Rattle.two_sets.specs.Heads.{back, none, found, ownMarks, ownIds}
+use Rattle.two_sets.specs.Differ.{back, found, ownMarks, ownIds}
 use Rattle.two_sets.specs.declared.Sides.{Sides}
 use Rattle.two_sets.specs.declared.Step.{Step}
 use Rattle.two_sets.specs.declared.Cursors.{Cursors}
 use Rattle.two_sets.specs.declared.Pair.{Pair}
 use Rattle.two_sets.specs.declared.Own.{Own}
 use Rattle.two_sets.proofs.MarkLaws.{keeps-said, only-first, only-second}
-use Rattle.two_sets.proofs.AnswerLaws.{none-without, not-empty}
 
 -- both are told
 both-told : {x y z w : Bool} → x ≡ y → z ≡ w → _≡_ {A = Own} (record { first = x; second = z }) (record { first = y; second = w })
@@ -125,11 +125,20 @@ module _ (bs cs : List ℕ) (s : Sides) (seen : Own) where
 
 -- ---- by entries
 
+-- marks make an entry that isn't empty
+not-empty : (k : Key) (ms : List ℕ) (s : List Entry) → isOpen ms ≡ false → isEmpty (keep k (spans ms) s) ≡ not (anyMark ms) && isEmpty s
+not-empty k [] s h = refl
+not-empty k (x ∷ []) s h = clash refl h
+not-empty k (x ∷ y ∷ ms) s h = refl
+
 some-entries : (n : ℕ) (w : Bool) (bs : List ℕ) (at : ℕ) → not (isEmpty (entriesAt n w bs at)) ≡ ltb 0 n
 some-entries zero w bs at = refl
 some-entries (suc n) w bs at = sym (lt-ltb 0 (suc n) (omega arith))
 
 module _ (s : List Entry) (f : SetForm s) where
+  none-left : combined without [] s ≡ []
+  none-left = sym (is-combined without refl [] s [] tt f tt (λ k n. refl))
+
   all-left : combined without s [] ≡ s
   all-left = sym (is-combined without refl s [] s f tt f (λ k n. sym (and-true (has s k n))))
 
@@ -137,44 +146,44 @@ module _ (s : List Entry) (f : SetForm s) where
   all-back = sym (combined-swap without refl s [] f tt) ∙ all-left
 
   none-back : combined back s [] ≡ []
-  none-back = sym (combined-swap without refl [] s tt f) ∙ none-without s
+  none-back = sym (combined-swap without refl [] s tt f) ∙ none-left
 
 -- only one set has entries
 rest-ids : (bs cs : List ℕ) (c : Cursors) (o : Own) → CursorsAre bs cs c → (c .first .left ≡ 0) ⊎ (c .second .left ≡ 0)
     → found o (ltb 0 (c .first .left)) (ltb 0 (c .second .left)) ≡ ownIds bs cs c o
 rest-ids bs cs c o i (inl z) =
     let t = entriesLeft cs (c .second) in
-    rw (z, none-without t, all-back t (i .second .formed), some-entries (c .second .left) (c .second .tagged) cs (c .second .at))
+    rw (z, none-left t (i .second .formed), all-back t (i .second .formed), some-entries (c .second .left) (c .second .tagged) cs (c .second .at))
 rest-ids bs cs c o i (inr z) =
     let s = entriesLeft bs (c .first) in
     rw (z, none-back s (i .first .formed), all-left s (i .first .formed), some-entries (c .first .left) (c .first .tagged) bs (c .first .at))
 
 -- what is found of all entries is what was found and what is found of those that are left
-pub record Walking (bs cs : List ℕ) (from left : Cursors) (own : Own) : Type 0 where
-  pub same : ownIds bs cs from none ≡ ownIds bs cs left own
+pub record Walking (bs cs : List ℕ) (from : Cursors) (seen : Own) (left : Cursors) (own : Own) : Type 0 where
+  pub same : ownIds bs cs from seen ≡ ownIds bs cs left own
   pub cursors : CursorsAre bs cs left
 
-module _ (bs cs : List ℕ) (from : Cursors) where
-  pub walking-none : CursorsAre bs cs from → Walking bs cs from from none
+module _ (bs cs : List ℕ) (from : Cursors) (seen : Own) where
+  pub walking-none : CursorsAre bs cs from → Walking bs cs from seen from seen
   walking-none i = record { same = refl; cursors = i }
 
-  module _ (left : Cursors) (own : Own) (g : Walking bs cs from left own) where
+  module _ (left : Cursors) (own : Own) (g : Walking bs cs from seen left own) where
     module _ (r : Pair) (i : PairIs bs cs left r) where
-      key-found : (op : Bool → Bool → Bool) → op false false ≡ false → (seen : Bool)
-          → seen || not (isEmpty (combining op bs cs left)) ≡ (seen || anyMark (going op bs cs (r .sides))) || not (isEmpty (combining op bs cs (r .after)))
-      key-found op none seen =
+      key-found : (op : Bool → Bool → Bool) → op false false ≡ false → (x : Bool)
+          → x || not (isEmpty (combining op bs cs left)) ≡ (x || anyMark (going op bs cs (r .sides))) || not (isEmpty (combining op bs cs (r .after)))
+      key-found op none x =
           rw (i .goes op, not-empty (keyIn bs cs (r .key)) (going op bs cs (r .sides)) (combining op bs cs (r .after)) (i .shut op none))
-          (or-not seen (anyMark (going op bs cs (r .sides))) (isEmpty (combining op bs cs (r .after))))
+          (or-not x (anyMark (going op bs cs (r .sides))) (isEmpty (combining op bs cs (r .after))))
 
-      pub walking-turn : (own′ : Own) → own′ ≡ ownMarks bs cs (r .sides) own → Walking bs cs from (r .after) own′
+      pub walking-turn : (own′ : Own) → own′ ≡ ownMarks bs cs (r .sides) own → Walking bs cs from seen (r .after) own′
       walking-turn own′ e = record {
         same = g .same ∙ both-told (key-found without refl (own .first)) (key-found back refl (own .second)) ∙ rw e;
         cursors = i .after;
       }
 
-      pub walking-both : (own′ : Own) → own′ ≡ ownMarks bs cs (r .sides) own → own′ .first && own′ .second ≡ true → own′ ≡ ownIds bs cs from none
+      pub walking-both : (own′ : Own) → own′ ≡ ownMarks bs cs (r .sides) own → own′ .first && own′ .second ≡ true → own′ ≡ ownIds bs cs from seen
       walking-both own′ e h = both-found own′ _ _ h ∙ sym (walking-turn own′ e .same)
 
     pub walking-all : ltb 0 (left .first .left) && ltb 0 (left .second .left) ≡ false
-        → found own (ltb 0 (left .first .left)) (ltb 0 (left .second .left)) ≡ ownIds bs cs from none
+        → found own (ltb 0 (left .first .left)) (ltb 0 (left .second .left)) ≡ ownIds bs cs from seen
     walking-all h = rest-ids bs cs left own (g .cursors) (one-ended (left .first .left) (left .second .left) h) ∙ sym (g .same)

@@ -1,11 +1,11 @@
--- `two_sets::heads::own_marks` meets its contract.
+-- `two_sets::differ::own_marks` meets its contract.
 use native.Mathlib.Omega.{arith}
 use denote.Ref.{now}
 use borrow.Author.Needs.{needs}
 use Rattle.two_sets.specs.Marks.{leftOf}
-use Rattle.two_sets.proofs.HeadLaws.{Seeing, seeing-none, seeing-turn, seeing-both, seeing-all, both-left}
-use Rattle.two_sets.proofs.heads.own_marks.Statement.{statement}
-use Rattle.two_sets.proofs.heads.own_marks.Tie as tie
+use Rattle.two_sets.proofs.DifferLaws.{Seeing, seeing-none, seeing-turn, seeing-both, seeing-all, both-left}
+use Rattle.two_sets.proofs.differ.own_marks.Statement.{statement}
+use Rattle.two_sets.proofs.differ.own_marks.Tie as tie
 
 abbrev Inv-loop : tie.InvT-loop
 Inv-loop first second left₀ own₀ left own = Seeing first second left₀ own₀ left own

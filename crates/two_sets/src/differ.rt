@@ -8,7 +8,7 @@ use crate::pairs::next_pair;
 ghost use mathlib.Core.Path.{_≡_};
 ghost use Rattle.two_sets.specs.Marks.{Shut, SidesAre};
 ghost use Rattle.two_sets.specs.Pairs.{CursorsAre};
-ghost use Rattle.two_sets.specs.Heads.{none, ownMarks, ownIds};
+ghost use Rattle.two_sets.specs.Differ.{ownMarks, ownIds};
 
 // Of the numbers of a key, where `seen` tells of the keys before it. Those behind a mark are in the sides that are open; where one side
 // has no marks left, what the other still has is its own.
@@ -37,17 +37,14 @@ fn own_marks(first: &[u8], second: &[u8], sides: Sides, seen: Own) -> Own
     }
 }
 
-// Of all ids that are left. The walk ends where each set has one of its own, or where one has no entries left: what the other still has
-// is its own.
-pub(crate) fn own_ids(first: &[u8], second: &[u8], from: Cursors) -> Own
+// Of all ids that are left, where `seen` tells what isn't looked for any more. The walk ends where each set has one of its own, or where
+// one has no entries left: what the other still has is its own.
+pub(crate) fn own_ids(first: &[u8], second: &[u8], from: Cursors, seen: Own) -> Own
     requires { ⌜ CursorsAre (now first) (now second) from ⌝ }
-    ensures { λ r. ⌜ r ≡ ownIds (now (first .entry)) (now (second .entry)) from none ⌝ }
+    ensures { λ r. ⌜ r ≡ ownIds (now (first .entry)) (now (second .entry)) from seen ⌝ }
 {
     let mut left = from;
-    let mut own = Own {
-        first: false,
-        second: false,
-    };
+    let mut own = seen;
     while (0 < left.first.left) & (0 < left.second.left) {
         let pair = next_pair(first, second, left);
         own = own_marks(first, second, pair.sides, own);

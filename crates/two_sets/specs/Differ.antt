@@ -1,6 +1,6 @@
 -- Ids that one of two sets has and the other lacks: its own.
 use Prim.Native.Nat.{ℕ}
-use mathlib.Core.Bool.{Bool, false, not, _||_}
+use mathlib.Core.Bool.{Bool, not, _||_}
 use mathlib.Core.List.{List}
 use Rattle.gtid_sets.specs.Combine.{without, isEmpty}
 use Rattle.two_sets.specs.Marks.{going, anyMark}
@@ -12,9 +12,6 @@ use Rattle.two_sets.specs.declared.Own.{Own}
 -- the second without the first
 abbrev pub back : Bool → Bool → Bool
 back x y = without y x
-
-abbrev pub none : Own
-none = record { first = false; second = false }
 
 -- what is found besides
 abbrev pub found : Own → Bool → Bool → Own
