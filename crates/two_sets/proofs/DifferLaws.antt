@@ -8,10 +8,12 @@ use native.Mathlib.Omega.{arith}
 use lib.Dec.{ltb, eqb}
 use borrow.Author.Tests.{ltb-true, ltb-false, lt-ltb}
 use Rattle.packets.specs.Key.{Key}
+use Rattle.packets.proofs.Tests as tests
 use Rattle.packets.proofs.Tests.{split, clash}
 use Rattle.previous_gtids_event.specs.Entry.{Entry}
 use Rattle.gtid_sets.specs.Set.{has, SetForm}
 use Rattle.gtid_sets.specs.Combine.{without, isOpen, spans, mark, keep, combined, isEmpty}
+use Rattle.gtid_sets.proofs.Bools.{or-false-parts}
 use Rattle.gtid_sets.proofs.SweepLaws.{sweep-open}
 use Rattle.gtid_sets.proofs.CombineLaws.{is-combined, combined-swap}
 use Rattle.set_check.specs.Places.{entriesAt}
@@ -29,19 +31,15 @@ use Rattle.two_sets.proofs.MarkLaws.{keeps-said, only-first, only-secon
 both-told : {x y z w : Bool} → x ≡ y → z ≡ w → _≡_ {A = Own} (record { first = x; second = z }) (record { first = y; second = w })
 both-told p q = rw (p, q)
 
-and-parts : (x y : Bool) → x && y ≡ true → (x ≡ true) × (y ≡ true)
-and-parts true y h = (refl, h)
-and-parts false y h = clash h refl
-
 -- nothing can be found besides where both have been
 both-found : (o : Own) (x y : Bool) → o .first && o .second ≡ true → o ≡ found o x y
 both-found o x y h =
-    let (p, q) = and-parts (o .first) (o .second) h in
+    let (p, q) = tests.and-true (o .first) (o .second) h in
     both-told (p ∙ sym (rw p)) (q ∙ sym (rw q))
 
 -- a loop goes on while both have something left, and ends where one hasn't
 pub both-left : (m n : ℕ) → ltb 0 m && ltb 0 n ≡ true → 0 < m + n
-both-left m n h = omega (arith, ltb-true 0 m (and-parts (ltb 0 m) (ltb 0 n) h .0))
+both-left m n h = omega (arith, ltb-true 0 m (tests.and-true (ltb 0 m) (ltb 0 n) h .0))
 
 one-ended : (m n : ℕ) → ltb 0 m && ltb 0 n ≡ false → (m ≡ 0) ⊎ (n ≡ 0)
 one-ended m n h = split (ltb 0 m)
@@ -74,10 +72,6 @@ or-not : (x y z : Bool) → x || not (not y && z) ≡ (x || y) || not z
 or-not true y z = refl
 or-not false true z = refl
 or-not false false z = refl
-
-or-last : (x y : Bool) → x || y ≡ false → y ≡ false
-or-last true y h = clash refl h
-or-last false y h = h
 
 marks-any : (k : Bool) (n : ℕ) (bs : List ℕ) (at : ℕ) → anyMark (allIf k (marksAt n bs at)) ≡ k && ltb 0 n
 marks-any true zero bs at = refl
@@ -112,8 +106,8 @@ module _ (bs cs : List ℕ) (s : Sides) (seen : Own) where
         record {
           same = g .same ∙ both-told one two;
           sides = i .sides;
-          shut-first = λ h. sym first ∙ or-last (own .first) (x && not y) h;
-          shut-second = λ h. sym second ∙ or-last (own .second) (y && not x) h;
+          shut-first = λ h. sym first ∙ or-false-parts (own .first) (x && not y) h .1;
+          shut-second = λ h. sym second ∙ or-false-parts (own .second) (y && not x) h .1;
         }
 
     pub seeing-both : own .first && own .second ≡ true → own ≡ ownMarks bs cs s seen
@@ -136,8 +130,8 @@ some-entries zero w bs at = refl
 some-entries (suc n) w bs at = sym (lt-ltb 0 (suc n) (omega arith))
 
 module _ (s : List Entry) (f : SetForm s) where
-  none-left : combined without [] s ≡ []
-  none-left = sym (is-combined without refl [] s [] tt f tt (λ k n. refl))
+  nothing-left : combined without [] s ≡ []
+  nothing-left = sym (is-combined without refl [] s [] tt f tt (λ k n. refl))
 
   all-left : combined without s [] ≡ s
   all-left = sym (is-combined without refl s [] s f tt f (λ k n. sym (and-true (has s k n))))
@@ -146,14 +140,14 @@ module _ (s : List Entry) (f : SetForm s) where
   all-back = sym (combined-swap without refl s [] f tt) ∙ all-left
 
   none-back : combined back s [] ≡ []
-  none-back = sym (combined-swap without refl [] s tt f) ∙ none-left
+  none-back = sym (combined-swap without refl [] s tt f) ∙ nothing-left
 
 -- only one set has entries
 rest-ids : (bs cs : List ℕ) (c : Cursors) (o : Own) → CursorsAre bs cs c → (c .first .left ≡ 0) ⊎ (c .second .left ≡ 0)
     → found o (ltb 0 (c .first .left)) (ltb 0 (c .second .left)) ≡ ownIds bs cs c o
 rest-ids bs cs c o i (inl z) =
     let t = entriesLeft cs (c .second) in
-    rw (z, none-left t (i .second .formed), all-back t (i .second .formed), some-entries (c .second .left) (c .second .tagged) cs (c .second .at))
+    rw (z, nothing-left t (i .second .formed), all-back t (i .second .formed), some-entries (c .second .left) (c .second .tagged) cs (c .second .at))
 rest-ids bs cs c o i (inr z) =
     let s = entriesLeft bs (c .first) in
     rw (z, none-back s (i .first .formed), all-left s (i .first .formed), some-entries (c .first .left) (c .first .tagged) bs (c .first .at))

@@ -45,7 +45,7 @@ leftOf s = s .one .left + s .two .left
 abbrev pub going : (Bool → Bool → Bool) → List ℕ → List ℕ → Sides → List ℕ
 going op bs cs s = sweep op (marksOf bs (s .one)) (marksOf cs (s .two))
 
--- no number before the first mark is in
+-- no number before the first mark is kept, whatever the operation
 abbrev pub Shut : List ℕ → List ℕ → Sides → Type 0
 Shut bs cs s = (op : Bool → Bool → Bool) → op false false ≡ false → isOpen (going op bs cs s) ≡ false
 
