@@ -9,8 +9,10 @@
  * Where a call writes, `*len` bytes stand at the front of the output, and the rest of it is as it was. Where a call refuses,
  * all of the output is as it was, and `*len` is 0. The one exception is 13, an output that is too short: then `*len` is the
  * length that is needed. It can't come where the output has the length that stands with the call.
+ * (The report of gtid_report_add is no output: it is read, and changed in its place, also where the call refuses with 14.)
  *
- * A call uses up to 210 KB of the stack. None keeps anything, so calls on different memory may run at the same time. */
+ * A call uses up to 210 KB of the stack. None keeps anything but in that report, so calls on different memory may run at the
+ * same time. */
 #ifndef GTID_H
 #define GTID_H
 
@@ -79,6 +81,36 @@ uint8_t gtid_within(const uint8_t *first, size_t first_len, const uint8_t *secon
  * neither has (22), gtid_without, both ways round, tells which ids each lacks. A follower goes on from its own set in any case:
  * an opening set has ids that it may not have copied. */
 uint8_t gtid_head(const uint8_t *first, size_t first_len, const uint8_t *second, size_t second_len, uint8_t *head);
+
+/* A report over sets that are given one after another: how many entries, intervals and ids each has, and the sums over all. It
+ * takes GTID_MAX_SETS sets, those that are refused counted.
+ * In the making it is GTID_REPORT_LEN bytes of the caller's. All zeros are a new report, over no set; from there on only
+ * gtid_report_add changes them, and what stands in them is the library's own. A copy of them is a report, too. So zero the bytes,
+ * call gtid_report_add for each saved set, and at last gtid_report_write.
+ * Ids are counted in two words: there are `*high` times 2^64 and `*low`. An entry has fewer than 2^63 of them, but a set can have
+ * 384 entries. In the sums an id that is in two sets counts twice. */
+#define GTID_MAX_SETS 64
+#define GTID_REPORT_LEN 1352
+
+/* The longest text of a report, in bytes: 64 lines of 38 bytes, and one of 44 for the sums. */
+#define GTID_LONGEST_REPORT 2476
+
+/* Adds a set to a report, which keeps its line, and tells the set's own four numbers. The set must not overlap the report.
+ * Refuses with 12 if the report hasn't exactly GTID_REPORT_LEN bytes, with 11 if it has GTID_MAX_SETS sets already, whatever this
+ * one is, since it isn't read, and with 14 if the bytes are no set; then the four numbers are 0. With 12 and 11 the report is as
+ * it was. With 14 it has a line that says so, and the bytes count as one of its sets, but add nothing to the sums. */
+uint8_t gtid_report_add(uint8_t *report, size_t report_len, const uint8_t *set, size_t set_len,
+                        uint64_t *entries, uint64_t *intervals, uint64_t *high, uint64_t *low);
+
+/* The sums over all sets of a report, as its last line has them. Refuses with 12, as above; then the four numbers are 0. */
+uint8_t gtid_report_sum(const uint8_t *report, size_t report_len,
+                        uint64_t *entries, uint64_t *intervals, uint64_t *high, uint64_t *low);
+
+/* Writes the text of a report, at most GTID_LONGEST_REPORT bytes if gtid_report_add made it from zeros. For each set, in the
+ * order in which they were added, it has the line `set ENTRIES INTERVALS HIGH LOW`, or `refused 14`, and at last
+ * `sum ENTRIES INTERVALS HIGH LOW`, in decimal: for a set with the ids 1 to 5 of one uuid `set 1 1 0 5`, and for no set at all
+ * only `sum 0 0 0 0`. Refuses with 12, as above, and with 13. The report is only read: it can be written again, and added to. */
+uint8_t gtid_report_write(const uint8_t *report, size_t report_len, uint8_t *out, size_t out_len, size_t *len);
 
 /* Writes the entries that the body of a Previous-GTIDs event holds anew, as they stand: with tags only if one of them has
  * one, and every length in its shortest form. These are at most `body_len` bytes. Refuses with 11, 1, 6 and 13. */

@@ -432,6 +432,230 @@ static void fill_by_two_sets(void)
     EXPECT(gtid_both(other, sizeof other, input + 1, longest_len, next, sizeof next - 1, &len) == 13 && len == GTID_LONGEST_SET);
 }
 
+/* A report in the making, and bytes to compare it with. */
+static uint8_t report[GTID_REPORT_LEN], kept[GTID_REPORT_LEN];
+
+/* Four numbers: of a set, or of a whole report. */
+struct counts {
+    uint64_t entries, intervals, high, low;
+};
+
+static int are(struct counts counts, uint64_t entries, uint64_t intervals, uint64_t high, uint64_t low)
+{
+    return counts.entries == entries && counts.intervals == intervals && counts.high == high && counts.low == low;
+}
+
+/* Adds a set to the report. Returns the number; with a refusal the set's numbers are 0, and only with 11 the report is as it was. */
+static uint8_t added(const uint8_t *bytes, size_t len, struct counts *counts)
+{
+    uint8_t number;
+
+    memcpy(kept, report, sizeof report);
+    memset(counts, 0xa5, sizeof *counts);
+    number = gtid_report_add(report, sizeof report, bytes, len, &counts->entries, &counts->intervals, &counts->high, &counts->low);
+    EXPECT(number == 0 || are(*counts, 0, 0, 0, 0));
+    EXPECT((number == 11) == (memcmp(report, kept, sizeof report) == 0));
+    return number;
+}
+
+/* Whether a set is added to the report, and these are its numbers. */
+static int adds(const uint8_t *bytes, size_t len, uint64_t entries, uint64_t intervals, uint64_t high, uint64_t low)
+{
+    struct counts counts;
+
+    return added(bytes, len, &counts) == 0 && are(counts, entries, intervals, high, low);
+}
+
+/* Whether the report refuses these bytes with this number. */
+static int report_refuses(const uint8_t *bytes, size_t len, uint8_t number)
+{
+    struct counts counts;
+
+    return added(bytes, len, &counts) == number;
+}
+
+/* Whether these are the sums over the report. */
+static int sums_are(uint64_t entries, uint64_t intervals, uint64_t high, uint64_t low)
+{
+    struct counts sums;
+
+    memset(&sums, 0xa5, sizeof sums);
+    EXPECT(gtid_report_sum(report, sizeof report, &sums.entries, &sums.intervals, &sums.high, &sums.low) == 0);
+    return are(sums, entries, intervals, high, low);
+}
+
+/* Whether this is the report's text. Where there is no room for it nothing is written, and asked again with room it is the same. */
+static int report_is(const char *expected)
+{
+    size_t needed = strlen(expected), len = 9;
+
+    memcpy(kept, report, sizeof report);
+    fill_alike();
+    EXPECT(gtid_report_write(report, sizeof report, next, needed - 1, &len) == 13 && len == needed);
+    EXPECT(gtid_report_write(report, sizeof report, next, 0, &len) == 13 && len == needed);
+    EXPECT(memcmp(next, set, sizeof next) == 0);
+    EXPECT(gtid_report_write(report, sizeof report, next, needed, &len) == 0 && len == needed);
+    EXPECT(memcmp(next + len, set + len, sizeof next - len) == 0);
+    EXPECT(memcmp(report, kept, sizeof report) == 0);
+    return memcmp(next, expected, len) == 0;
+}
+
+/* So many entries without tags, each with so many intervals: of one number, ten apart, but for the last, which begins so and ends with the
+ * highest number. Returns how many bytes the set has. */
+static size_t put_great_set(uint8_t *at, uint16_t entries, uint64_t intervals)
+{
+    uint8_t *start = at;
+
+    put(at, entries);
+    at += 8;
+    for (uint16_t number = 0; number < entries; number++) {
+        memset(at, 7, 16);
+        at[0] = (uint8_t)(number >> 8);
+        at[1] = (uint8_t)number;
+        at = put_intervals(at + 16, intervals, 1, 1);
+        put(at - 8, GTID_HIGHEST_GNO + 1);
+    }
+    return (size_t)(at - start);
+}
+
+static void report_no_set(void)
+{
+    memset(report, 0, sizeof report);
+    EXPECT(sums_are(0, 0, 0, 0));
+    EXPECT(report_is("sum 0 0 0 0\n"));
+}
+
+/* An empty set, one with two intervals, one with a tag, and the first two again: their ids count twice. */
+static void report_sets(void)
+{
+    const uint8_t empty[8] = {0};
+    size_t one_len = put_set(one, 2, 1, 5), other_len;
+
+    put(other, (UINT64_C(1) << 56) + (1 << 8) + 1);
+    other_len = (size_t)(put_intervals(put_tagged_key(other + 8, 0), 3, 1, 2) - other);
+    memset(report, 0, sizeof report);
+    EXPECT(adds(empty, sizeof empty, 0, 0, 0, 0));
+    EXPECT(report_is("set 0 0 0 0\nsum 0 0 0 0\n"));
+    EXPECT(adds(one, one_len, 1, 2, 0, 10));
+    EXPECT(report_is("set 0 0 0 0\nset 1 2 0 10\nsum 1 2 0 10\n"));
+    EXPECT(adds(other, other_len, 1, 3, 0, 6));
+    EXPECT(adds(empty, sizeof empty, 0, 0, 0, 0));
+    EXPECT(adds(one, one_len, 1, 2, 0, 10));
+    EXPECT(sums_are(3, 7, 0, 26));
+    EXPECT(report_is("set 0 0 0 0\nset 1 2 0 10\nset 1 3 0 6\nset 0 0 0 0\nset 1 2 0 10\nsum 3 7 0 26\n"));
+}
+
+/* The most ids of an entry, 2^63 - 2, twice: that is 2^64 - 4. Three more are the most that the low word holds, and one more makes it 0 and
+ * the high word 1. */
+static void report_beyond_one_word(void)
+{
+    size_t one_len = put_great_set(one, 1, 1), other_len = put_great_set(other, 3, 1);
+
+    memset(report, 0, sizeof report);
+    EXPECT(adds(one, one_len, 1, 1, 0, GTID_HIGHEST_GNO));
+    EXPECT(adds(one, one_len, 1, 1, 0, GTID_HIGHEST_GNO));
+    EXPECT(sums_are(2, 2, 0, UINT64_MAX - 3));
+    one_len = put_set(one, 1, 1, 3);
+    EXPECT(adds(one, one_len, 1, 1, 0, 3) && sums_are(3, 3, 0, UINT64_MAX));
+    one_len = put_set(one, 1, 1, 1);
+    EXPECT(adds(one, one_len, 1, 1, 0, 1) && sums_are(4, 4, 1, 0));
+    EXPECT(report_is("set 1 1 0 9223372036854775806\nset 1 1 0 9223372036854775806\nset 1 1 0 3\nset 1 1 0 1\nsum 4 4 1 0\n"));
+
+    /* three such entries in one set, and then sums that carry */
+    memset(report, 0, sizeof report);
+    EXPECT(adds(other, other_len, 3, 3, 1, UINT64_C(9223372036854775802)));
+    EXPECT(report_is("set 3 3 1 9223372036854775802\nsum 3 3 1 9223372036854775802\n"));
+    EXPECT(adds(other, other_len, 3, 3, 1, UINT64_C(9223372036854775802)));
+    EXPECT(sums_are(6, 6, 2, UINT64_MAX - 11));
+    other_len = put_great_set(other, 2, 1);
+    EXPECT(adds(other, other_len, 2, 2, 0, UINT64_MAX - 3));
+    EXPECT(sums_are(8, 8, 3, UINT64_MAX - 15));
+}
+
+/* Bytes that are no set have a line, and add nothing. */
+static void report_refused_sets(void)
+{
+    size_t one_len = put_set(one, 1, 1, 5), crowded_len = put_one_entry(1025);
+
+    memset(report, 0, sizeof report);
+    EXPECT(adds(one, one_len, 1, 1, 0, 5));
+    EXPECT(report_refuses(one, one_len - 1, 14));
+    EXPECT(report_is("set 1 1 0 5\nrefused 14\nsum 1 1 0 5\n"));
+    EXPECT(adds(one, one_len, 1, 1, 0, 5));
+    EXPECT(report_refuses(one, 0, 14));
+    EXPECT(report_refuses(input + 1, crowded_len, 14)); /* but for a limit it would be one */
+    EXPECT(sums_are(2, 2, 0, 10));
+    EXPECT(report_is("set 1 1 0 5\nrefused 14\nset 1 1 0 5\nrefused 14\nrefused 14\nsum 2 2 0 10\n"));
+    memset(report, 0, sizeof report);
+    EXPECT(report_refuses(one, one_len - 1, 14));
+    EXPECT(report_is("refused 14\nsum 0 0 0 0\n"));
+}
+
+/* 64 sets, of which the first so many are none. The next one is refused with 11, whatever it is, and the report is the same. */
+static void report_most_sets(int refused)
+{
+    size_t one_len = put_set(one, 1, 1, 5);
+    int sets = GTID_MAX_SETS - refused;
+    char expected[GTID_LONGEST_REPORT + 1] = "";
+
+    memset(report, 0, sizeof report);
+    for (int i = 0; i < GTID_MAX_SETS; i++) {
+        EXPECT(i < refused ? report_refuses(one, one_len - 1, 14) : adds(one, one_len, 1, 1, 0, 5));
+        strcat(expected, i < refused ? "refused 14\n" : "set 1 1 0 5\n");
+    }
+    sprintf(expected + strlen(expected), "sum %d %d 0 %d\n", sets, sets, 5 * sets);
+    EXPECT(report_is(expected));
+    EXPECT(report_refuses(one, one_len, 11) && report_refuses(one, one_len - 1, 11) && report_refuses(one, 0, 11));
+    EXPECT(sums_are((uint64_t)sets, (uint64_t)sets, 0, 5 * (uint64_t)sets));
+    EXPECT(report_is(expected));
+}
+
+/* A report of another length is refused before anything else, here a sixty-fifth set that is none, and nothing is changed. */
+static void refuse_reports(void)
+{
+    const size_t lengths[] = {0, GTID_REPORT_LEN - 1, GTID_REPORT_LEN + 1};
+    size_t one_len = put_set(one, 1, 1, 5), len;
+    static uint8_t longer[GTID_REPORT_LEN + 1];
+    struct counts counts;
+
+    memset(report, 0, sizeof report);
+    for (int i = 0; i < GTID_MAX_SETS; i++)
+        EXPECT(adds(one, one_len, 1, 1, 0, 5));
+    for (int i = 0; i < 3; i++) {
+        memset(longer, 0, sizeof longer);
+        memcpy(longer, report, sizeof report);
+        memset(&counts, 0xa5, sizeof counts);
+        EXPECT(gtid_report_add(longer, lengths[i], one, one_len - 1, &counts.entries, &counts.intervals, &counts.high, &counts.low) == 12);
+        EXPECT(are(counts, 0, 0, 0, 0) && memcmp(longer, report, sizeof report) == 0 && longer[GTID_REPORT_LEN] == 0);
+        memset(&counts, 0xa5, sizeof counts);
+        EXPECT(gtid_report_sum(longer, lengths[i], &counts.entries, &counts.intervals, &counts.high, &counts.low) == 12);
+        EXPECT(are(counts, 0, 0, 0, 0));
+        fill_alike();
+        len = 9;
+        EXPECT(gtid_report_write(longer, lengths[i], next, sizeof next, &len) == 12 && len == 0);
+        len = 9;
+        EXPECT(gtid_report_write(longer, lengths[i], next, 0, &len) == 12 && len == 0);
+        EXPECT(memcmp(next, set, sizeof next) == 0);
+    }
+}
+
+/* 64 sets of 384 entries with 5 intervals and 2^63 - 38 ids each: every number has its most digits. */
+static void write_longest_report(void)
+{
+    size_t one_len = put_great_set(one, 384, 5);
+    char expected[GTID_LONGEST_REPORT + 1] = "";
+
+    memset(report, 0, sizeof report);
+    for (int i = 0; i < GTID_MAX_SETS; i++) {
+        EXPECT(adds(one, one_len, 384, 1920, 191, UINT64_MAX - 384 * 38 + 1));
+        strcat(expected, "set 384 1920 191 18446744073709537024\n");
+    }
+    strcat(expected, "sum 24576 122880 12287 18446744073708617728\n");
+    EXPECT(strlen(expected) == GTID_LONGEST_REPORT);
+    EXPECT(sums_are(24576, 122880, 12287, UINT64_MAX - 64 * 384 * 38 + 1));
+    EXPECT(report_is(expected));
+}
+
 /* Fields of a tagged event as they stand in its body: an id and a value. Every integer has its one-byte form, which is twice its value;
  * a signed one is doubled before. */
 #define FLAGS 2 * 0, 2 * 1
@@ -725,6 +949,15 @@ int main(void)
     crowd_by_two_sets();
     tell_tags_apart();
     fill_by_two_sets();
+    report_no_set();
+    report_sets();
+    report_beyond_one_word();
+    report_refused_sets();
+    report_most_sets(0);
+    report_most_sets(1);
+    report_most_sets(GTID_MAX_SETS);
+    refuse_reports();
+    write_longest_report();
     read_each_field();
     read_fields();
     read_originals();

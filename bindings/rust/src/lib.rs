@@ -47,6 +47,8 @@
 //! Two sets are compared by [`ResumeSet::is_subset`], which shows a gap where a new binlog file begins, and by [`ResumeSet::is_superset`]. They
 //! make a third one by [`ResumeSet::union`], [`ResumeSet::intersection`] and [`ResumeSet::difference`], or `&a | &b`, `&a & &b` and `&a - &b`.
 //!
+//! How much is in a set is told by [`ResumeSet::totals`]. A [`Report`] tells it of up to 64 saved sets, with the sums, as numbers and as text.
+//!
 //! `examples/follower.rs` is a whole follower, with a tool that recognises ids. `tests/kill.rs` kills it two hundred times and looks for what
 //! is missing.
 #![deny(missing_docs)]
@@ -56,6 +58,7 @@ mod fields;
 mod gtid;
 mod previous;
 mod refusal;
+mod report;
 mod saved;
 mod set;
 mod sys;
@@ -66,6 +69,7 @@ pub use fields::{Field, Fields, FieldsIter};
 pub use gtid::Gtid;
 pub use previous::{Entry, PreviousGtidsEvent};
 pub use refusal::Refusal;
+pub use report::{Counts, Report, LONGEST_REPORT, MAX_SETS};
 pub use set::{Offer, Offered, ResumeSet, HIGHEST_GNO, LONGEST_SET};
 
 /// The type of a GTID event.

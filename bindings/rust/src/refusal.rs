@@ -69,7 +69,7 @@ refusals! {
     WrongType = 8: "an event type that this call doesn't serve",
     SmallPayload = 9: "a declared payload smaller than its envelope",
     BadLead = 10: "a length-encoded integer that begins with FB or FF",
-    TooLong = 11: "a body over 65,536 bytes",
+    TooLong = 11: "a body over 65,536 bytes, or a sixty-fifth set of a report",
     NotWritable = 12: "a record that can't be written",
     NoRoom = 13: "the output is too short",
     NotASet = 14: "the bytes are no set",

@@ -1,5 +1,5 @@
 use crate::sys;
-use crate::{Entry, PreviousGtidsEvent, Refusal};
+use crate::{Counts, Entry, PreviousGtidsEvent, Refusal, Report};
 
 /// The bytes of the longest set: 384 entries with tags of 32 bytes, and 2,560 intervals.
 ///
@@ -333,6 +333,25 @@ impl ResumeSet {
     /// ```
     pub fn counts(&self) -> (u64, u64) {
         counts(&self.bytes).expect("the bytes are a set")
+    }
+
+    /// How many entries, intervals and ids it has. A [`Report`] tells the same of many sets.
+    ///
+    /// Each committed offer that was answered [`Offered::Taken`] adds one id, and no other offer does.
+    ///
+    /// ```
+    /// use gtid_resume::{GtidEvent, ResumeSet, GTID_EVENT};
+    ///
+    /// let mut set = ResumeSet::empty();
+    /// for gno in [6, 7, 6] {
+    ///     set.offer(GTID_EVENT, &GtidEvent::new([7; 16], gno).write()?)?.commit();
+    /// }
+    /// assert_eq!(set.totals().ids, 2); // 6 was there when it came again
+    /// # Ok::<(), gtid_resume::Refusal>(())
+    /// ```
+    pub fn totals(&self) -> Counts {
+        let counts = Report::new().add(self);
+        counts.expect("the bytes are a set, and the first of the report")
     }
 
     /// The entries, in the set's order: rising by uuid, then without a tag before those with one. Intervals rise too, with a gap between

@@ -66,6 +66,31 @@ extern "C" {
         second_len: usize,
         head: *mut u8,
     ) -> u8;
+    pub fn gtid_report_add(
+        report: *mut u8,
+        report_len: usize,
+        set: *const u8,
+        set_len: usize,
+        entries: *mut u64,
+        intervals: *mut u64,
+        high: *mut u64,
+        low: *mut u64,
+    ) -> u8;
+    pub fn gtid_report_sum(
+        report: *const u8,
+        report_len: usize,
+        entries: *mut u64,
+        intervals: *mut u64,
+        high: *mut u64,
+        low: *mut u64,
+    ) -> u8;
+    pub fn gtid_report_write(
+        report: *const u8,
+        report_len: usize,
+        out: *mut u8,
+        out_len: usize,
+        len: *mut usize,
+    ) -> u8;
     pub fn gtid_rewrite(
         body: *const u8,
         body_len: usize,

@@ -87,6 +87,31 @@ mod linked {
             second_len: usize,
             head: *mut u8,
         ) -> u8;
+        pub fn gtid_report_add(
+            report: *mut u8,
+            report_len: usize,
+            set: *const u8,
+            set_len: usize,
+            entries: *mut u64,
+            intervals: *mut u64,
+            high: *mut u64,
+            low: *mut u64,
+        ) -> u8;
+        pub fn gtid_report_sum(
+            report: *const u8,
+            report_len: usize,
+            entries: *mut u64,
+            intervals: *mut u64,
+            high: *mut u64,
+            low: *mut u64,
+        ) -> u8;
+        pub fn gtid_report_write(
+            report: *const u8,
+            report_len: usize,
+            out: *mut u8,
+            out_len: usize,
+            len: *mut usize,
+        ) -> u8;
         pub fn gtid_rewrite(
             body: *const u8,
             body_len: usize,
@@ -198,6 +223,7 @@ mod ours {
     over_output!(rewrite, gtid_rewrite);
     over_output!(list, gtid_list);
     over_output!(write, gtid_write);
+    over_output!(report_write, gtid_report_write);
 
     macro_rules! over_two_sets {
         ($name:ident, $call:ident) => {
@@ -393,13 +419,49 @@ mod ours {
         };
         (refusal, head)
     }
+
+    /// The refusal, and how many entries, intervals and ids the set has, the ids in two words.
+    #[inline(always)]
+    pub fn report_add(report: &mut [u8], set: &[u8]) -> (u8, [u64; 4]) {
+        let (mut entries, mut intervals, mut high, mut low) = (0, 0, 0, 0);
+        let refusal = unsafe {
+            linked::gtid_report_add(
+                report.as_mut_ptr(),
+                report.len(),
+                set.as_ptr(),
+                set.len(),
+                &raw mut entries,
+                &raw mut intervals,
+                &raw mut high,
+                &raw mut low,
+            )
+        };
+        (refusal, [entries, intervals, high, low])
+    }
+
+    /// The refusal, and the same numbers over all sets.
+    #[inline(always)]
+    pub fn report_sum(report: &[u8]) -> (u8, [u64; 4]) {
+        let (mut entries, mut intervals, mut high, mut low) = (0, 0, 0, 0);
+        let refusal = unsafe {
+            linked::gtid_report_sum(
+                report.as_ptr(),
+                report.len(),
+                &raw mut entries,
+                &raw mut intervals,
+                &raw mut high,
+                &raw mut low,
+            )
+        };
+        (refusal, [entries, intervals, high, low])
+    }
 }
 
 // ---- what is counted ----
 
 /// A word for it, what it is, and the smaller number of turns; the other is twice that.
 #[rustfmt::skip]
-const TABLE: [(&str, &str, u64); 74] = [
+const TABLE: [(&str, &str, u64); 90] = [
     ("varint-1", "read 64 variable-length integers of 1 byte", 1000),
     ("varint-2", "read 64 variable-length integers of 2 bytes", 1000),
     ("varint-3", "read 64 variable-length integers of 3 bytes", 1000),
@@ -454,11 +516,17 @@ const TABLE: [(&str, &str, u64); 74] = [
     ("take-in-falling", "take in, one uuid, 4,094 intervals, falling (refused with 17)", 1),
     ("take-in-uuids", "take in, 1,638 uuids with an interval each, falling (refused with 16)", 1),
     ("take-in-tags", "take in, 897 tags of one uuid with an interval each, falling (refused with 16)", 1),
+    ("check-set-1", "check_set, 1 interval", 1000),
+    ("check-set-1024", "check_set, 1,024 intervals of one uuid", 10),
     ("check-set", "check_set, 2,048 intervals of two uuids, 1,024 each", 10),
     ("check-set-2560", "check_set, 2,560 intervals of three uuids, 1,024 of the first two", 10),
     ("check-set-longest", "check_set, the longest set", 10),
+    ("check-set-cut", "check_set, the longest set without its last byte (refused with 14)", 10),
     ("contains", "contains, 2,048 intervals of two uuids, 1,024 each, the last id", 10),
+    ("list-33", "list, type 33, an untagged record, all fields", 1000),
+    ("list-42", "list, type 42, a tagged record, all fields, tag of 10 bytes", 1000),
     ("list-35", "list, type 35, a set of 2,048 intervals of two uuids, 1,024 each", 10),
+    ("list-35-longest", "list, type 35, the longest set", 10),
     ("either-2560", "either, 2,560 intervals of three uuids, and as many that begin within them and end behind them: 2,560", 10),
     ("both-2560", "both, the same two sets: 2,560", 10),
     ("without-2560", "without, the same two sets: 2,560", 10),
@@ -474,13 +542,24 @@ const TABLE: [(&str, &str, u64); 74] = [
     ("either-384", "either, 384 uuids and the same uuids with other intervals, 1 each: 2 each", 10),
     ("either-tags", "either, 384 tags of one uuid and the same tags with other intervals, 1 each: 2 each", 10),
     ("either-longest", "either, the longest set and itself", 10),
+    ("report-add-1", "report_add, 1 interval", 1000),
+    ("report-add-1024", "report_add, 1,024 intervals of one uuid", 10),
+    ("report-add-longest", "report_add, the longest set", 10),
+    ("report-add-cut", "report_add, the longest set without its last byte (refused with 14)", 10),
+    ("report-add-65th", "report_add, the longest set as the 65th (refused with 11)", 1000),
+    ("report-sum-1", "report_sum, a report over 1 set", 1000),
+    ("report-sum-64", "report_sum, a report over 64 sets", 1000),
+    ("report-write-1", "report_write, a report over 1 set", 1000),
+    ("report-write-64", "report_write, a report over 64 sets", 100),
+    ("report-write-longest", "the same, every number with its most digits: the longest text", 100),
 ];
 
 type Turns = Box<dyn FnMut(u64)>;
 
 /// One thing that can be counted, checked.
 struct Made {
-    /// The bytes of its input; for an offer those of the set, for two sets those of both.
+    /// The bytes of its input; for an offer and for a report's set those of the set, for two sets those of both, for a report's text those of
+    /// the text.
     bytes: usize,
     ours: Turns,
     theirs: Option<Turns>,
@@ -556,11 +635,15 @@ fn made(what: &str) -> Option<Made> {
         "take-in-falling" => taking_in(&falling(), Err(17)),
         "take-in-uuids" => taking_in(&reversed(uuids(1638, false)), Err(16)),
         "take-in-tags" => taking_in(&reversed(tags(897, 1)), Err(16)),
+        "check-set-1" => checking(&one_uuid(1)),
+        "check-set-1024" => checking(&one_uuid(1024)),
         "check-set" => checking(&two_uuids()),
         "check-set-2560" => checking(&several(&[1024, 1024, 512].map(intervals))),
         "check-set-longest" => checking(&longest()),
+        "check-set-cut" => checking_none(cut(&longest())),
         "contains" => containing(&two_uuids()),
         "list-35" => listing(35, &body(&two_uuids()), &text(&two_uuids())),
+        "list-35-longest" => listing(35, &body(&longest()), &text(&longest())),
         "either-2560" => of_two(ours::either, &tens(11, 16), &tens(14, 19), &tens(11, 19)),
         "both-2560" => of_two(ours::both, &tens(11, 16), &tens(14, 19), &tens(14, 16)),
         "without-2560" => of_two(ours::without, &tens(11, 16), &tens(14, 19), &tens(11, 14)),
@@ -598,6 +681,19 @@ fn made(what: &str) -> Option<Made> {
         "both-longest" => of_two(ours::both, &longest(), &longest(), &longest()),
         "without-longest" => of_two(ours::without, &longest(), &longest(), &[]),
         "within-longest" => lying_within(&longest(), &longest(), 1),
+        "report-add-1" => adding(0, body(&one_uuid(1)), (0, [1, 1, 0, 5])),
+        "report-add-1024" => adding(0, body(&one_uuid(1024)), (0, [1, 1024, 0, 5 * 1024])),
+        "report-add-longest" => adding(0, body(&longest()), (0, [384, 2560, 0, 5 * 2560])),
+        "report-add-cut" => adding(0, cut(&longest()), (14, [0; 4])),
+        "report-add-65th" => adding(64, body(&longest()), (11, [0; 4])),
+        "report-sum-1" => summing(over(1), [1, 1, 0, 5]),
+        "report-sum-64" => summing(over(64), [64, 64, 0, 64 * 5]),
+        "report-write-1" => reporting(over(1), &report_text(1, [1, 1, 0, 5], [1, 1, 0, 5])),
+        "report-write-64" => reporting(
+            over(64),
+            &report_text(64, [1, 1, 0, 5], [64, 64, 0, 64 * 5]),
+        ),
+        "report-write-longest" => reporting(over_great(), &report_text(64, GREAT, GREAT_SUM)),
         "list-35-merged" => listing(35, &body(&touching()), &text(&merged())),
         "list-35-tags" => listing(35, &body(&reversed(tags(256, 2))), &text(&tags(256, 2))),
         "list-33" => listing(
@@ -953,6 +1049,19 @@ fn checking(entries: &[Entry]) -> Made {
     }
 }
 
+/// Checking what is no set.
+fn checking_none(set: Vec<u8>) -> Made {
+    assert_eq!(ours::check_set(&set), (14, 0, 0));
+
+    Made {
+        bytes: set.len(),
+        ours: turns(move || {
+            black_box(ours::check_set(black_box(&set)));
+        }),
+        theirs: None,
+    }
+}
+
 fn containing(entries: &[Entry]) -> Made {
     let set = body(entries);
     let last = entries.last().expect("an entry").clone();
@@ -1014,6 +1123,56 @@ fn choosing(first: &[Entry], second: &[Entry], expected: (u8, u8)) -> Made {
         bytes: first.len() + second.len(),
         ours: turns(move || {
             black_box(ours::head(black_box(&first), black_box(&second)));
+        }),
+        theirs: None,
+    }
+}
+
+/// Adds a set to a report over so many others. The eight bytes at its front tell how many there are: before each turn they are put back, so
+/// that the set is added at the same place again, and not to a full report.
+fn adding(others: usize, set: Vec<u8>, expected: (u8, [u64; 4])) -> Made {
+    let mut report = over(others);
+    let front: [u8; 8] = report[..8].try_into().expect("eight bytes");
+    assert_eq!(ours::report_add(&mut report, &set), expected);
+    let after = report.clone();
+    report[..8].copy_from_slice(&front);
+    assert_eq!(ours::report_add(&mut report, &set), expected);
+    assert_eq!(report, after);
+
+    Made {
+        bytes: set.len(),
+        ours: turns(move || {
+            let (report, set) = (black_box(&mut report), black_box(&set));
+            report[..8].copy_from_slice(&front);
+            black_box(ours::report_add(report, set));
+        }),
+        theirs: None,
+    }
+}
+
+fn summing(report: Vec<u8>, expected: [u64; 4]) -> Made {
+    assert_eq!(ours::report_sum(&report), (0, expected));
+
+    Made {
+        bytes: report.len(),
+        ours: turns(move || {
+            black_box(ours::report_sum(black_box(&report)));
+        }),
+        theirs: None,
+    }
+}
+
+fn reporting(report: Vec<u8>, expected: &str) -> Made {
+    let mut out = vec![0; 4096];
+    let answer = ours::report_write(&report, &mut out);
+    assert_eq!(answer.refusal, 0);
+    assert_eq!(String::from_utf8_lossy(&out[..answer.number]), expected);
+
+    Made {
+        bytes: answer.number,
+        ours: turns(move || {
+            let answer = ours::report_write(black_box(&report), black_box(&mut out));
+            black_box(answer);
         }),
         theirs: None,
     }
@@ -1190,6 +1349,45 @@ fn longest() -> Vec<Entry> {
     }
     assert_eq!(body(&entries).len(), LONGEST);
     entries
+}
+
+/// A set without its last byte.
+fn cut(entries: &[Entry]) -> Vec<u8> {
+    let mut set = body(entries);
+    set.pop();
+    set
+}
+
+/// A report over a set that is added so many times.
+fn report_over(count: usize, set: &[u8]) -> Vec<u8> {
+    let mut report = vec![0; 1352];
+    for _ in 0..count {
+        assert_eq!(ours::report_add(&mut report, set).0, 0);
+    }
+    report
+}
+
+/// A report over so many sets of one interval.
+fn over(count: usize) -> Vec<u8> {
+    report_over(count, &body(&one_uuid(1)))
+}
+
+/// A report over 64 sets with 384 entries each, of five intervals: every number has its most digits.
+fn over_great() -> Vec<u8> {
+    let five = vec![(1, 2), (11, 12), (21, 22), (31, 32), (41, (1 << 63) - 1)];
+    report_over(64, &body(&each_with(uuids(384, false), five)))
+}
+
+/// The numbers of each set, and of all. An entry has 2^63 - 38 ids: 384 of them have 192 * 2^64 - 14,592, and 64 * 384 of them
+/// 12,288 * 2^64 - 933,888.
+const GREAT: [u64; 4] = [384, 1920, 191, 14_592_u64.wrapping_neg()];
+const GREAT_SUM: [u64; 4] = [24_576, 122_880, 12_287, 933_888_u64.wrapping_neg()];
+
+fn report_text(sets: usize, each: [u64; 4], sum: [u64; 4]) -> String {
+    let line = |word: &str, [entries, intervals, high, low]: [u64; 4]| {
+        format!("{word} {entries} {intervals} {high} {low}\n")
+    };
+    line("set", each).repeat(sets) + &line("sum", sum)
 }
 
 fn reversed(mut entries: Vec<Entry>) -> Vec<Entry> {
@@ -1467,7 +1665,7 @@ impl Sent {
 
 #[rustfmt::skip]
 fn stack() {
-    let rows: [(&str, &[&str]); 17] = [
+    let rows: [(&str, &[&str]); 20] = [
         ("gtid_read_varlen_uint", &["varint-1", "varint-7", "varint-9"]),
         ("gtid_read", &["read-untagged", "read-short", "read-tagged", "read-tagged-32"]),
         ("gtid_read_present", &["read-present", "read-present-32"]),
@@ -1475,7 +1673,7 @@ fn stack() {
         ("gtid_read_previous", &["body-2048", "body-uuids", "body-tags"]),
         ("gtid_read_entry", &["entry-2048", "entry-tags"]),
         ("gtid_rewrite", &["rewrite-1", "rewrite-2048", "rewrite-uuids", "rewrite-tags"]),
-        ("gtid_check_set", &["check-set", "check-set-2560", "check-set-longest"]),
+        ("gtid_check_set", &["check-set-1", "check-set", "check-set-2560", "check-set-longest", "check-set-cut"]),
         ("gtid_contains", &["contains"]),
         ("gtid_offer", &["offer-1", "offer-1023", "offer-first", "offer-there", "offer-2559", "offer-383-tagged", "offer-longest"]),
         ("gtid_take_in", &["take-in-set", "take-in-longest", "take-in-worst", "take-in-covered", "take-in-merged", "take-in-uuids", "take-in-tags"]),
@@ -1484,7 +1682,10 @@ fn stack() {
         ("gtid_without", &["without-2560", "without-longest"]),
         ("gtid_within", &["within-2560", "within-no", "within-longest"]),
         ("gtid_head", &["head-first", "head-second", "head-last", "head-neither", "head-apart", "head-longest"]),
-        ("gtid_list", &["list-35", "list-35-merged", "list-35-tags", "list-33", "list-42"]),
+        ("gtid_report_add", &["report-add-1", "report-add-1024", "report-add-longest", "report-add-cut", "report-add-65th"]),
+        ("gtid_report_sum", &["report-sum-1", "report-sum-64"]),
+        ("gtid_report_write", &["report-write-1", "report-write-64", "report-write-longest"]),
+        ("gtid_list", &["list-35", "list-35-longest", "list-35-merged", "list-35-tags", "list-33", "list-42"]),
     ];
     println!("| call | bytes of stack | on the input |");
     println!("|---|---|---|");

@@ -15,19 +15,19 @@ use Rattle.gtid_event.specs.Fits.{Fits}
 use Rattle.set_check.specs.Places.{numberAt}
 use Rattle.set_check.proofs.PlaceLaws.{part-there, after-there, left-there, byte-there}
 use Rattle.abi.specs.Answers.{bit}
-use Rattle.abi.specs.Flat.{flat, flatIdentity, flatClock, flatRest, versionAt, typecodeIf, flatRead, writeOutput}
+use Rattle.abi.specs.Flat.{flat, flatIdentity, flatClock, flatRest, fourAt, typecodeIf, flatRead, writeOutput}
 use Rattle.abi.proofs.FlatLaws.{length-flat}
 
 -- ---- what stands at a place, and what follows it
 
 module _ (s : List ℕ) (at : ℕ) where
-  byte-next : (b : ℕ) (rest : List ℕ) → drop at s ≡ b ∷ rest → (getD s at 0 ≡ b) × (drop (at + 1) s ≡ rest)
+  pub byte-next : (b : ℕ) (rest : List ℕ) → drop at s ≡ b ∷ rest → (getD s at 0 ≡ b) × (drop (at + 1) s ≡ rest)
   byte-next b rest h = (byte-there s at b rest h, after-there s at 1 (b ∷ []) rest h refl)
 
   bytes-next : (n : ℕ) (item rest : List ℕ) → length item ≡ n → drop at s ≡ item ++ rest → (part s at n ≡ item) × (drop (at + n) s ≡ rest)
   bytes-next n item rest e h = (part-there s at n item rest h e, after-there s at n item rest h e)
 
-  number-next : (n v : ℕ) (rest : List ℕ) → 0 < n → v < 256 ^ n → drop at s ≡ leBytes n v ++ rest
+  pub number-next : (n v : ℕ) (rest : List ℕ) → 0 < n → v < 256 ^ n → drop at s ≡ leBytes n v ++ rest
       → (uintRead (leAt n s at) .value ≡ v) × (drop (at + n) s ≡ rest)
   number-next n v rest some small h =
       let (p, q) = bytes-next n (leBytes n v) rest (length-leBytes n v) h in
@@ -89,7 +89,7 @@ module _ (e : GtidEvent) where
       (leBytes 8 (e .«tx_length»)) (leBytes 4 (e .«immediate_server_version»)) (leBytes 4 (e .«original_server_version»)) (leBytes 8 (e .«commit_group_ticket»))
 
   pub flat-back : Fits e → flatRead (flat e) ≡ e
-  unfolding flatRead numberAt versionAt
+  unfolding flatRead numberAt fourAt
   flat-back f =
       let s = flat e in
       let (flags, at1) = byte-next s 0 (e .flags) afterFlags begins in

@@ -24,7 +24,7 @@ use Rattle.gtid_event_read.proofs.ReadLaws.{gtid-said, gtid-refused}
 use Rattle.gtid_event_write.specs.Write.{eventOutput}
 use Rattle.set_check.specs.Places.{numberAt}
 use Rattle.resume_set.proofs.AnswerLaws.{key-parts}
-use Rattle.abi.specs.Flat.{flat, flatIdentity, flatClock, flatRest, versionAt, typecodeIf, flatRead, readOutput, readUsed, readPresent, writeOutput}
+use Rattle.abi.specs.Flat.{flat, flatIdentity, flatClock, flatRest, fourAt, typecodeIf, flatRead, readOutput, readUsed, readPresent, writeOutput}
 use Rattle.abi.proofs.NumberLaws.{wrote-parts}
 
 pub length-flat : (e : GtidEvent) → length (e .sid) ≡ 16 → length (e .tag) ≡ 32 → length (flat e) ≡ 116
@@ -51,8 +51,8 @@ pub record-is : (s sid tag : List ℕ) (gno typecode last sequence immediate ori
     → immediate ≡ numberAt s 76
     → original ≡ numberAt s 84
     → len ≡ numberAt s 92
-    → version ≡ versionAt s 100
-    → originally ≡ versionAt s 104
+    → version ≡ fourAt s 100
+    → originally ≡ fourAt s 104
     → ticket ≡ numberAt s 108
     → _≡_ {A = GtidEvent}
     (record {

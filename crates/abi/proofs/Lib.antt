@@ -1,5 +1,8 @@
--- Laws that the functions of this crate cite, and that a record comes back from its bytes (`FlatBack`).
+-- Laws that the functions of this crate cite, that a record comes back from its bytes (`FlatBack`), and those of a report
+-- as bytes (`FlatReportLaws`, `FlatReportBack`).
 pub mod NumberLaws
 pub mod EntryLaws
 pub mod FlatLaws
 pub mod FlatBack
+pub mod FlatReportLaws
+pub mod FlatReportBack

@@ -43,8 +43,8 @@ flat e = flatIdentity e ++ flatClock e ++ flatRest e
 -- ---- the record in such bytes
 
 -- the number in the four bytes from a place on, 0 where they aren't all there
-unfoldable pub versionAt : List ℕ → ℕ → ℕ
-versionAt s at = uintRead (leAt 4 s at) .value
+unfoldable pub fourAt : List ℕ → ℕ → ℕ
+fourAt s at = uintRead (leAt 4 s at) .value
 
 -- a typecode counts only where there is said to be one
 abbrev pub typecodeIf : ℕ → ℕ → ℕ
@@ -65,8 +65,8 @@ flatRead s =
       «immediate_commit_timestamp» = numberAt s 76;
       «original_commit_timestamp» = numberAt s 84;
       «tx_length» = numberAt s 92;
-      «immediate_server_version» = versionAt s 100;
-      «original_server_version» = versionAt s 104;
+      «immediate_server_version» = fourAt s 100;
+      «original_server_version» = fourAt s 104;
       «commit_group_ticket» = numberAt s 108;
     }
 

@@ -11,7 +11,7 @@ use set_check::places::number_at;
 ghost use mathlib.Core.Path.{_≡_};
 ghost use lib.ListN.{length};
 ghost use Rattle.misc.specs.Output.{WhereFits};
-ghost use Rattle.abi.specs.Flat.{flatIdentity, flatClock, flatRest, flat, versionAt, typecodeIf, flatRead};
+ghost use Rattle.abi.specs.Flat.{flatIdentity, flatClock, flatRest, flat, fourAt, typecodeIf, flatRead};
 
 // How many bytes a record has.
 pub(crate) const SIZE: usize = 116;
@@ -61,8 +61,8 @@ pub(crate) fn put_record(event: GtidEvent, out: &mut [u8], at: usize) -> usize
 
 // ---- reading
 
-fn version_at(s: &[u8], at: usize) -> u32
-    ensures { λ r. ⌜ r ≡ versionAt (now (s .entry)) at ⌝ }
+pub(crate) fn four_at(s: &[u8], at: usize) -> u32
+    ensures { λ r. ⌜ r ≡ fourAt (now (s .entry)) at ⌝ }
 {
     read_u32_le(s, at).value as u32
 }
@@ -92,8 +92,8 @@ pub(crate) fn record_in(s: &[u8]) -> GtidEvent
         immediate_commit_timestamp: number_at(s, 76),
         original_commit_timestamp: number_at(s, 84),
         tx_length: number_at(s, 92),
-        immediate_server_version: version_at(s, 100),
-        original_server_version: version_at(s, 104),
+        immediate_server_version: four_at(s, 100),
+        original_server_version: four_at(s, 104),
         commit_group_ticket: number_at(s, 108),
     }
 }

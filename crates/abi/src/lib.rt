@@ -3,6 +3,10 @@
 use flat::SIZE;
 use flat::put_record;
 use flat::record_in;
+use flat_report::REPORT_SIZE;
+use flat_report::keep_line;
+use flat_report::report_in;
+use flat_report::room_for;
 use gtid_event_read::read;
 use gtid_event_write::write::write;
 use misc::refusal::NO_ROOM;
@@ -28,8 +32,10 @@ ghost use Rattle.two_sets.specs.Answers.{combineAnswers, combineLeaves, withinA
 ghost use Rattle.listing.specs.EventText.{listing};
 ghost use Rattle.abi.specs.Answers.{numbersOf, headNumbers, bit, entryIn};
 ghost use Rattle.abi.specs.Flat.{readOutput, readUsed, readPresent, writeOutput};
+ghost use Rattle.abi.specs.FlatReport.{flatAdds, flatLeaves, flatRefusal, flatSum, flatText};
 
 mod flat;
+mod flat_report;
 
 // Reads the variable-length unsigned integer at the front of some bytes: its value, and how many bytes it takes.
 #[no_mangle]
@@ -343,6 +349,86 @@ pub extern "C" fn gtid_write(fields: &[u8], out: &mut [u8], len: &mut usize) -> 
         return NOT_WRITABLE;
     }
     let wrote = write(record_in(fields), out);
+    *len = wrote.len;
+    wrote.refusal
+}
+
+// Adds a set to a report, which is 1,352 bytes: hands out how many entries and intervals it has, and the two words of how many ids.
+#[no_mangle]
+pub extern "C" fn gtid_report_add(
+    report: &mut [u8],
+    set: &[u8],
+    entries: &mut u64,
+    intervals: &mut u64,
+    high: &mut u64,
+    low: &mut u64,
+) -> u8
+    ensures { λ r. ⌜ r ≡ flatAdds (now (report .entry)) (now (set .entry)) .refusal ⌝ }
+    ensures { λ _. ⌜ now (entries .exit) ≡ flatAdds (now (report .entry)) (now (set .entry)) .entries ⌝ }
+    ensures { λ _. ⌜ now (intervals .exit) ≡ flatAdds (now (report .entry)) (now (set .entry)) .intervals ⌝ }
+    ensures { λ _. ⌜ now (high .exit) ≡ flatAdds (now (report .entry)) (now (set .entry)) .high ⌝ }
+    ensures { λ _. ⌜ now (low .exit) ≡ flatAdds (now (report .entry)) (now (set .entry)) .low ⌝ }
+    ensures { λ _. ⌜ now (report .exit) ≡ flatLeaves (now (report .entry)) (now (set .entry)) ⌝ }
+{
+    let full = room_for(report);
+    if full != 0 {
+        *entries = 0;
+        *intervals = 0;
+        *high = 0;
+        *low = 0;
+        return full;
+    }
+    let line = report::line_of(set);
+    keep_line(line, report);
+    *entries = line.entries as u64;
+    *intervals = line.intervals as u64;
+    *high = line.high as u64;
+    *low = line.low;
+    line.refusal
+}
+
+// The sums over the sets of a report.
+#[no_mangle]
+pub extern "C" fn gtid_report_sum(
+    report: &[u8],
+    entries: &mut u64,
+    intervals: &mut u64,
+    high: &mut u64,
+    low: &mut u64,
+) -> u8
+    ensures { λ r. ⌜ r ≡ flatRefusal (now (report .entry)) ⌝ }
+    ensures { λ _. ⌜ now (entries .exit) ≡ flatSum (now (report .entry)) .entries ⌝ }
+    ensures { λ _. ⌜ now (intervals .exit) ≡ flatSum (now (report .entry)) .intervals ⌝ }
+    ensures { λ _. ⌜ now (high .exit) ≡ flatSum (now (report .entry)) .high ⌝ }
+    ensures { λ _. ⌜ now (low .exit) ≡ flatSum (now (report .entry)) .low ⌝ }
+{
+    if report.len() != REPORT_SIZE {
+        *entries = 0;
+        *intervals = 0;
+        *high = 0;
+        *low = 0;
+        return NOT_WRITABLE;
+    }
+    let sum = report_in(report).sum();
+    *entries = sum.entries;
+    *intervals = sum.intervals;
+    *high = sum.high;
+    *low = sum.low;
+    0
+}
+
+// Writes the text of a report.
+#[no_mangle]
+pub extern "C" fn gtid_report_write(report: &[u8], out: &mut [u8], len: &mut usize) -> u8
+    ensures { λ r. ⌜ r ≡ answerOf (now (out .entry)) (flatText (now (report .entry))) .refusal ⌝ }
+    ensures { λ _. ⌜ now (len .exit) ≡ answerOf (now (out .entry)) (flatText (now (report .entry))) .len ⌝ }
+    ensures { λ _. ⌜ now (out .exit) ≡ outputOf (now (out .entry)) (flatText (now (report .entry))) ⌝ }
+{
+    if report.len() != REPORT_SIZE {
+        *len = 0;
+        return NOT_WRITABLE;
+    }
+    let wrote = report_in(report).write(out);
     *len = wrote.len;
     wrote.refusal
 }

@@ -13,3 +13,4 @@ pub mod SavedLaws
 pub mod SpliceLaws
 pub mod SweepLaws
 pub mod CombineLaws
+pub mod TotalLaws

@@ -4,8 +4,8 @@ use mathlib.Core.Path.{_≡_, refl, sym, ap, _∙_}
 use mathlib.Core.Bool.{true, false, _&&_, _||_, or-false, or-assoc, and-or-distrib-left}
 use mathlib.Core.List.{List, [], _∷_, _++_}
 use native.Mathlib.Omega.{arith}
-use lib.Dec.{eqb}
-use borrow.Author.Tests.{eqb-true}
+use lib.Dec.{eqb, leb, ltb}
+use borrow.Author.Tests.{eqb-true, leb-true, ltb-true, le-leb, lt-ltb}
 use Rattle.packets.specs.Gno.{gnoTop, isGno, Interval, interval}
 use Rattle.packets.specs.Key.{Key, order, same, _≺_}
 use Rattle.packets.proofs.Tests.{split, clash, and-true}
@@ -128,3 +128,21 @@ form-snoc k is (entry j js ∷ s) f b o g = (f .0, f .1, above-snoc j k is s (b 
 pub has-append : (s t : List Entry) (k : Key) (n : ℕ) → has (s ++ t) k n ≡ has s k n || has t k n
 has-append [] t k n = refl
 has-append (entry j is ∷ s) t k n = rw (has-append s t k n, or-assoc)
+
+-- ---- members' numbers
+
+covers-gno : (low : ℕ) (is : List Interval) (n : ℕ) → Gapped low is → covers is n ≡ true → isGno n ≡ true
+covers-gno low [] n g h = clash h refl
+covers-gno low (interval a b ∷ is) n (above, rises, below, rest) h = split (within a b n)
+    (λ inside.
+    let (from, to) = and-true (leb a n) (ltb n b) inside in
+    let least : 1 ≤ n = omega (arith, leb-true a n from) in
+    let most : n < gnoTop = omega (arith, ltb-true n b to) in
+    rw (le-leb 1 n least, lt-ltb n gnoTop most))
+    (λ outside. covers-gno b is n rest (rw outside at h))
+
+pub has-gno : (s : List Entry) (k : Key) (n : ℕ) → SetForm s → has s k n ≡ true → isGno n ≡ true
+has-gno [] k n f h = clash h refl
+has-gno (entry j is ∷ s) k n (some, gapped, above, rest) h = split (same k j && covers is n)
+    (λ here. covers-gno 0 is n gapped (and-true (same k j) (covers is n) here .1))
+    (λ there. has-gno s k n rest (rw there at h))

@@ -31,7 +31,10 @@ use Rattle.previous_gtids_event.proofs.RoundTrip.{header-says}
 use Rattle.set_check.proofs.HeaderLaws.{header-there}
 use Rattle.resume_set.specs.Find.{entriesOf}
 use Rattle.resume_set.proofs.EntryLaws.{NextEntry, entry-next}
-use Rattle.listing.specs.SetText.{newline, keyText, intervalsText, entryText, entriesText}
+use Rattle.text.specs.Keys.{tagText, keyText}
+use Rattle.text.specs.Lines.{newline}
+use Rattle.text.proofs.KeyTextLaws.{key-long, tag-most}
+use Rattle.listing.specs.SetText.{intervalsText, entryText, entriesText}
 use Rattle.listing.specs.Inside.{EntryOf, SetOf, entryIn, lentEntries}
 
 -- ---- one entry
@@ -40,14 +43,19 @@ module _ (set : List ℕ) (e : EntryRead) (is : EntryOf set e) where
   pub tag-there : e .«tag_len» ≡ length (take (e .«tag_len») (e .tag))
   tag-there = omega (arith, length-take (e .«tag_len») (e .tag), is .tag, is .short)
 
+  pub tag-within : length (tagText (take (e .«tag_len») (e .tag))) ≤ 33
+  tag-within = tag-most (take (e .«tag_len») (e .tag)) (omega (arith, tag-there, is .short))
+
   entry-text : entryText (entryIn set e)
       ≡ keyText (e .uuid) (take (e .«tag_len») (e .tag)) ++ intervalsText (intervalsAt (e .intervals) set (e .first)) ++ (newline ∷ [])
   unfolding entryText
   entry-text = rw (uuid-of (e .uuid) (take (e .«tag_len») (e .tag)) (is .uuid), tag-of (e .uuid) (take (e .«tag_len») (e .tag)) (is .uuid))
 
-  pub entry-length : (k n : ℕ) → k ≡ length (keyText (e .uuid) (take (e .«tag_len») (e .tag)))
+  pub entry-length : (k n : ℕ) → k ≡ 36 + length (tagText (take (e .«tag_len») (e .tag)))
       → n ≡ length (intervalsText (intervalsAt (e .intervals) set (e .first))) → k + n + 1 ≡ length (entryText (entryIn set e))
-  entry-length k n p q = rw entry-text (simp length-append (omega arith))
+  entry-length k n p q =
+      let key = key-long (e .uuid) (take (e .«tag_len») (e .tag)) (is .uuid) in
+      rw entry-text (simp length-append (omega arith))
 
   pub entry-put : {l l₁ l₂ l₃ : List ℕ} {at at₁ at₂ at₃ : ℕ} → WhereFits l at (keyText (e .uuid) (take (e .«tag_len») (e .tag))) l₁ at₁
       → WhereFits l₁ at₁ (intervalsText (intervalsAt (e .intervals) set (e .first))) l₂ at₂ → WhereFits l₂ at₂ (newline ∷ []) l₃ at₃
@@ -109,7 +117,7 @@ module _ (set : List ℕ) (tagged : Bool) (at left : ℕ) (a : Ahead set tagged 
   pub next-entry : EntryOf set e
   next-entry =
       let is = next .read .whole (judged .0) in
-      record { small = a .small; uuid = is .uuid; tag = is .tag; short = is .short; inside = is .inside; lawful = is .lawful }
+      record { small = a .small; uuid = is .uuid; tag = is .tag; short = is .short; inside = is .inside }
 
   -- it has 24 bytes at least, and 16 for each interval
   pub next-size : (at + (24 + 16 * e .intervals) ≤ e .next) × (e .next ≤ length set)
@@ -123,7 +131,8 @@ module _ (set : List ℕ) (tagged : Bool) (at left : ℕ) (a : Ahead set tagged 
   next-text =
       let n = next in
       let same : entry (n .key) (n .list) ≡ entryIn set e =
-      ap (λ (k : Key). entry k (n .list)) (sym (n .read .key)) ∙ ap (λ (is : List Interval). entry (e .uuid ++ take (e .«tag_len») (e .tag)) is) (sym (n .read .list)) in
+      ap (λ (k : Key). entry k (n .list)) (sym (n .read .key))
+      ∙ ap (λ (is : List Interval). entry (e .uuid ++ take (e .«tag_len») (e .tag)) is) (sym (n .read .list)) in
       ap entriesText (n .first) ∙ ap (λ (x : Entry). entryText x ++ entriesText (entriesFrom set tagged (e .next) (left - 1))) same
 
 -- ---- how long their lines are

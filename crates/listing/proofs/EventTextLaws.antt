@@ -20,9 +20,10 @@ use Rattle.gtid_sets.specs.Run.{names}
 use Rattle.set_check.proofs.PlaceLaws.{Bytes}
 use Rattle.resume_set.specs.Answers.{takenIn, says, eventOf}
 use Rattle.resume_set.proofs.AnswerLaws.{named-stopped, named-told, named-parts}
-use Rattle.listing.specs.Digits.{decimal}
-use Rattle.listing.specs.SetText.{newline, colon, keyText}
-use Rattle.listing.specs.EventText.{refusedWord, anonymousWord, gtidWord, refusedText, idText, recordText, gtidText, takenText, eventText, listing}
+use Rattle.text.specs.Digits.{decimal}
+use Rattle.text.specs.Keys.{colon, keyText}
+use Rattle.text.specs.Lines.{newline, refusedText}
+use Rattle.listing.specs.EventText.{anonymousWord, gtidWord, idText, recordText, gtidText, takenText, eventText, listing}
 
 -- ---- a text that is written whole
 
@@ -34,24 +35,13 @@ fits-whole {l} {l′} {bs} {r} n size room w =
     output-fits (omega arith) (record { holds = p .holds; ends = omega arith })
 
 -- the same by another name
-pub same-output : {l′ : List ℕ} {a b : Output} {w : Wrote} (l : List ℕ) → a ≡ b → (w ≡ answerOf l a) × (l′ ≡ outputOf l a) → (w ≡ answerOf l b) × (l′ ≡ outputOf l b)
+pub same-output : {l′ : List ℕ} {a b : Output} {w : Wrote} (l : List ℕ) → a ≡ b → (w ≡ answerOf l a) × (l′ ≡ outputOf l a)
+    → (w ≡ answerOf l b) × (l′ ≡ outputOf l b)
 same-output l e p = rw e at p
 
 pub same-text : {l′ a b : List ℕ} {w : Wrote} (l : List ℕ) → a ≡ b → (w ≡ answerOf l (bytes a)) × (l′ ≡ outputOf l (bytes a))
     → (w ≡ answerOf l (bytes b)) × (l′ ≡ outputOf l (bytes b))
 same-text l e p = same-output l (ap bytes e) p
-
--- ---- a refusal
-
-pub refused-long : (n : ℕ) → 9 + length (decimal n) ≡ length (refusedText n)
-unfolding refusedText
-refused-long n = simp length-append (omega arith)
-
-pub refused-put : {l l₁ l₂ l₃ : List ℕ} {at at₁ at₂ at₃ : ℕ} (n : ℕ)
-    → WhereFits l at refusedWord l₁ at₁ → WhereFits l₁ at₁ (decimal n) l₂ at₂ → WhereFits l₂ at₂ (newline ∷ []) l₃ at₃
-    → WhereFits l at (refusedText n) l₃ at₃
-unfolding refusedText
-refused-put n p q r = p also q also r
 
 -- ---- an id
 

@@ -14,29 +14,11 @@ use Rattle.gtid_event_read.specs.Read.{seen, named}
 use Rattle.gtid_sets.specs.Limits.{maxEntries, maxIntervals, maxOfEntry, judged, limits}
 use Rattle.gtid_sets.specs.Lent.{lentSet}
 use Rattle.resume_set.specs.Answers.{eventOf}
-use Rattle.listing.specs.Digits.{decimalIn, decimal, hexDigit, hex}
-use Rattle.listing.specs.SetText.{uuidText, keyText, intervalsText, entryText, entriesText, setText}
-use Rattle.listing.specs.EventText.{refusedText, idText, eventText, listing}
-
--- ---- numbers
-
-zero-digit : decimal 0 ≡ 48 ∷ []
-unfolding decimal decimalIn
-zero-digit = refl
-
-nine : decimal 9 ≡ 57 ∷ []
-unfolding decimal decimalIn
-nine = refl
-
-ten : decimal 10 ≡ 49 ∷ 48 ∷ []
-unfolding decimal decimalIn
-ten = refl
-
--- the greatest number of 64 bits
-greatest : decimal 18446744073709551615
-    ≡ 49 ∷ 56 ∷ 52 ∷ 52 ∷ 54 ∷ 55 ∷ 52 ∷ 52 ∷ 48 ∷ 55 ∷ 51 ∷ 55 ∷ 48 ∷ 57 ∷ 53 ∷ 53 ∷ 49 ∷ 54 ∷ 49 ∷ 53 ∷ []
-unfolding decimal decimalIn
-greatest = refl
+use Rattle.text.specs.Digits.{decimalIn, decimal, hexDigit, hex}
+use Rattle.text.specs.Keys.{uuidText, keyText}
+use Rattle.text.specs.Lines.{refusedText}
+use Rattle.listing.specs.SetText.{intervalsText, entryText, entriesText, setText}
+use Rattle.listing.specs.EventText.{idText, eventText, listing}
 
 -- ---- events
 
@@ -47,7 +29,8 @@ uuid = 0 ∷ 17 ∷ 34 ∷ 51 ∷ 68 ∷ 85 ∷ 102 ∷ 119 ∷ 136 ∷ 153 ∷ 
 -- `00112233-4455-6677-8899-aabbccddeeff`
 abbrev name : List ℕ
 name =
-    48 ∷ 48 ∷ 49 ∷ 49 ∷ 50 ∷ 50 ∷ 51 ∷ 51 ∷ 45 ∷ 52 ∷ 52 ∷ 53 ∷ 53 ∷ 45 ∷ 54 ∷ 54 ∷ 55 ∷ 55 ∷ 45 ∷ 56 ∷ 56 ∷ 57 ∷ 57 ∷ 45 ∷ 97 ∷ 97 ∷ 98 ∷ 98 ∷ 99 ∷ 99 ∷ 100 ∷ 100 ∷ 101 ∷ 101 ∷ 102 ∷ 102 ∷ []
+    (48 ∷ 48 ∷ 49 ∷ 49 ∷ 50 ∷ 50 ∷ 51 ∷ 51 ∷ 45 ∷ 52 ∷ 52 ∷ 53 ∷ 53 ∷ 45 ∷ 54 ∷ 54 ∷ 55 ∷ 55 ∷ 45 ∷ 56 ∷ 56 ∷ 57 ∷ 57 ∷ 45 ∷ [])
+    ++ (97 ∷ 97 ∷ 98 ∷ 98 ∷ 99 ∷ 99 ∷ 100 ∷ 100 ∷ 101 ∷ 101 ∷ 102 ∷ 102 ∷ [])
 
 -- a small number in eight bytes
 abbrev eight : ℕ → List ℕ
@@ -60,12 +43,15 @@ previousOf n is = (35 ∷ eight 1) ++ uuid ++ eight n ++ is
 -- `previous-gtids entries 1 intervals 2` and `00112233-4455-6677-8899-aabbccddeeff:1-5:9`
 lines : List ℕ
 lines =
-    (112 ∷ 114 ∷ 101 ∷ 118 ∷ 105 ∷ 111 ∷ 117 ∷ 115 ∷ 45 ∷ 103 ∷ 116 ∷ 105 ∷ 100 ∷ 115 ∷ 32 ∷ 101 ∷ 110 ∷ 116 ∷ 114 ∷ 105 ∷ 101 ∷ 115 ∷ 32 ∷ 49 ∷ 32 ∷ 105 ∷ 110 ∷ 116 ∷ 101 ∷ 114 ∷ 118 ∷ 97 ∷ 108 ∷ 115 ∷ 32 ∷ 50 ∷ 10 ∷ [])
+    (112 ∷ 114 ∷ 101 ∷ 118 ∷ 105 ∷ 111 ∷ 117 ∷ 115 ∷ 45 ∷ 103 ∷ 116 ∷ 105 ∷ 100 ∷ 115 ∷ 32 ∷ 101 ∷ 110 ∷ 116 ∷ 114 ∷ 105 ∷ 101 ∷ 115 ∷ 32 ∷ 49 ∷ 32 ∷ [])
+    ++ (105 ∷ 110 ∷ 116 ∷ 101 ∷ 114 ∷ 118 ∷ 97 ∷ 108 ∷ 115 ∷ 32 ∷ 50 ∷ 10 ∷ [])
     ++ name ++ (58 ∷ 49 ∷ 45 ∷ 53 ∷ 58 ∷ 57 ∷ 10 ∷ [])
 
 -- the ids 1 to 5 and 9
 listed : listing (previousOf 2 (eight 1 ++ eight 6 ++ eight 9 ++ eight 10)) ≡ lines
-unfolding lines eventText setText entriesText entryText intervalsText keyText uuidText hex hexDigit decimal decimalIn uuidOf tagOf bodyLimit leOf leBytes leAt many bytesAt gnoTop tagAt keyAt headAt intervalAt entryAt saysTagged saysCount previous intervalsBytes entryBytes entriesBytes anyTag headerBytes bodyBytes maxEntries maxIntervals maxOfEntry limits judged lentSet
+unfolding lines eventText setText entriesText entryText intervalsText keyText uuidText hex hexDigit decimal decimalIn uuidOf tagOf bodyLimit
+    leOf leBytes leAt many bytesAt gnoTop tagAt keyAt headAt intervalAt entryAt saysTagged saysCount previous intervalsBytes entryBytes
+    entriesBytes anyTag headerBytes bodyBytes maxEntries maxIntervals maxOfEntry limits judged lentSet
 listed = refl
 
 -- flags 0, the uuid, gno 6: 25 bytes

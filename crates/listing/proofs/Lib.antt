@@ -1,7 +1,4 @@
 -- Laws of the listing's text.
-pub mod PuttingLaws
-pub mod DigitLaws
-pub mod KeyTextLaws
 pub mod IntervalTextLaws
 pub mod EntryTextLaws
 pub mod SetTextLaws

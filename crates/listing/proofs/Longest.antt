@@ -28,11 +28,13 @@ use Rattle.gtid_sets.proofs.LentLaws.{lent-is}
 use Rattle.set_check.proofs.PlaceLaws.{Bytes}
 use Rattle.resume_set.specs.Answers.{takenIn, says, eventOf}
 use Rattle.resume_set.proofs.AnswerLaws.{KeyParts, key-parts}
-use Rattle.listing.specs.SetText.{lastText, intervalsText, entryText, entriesText, setText}
-use Rattle.listing.specs.EventText.{previousWord, refusedText, gtidText, takenText, eventText, listing, longestText}
-use Rattle.listing.proofs.DigitLaws.{decimal-most, decimal-short}
-use Rattle.listing.proofs.KeyTextLaws.{key-most}
-use Rattle.listing.proofs.EventTextLaws.{refused-long, id-long, id-named}
+use Rattle.text.specs.Intervals.{lastText}
+use Rattle.text.proofs.DigitLaws.{decimal-most, decimal-short}
+use Rattle.text.proofs.KeyTextLaws.{key-most}
+use Rattle.text.proofs.LineLaws.{refused-most}
+use Rattle.listing.specs.SetText.{intervalsText, entryText, entriesText, setText}
+use Rattle.listing.specs.EventText.{previousWord, gtidText, takenText, eventText, listing, longestText}
+use Rattle.listing.proofs.EventTextLaws.{id-long, id-named}
 use Rattle.listing.proofs.TakenTextLaws.{taken-cases, taken-text}
 
 pub longestText-is : longestText ≡ 129322
@@ -67,7 +69,8 @@ entries-most (entry k is ∷ s) g f =
     let rest = entries-most s (g .1) (f .3) in
     simp length-append (omega arith)
 
-pub set-text-long : (word : List ℕ) (s : List Entry) → GoodKeys s → SetForm s → limits s ≡ fine → length (setText word s) ≤ length word + 28 + maxEntries * 70 + maxIntervals * 40
+pub set-text-long : (word : List ℕ) (s : List Entry) → GoodKeys s → SetForm s → limits s ≡ fine
+    → length (setText word s) ≤ length word + 28 + maxEntries * 70 + maxIntervals * 40
 unfolding setText
 set-text-long word s g f h =
     let (few, less) = limits-says s h in
@@ -79,9 +82,6 @@ set-text-long word s g f h =
     simp length-append (omega arith)
 
 -- ---- events
-
-refused-most : (n : ℕ) → length (refusedText n) ≤ 29
-refused-most n = omega (arith, refused-long n, decimal-most n)
 
 id-most : (e : GtidEvent) → KeyParts e → length (gtidText (names (e .sid ++ take (e .«tag_len») (e .tag)) (e .gno))) ≤ 96
 id-most e (u, n, t) =
@@ -103,7 +103,8 @@ taken-text-long body =
     taken-cases body (λ r e. rw e (omega (arith, refused-most (number r), longestText-is)))
     (λ s e lent.
     let is = lent-is (bodyBytes s) s lent in
-    rw (taken-text body s e lent) (omega (arith, set-text-long previousWord s (is .keyed) (is .formed) (is .limited), maxEntries-is, maxIntervals-is, longestText-is)))
+    let most = set-text-long previousWord s (is .keyed) (is .formed) (is .limited) in
+    rw (taken-text body s e lent) (omega (arith, maxEntries-is, maxIntervals-is, longestText-is)))
 
 event-text-long : (type : ℕ) (body : List ℕ) → Bytes body → length (eventText type body) ≤ longestText
 unfolding eventText

@@ -13,7 +13,7 @@ use Rattle.set_check.specs.Check.{checkedOf}
 use Rattle.set_check.specs.declared.Checked.{Checked}
 use Rattle.resume_set.specs.Find.{setOf}
 use Rattle.resume_set.proofs.AnswerLaws.{check-told, check-unfit}
-use Rattle.listing.specs.Digits.{decimal}
+use Rattle.text.specs.Digits.{decimal}
 use Rattle.listing.specs.SetText.{entriesText, setText, listedSet}
 use Rattle.listing.specs.Inside.{SetOf, lentEntries, headText}
 
@@ -51,7 +51,8 @@ module _ (word set out : List ℕ) (c : Checked) (told : c ≡ checkedOf (lentSe
           × (out ≡ outputOf out (listedSet word (lentSet set)))
       list-short h = rw listed (output-short out _ _ size h)
 
-      pub list-fits : length word + 21 + n + m + k ≤ length out → {l₁ l₂ : List ℕ} {at₁ at₂ : ℕ} → WhereFits out 0 (headText word (c .entries) (c .intervals)) l₁ at₁
+      pub list-fits : length word + 21 + n + m + k ≤ length out → {l₁ l₂ : List ℕ} {at₁ at₂ : ℕ}
+          → WhereFits out 0 (headText word (c .entries) (c .intervals)) l₁ at₁
           → WhereFits l₁ at₁ (entriesText (lentEntries (lentSet set))) l₂ at₂
           → (record { refusal = 0; len = length word + 21 + n + m + k } ≡ answerOf out (listedSet word (lentSet set)))
           × (l₂ ≡ outputOf out (listedSet word (lentSet set)))

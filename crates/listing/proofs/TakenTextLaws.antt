@@ -23,8 +23,9 @@ use Rattle.gtid_sets.proofs.FormLaws.{lawful-holds}
 use Rattle.gtid_sets.proofs.LimitLaws.{limits-cases}
 use Rattle.gtid_sets.proofs.LentLaws.{lent-takeIn, lent-short}
 use Rattle.resume_set.specs.Answers.{takenIn}
+use Rattle.text.specs.Lines.{refusedText}
 use Rattle.listing.specs.SetText.{setText, listedSet}
-use Rattle.listing.specs.EventText.{previousWord, refusedText, lentText, takenText}
+use Rattle.listing.specs.EventText.{previousWord, lentText, takenText}
 
 -- a body is refused, or becomes a set that is lent back
 pub taken-cases : {P : Type 0} (body : List ℕ) → ((r : Refusal) → takenIn (previous body) ≡ refused r → P)
@@ -55,9 +56,11 @@ pub record TakenSet (body set : List ℕ) (len : ℕ) : Type 0 where
   pub inside : len ≤ length set
   pub front : take len set ≡ bodyBytes entries
 
-pub taken-listed : (body set : List ℕ) (len : ℕ) → TakenSet body set len → listedSet previousWord (lentSet (take len set)) ≡ bytes (takenText (takenIn (previous body)))
+pub taken-listed : (body set : List ℕ) (len : ℕ) → TakenSet body set len
+    → listedSet previousWord (lentSet (take len set)) ≡ bytes (takenText (takenIn (previous body)))
 taken-listed body set len t =
-    ap (λ x. listedSet previousWord (lentSet x)) (t .front) ∙ ap (listedSet previousWord) (t .lent) ∙ sym (ap bytes (taken-text body (t .entries) (t .is) (t .lent)))
+    ap (λ x. listedSet previousWord (lentSet x)) (t .front) ∙ ap (listedSet previousWord) (t .lent)
+    ∙ sym (ap bytes (taken-text body (t .entries) (t .is) (t .lent)))
 
 answer-fits : (l bs : List ℕ) → length bs ≤ length l → answerOf l (bytes bs) ≡ record { refusal = 0; len = length bs }
 unfolding answerOf
@@ -89,7 +92,8 @@ module _ (body buffer set : List ℕ) (taken : Wrote) (long : length buffer ≡ 
       taken-cases body (λ r e. absurd (no-zero r (sym (number-told r e) ∙ z)))
       (λ s e lent.
       let size : taken .len ≡ length (bodyBytes s) = ap (λ (y : Wrote). y .len) (wrote-told s e lent) in
-      let whole : set ≡ bodyBytes s ++ drop (length (bodyBytes s)) buffer = left ∙ ap (outputOf buffer) e ∙ output-there buffer (bodyBytes s) (has-room s lent) in
+      let whole : set ≡ bodyBytes s ++ drop (length (bodyBytes s)) buffer =
+      left ∙ ap (outputOf buffer) e ∙ output-there buffer (bodyBytes s) (has-room s lent) in
       record {
         entries = s;
         is = e;

@@ -21,7 +21,8 @@ use Rattle.gtid_event_read.specs.Read.{named}
 use Rattle.gtid_event_read.proofs.ReadLaws.{seen-too-long}
 use Rattle.gtid_sets.specs.Run.{broken}
 use Rattle.resume_set.specs.Answers.{eventOf}
-use Rattle.listing.specs.EventText.{refusedText, eventText, listing, enoughInput, longestText}
+use Rattle.text.specs.Lines.{refusedText}
+use Rattle.listing.specs.EventText.{eventText, listing, enoughInput, longestText}
 use Rattle.listing.proofs.Longest.{longest-text}
 
 pub enoughInput-is : enoughInput ≡ 65538
@@ -60,7 +61,8 @@ front-lists (suc n) (type ∷ body) room =
 
 -- ---- the room for a text
 
-pub text-whole : (l l′ input : List ℕ) (w : Wrote) → Bytes input → longestText ≤ length l → w ≡ answerOf l (bytes (listing input)) → l′ ≡ outputOf l (bytes (listing input))
+pub text-whole : (l l′ input : List ℕ) (w : Wrote) → Bytes input → longestText ≤ length l
+    → w ≡ answerOf l (bytes (listing input)) → l′ ≡ outputOf l (bytes (listing input))
     → (w .len ≤ length l′) × (take (w .len) l′ ≡ listing input)
 unfolding answerOf outputOf
 text-whole l l′ input w ok room answer output =

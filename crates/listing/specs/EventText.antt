@@ -14,12 +14,10 @@ use Rattle.gtid_sets.specs.Limits.{maxEntries, maxIntervals}
 use Rattle.gtid_sets.specs.Run.{Event, anonymous, broken, names}
 use Rattle.gtid_sets.specs.Lent.{Lent, form, unfit, lentSet}
 use Rattle.resume_set.specs.Answers.{takenIn, eventOf}
-use Rattle.listing.specs.Digits.{decimal}
-use Rattle.listing.specs.SetText.{newline, colon, keyText, setText}
-
--- `refused `
-abbrev pub refusedWord : List ℕ
-refusedWord = 114 ∷ 101 ∷ 102 ∷ 117 ∷ 115 ∷ 101 ∷ 100 ∷ 32 ∷ []
+use Rattle.text.specs.Digits.{decimal}
+use Rattle.text.specs.Keys.{colon, keyText}
+use Rattle.text.specs.Lines.{newline, refusedText}
+use Rattle.listing.specs.SetText.{setText}
 
 -- `anonymous`
 abbrev pub anonymousWord : List ℕ
@@ -32,10 +30,6 @@ gtidWord = 103 ∷ 116 ∷ 105 ∷ 100 ∷ 32 ∷ []
 -- `previous-gtids`
 abbrev pub previousWord : List ℕ
 previousWord = 112 ∷ 114 ∷ 101 ∷ 118 ∷ 105 ∷ 111 ∷ 117 ∷ 115 ∷ 45 ∷ 103 ∷ 116 ∷ 105 ∷ 100 ∷ 115 ∷ []
-
--- a refusal and its number
-unfoldable pub refusedText : ℕ → List ℕ
-refusedText n = refusedWord ++ decimal n ++ (newline ∷ [])
 
 -- ---- types 33, 34 and 42: what an offer sees of them
 

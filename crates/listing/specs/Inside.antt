@@ -1,26 +1,25 @@
 -- What functions inside promise of parts of a set.
 use Prim.Native.Nat.{ℕ, _+_, _*_, _≤_}
 use mathlib.Core.Path.{_≡_}
-use mathlib.Core.Bool.{Bool, true}
+use mathlib.Core.Bool.{Bool}
 use mathlib.Core.List.{List, [], _∷_, _++_}
 use lib.ListN.{length, take}
 use Rattle.previous_gtids_event.specs.Entry.{Entry, entry}
 use Rattle.previous_gtids_event.specs.Rewrite.{anyTag}
 use Rattle.previous_gtids_event.specs.declared.EntryRead.{EntryRead}
-use Rattle.gtid_sets.specs.TakeIn.{proper}
 use Rattle.gtid_sets.specs.Lent.{Lent, form, unfit, lentSet}
 use Rattle.set_check.specs.Places.{intervalsAt}
-use Rattle.listing.specs.Digits.{decimal}
-use Rattle.listing.specs.SetText.{newline, entriesWord, intervalsWord}
+use Rattle.text.specs.Digits.{decimal}
+use Rattle.text.specs.Lines.{newline}
+use Rattle.listing.specs.SetText.{entriesWord, intervalsWord}
 
--- an entry of a set as it was read, with its intervals there and within the gno rule
+-- an entry of a set as it was read, with its intervals there
 pub record EntryOf (set : List ℕ) (e : EntryRead) : Type 0 where
   pub small : length set ≤ 65536
   pub uuid : length (e .uuid) ≡ 16
   pub tag : length (e .tag) ≡ 32
   pub short : e .«tag_len» ≤ 32
   pub inside : e .first + 16 * e .intervals ≤ length set
-  pub lawful : proper (intervalsAt (e .intervals) set (e .first)) ≡ true
 
 -- the entry that it is
 abbrev pub entryIn : List ℕ → EntryRead → Entry

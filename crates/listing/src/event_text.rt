@@ -1,8 +1,4 @@
 // The text of an event.
-use crate::digits::decimal_len;
-use crate::digits::put_decimal;
-use crate::keys::key_len;
-use crate::keys::put_key;
 use crate::set_text::list_set;
 use gtid_event::ANONYMOUS_GTID_EVENT;
 use gtid_event::GtidEvent;
@@ -14,13 +10,20 @@ use misc::refusal::ENDED;
 use misc::refusal::NO_ROOM;
 use resume_set::take_in::take_in;
 use set_check::LONGEST_SET;
+use text::digits::decimal_len;
+use text::digits::put_decimal;
+use text::keys::key_len;
+use text::keys::put_key;
+use text::lines::put_refused;
+use text::lines::refused_len;
 ghost use mathlib.Core.Path.{_≡_};
 ghost use Prim.Native.Nat.{_≤_};
 ghost use lib.ListN.{length};
 ghost use Rattle.misc.specs.Output.{bytes, outputOf, answerOf};
 ghost use Rattle.previous_gtids_event.specs.Previous.{previous};
 ghost use Rattle.resume_set.specs.Answers.{takenIn, eventOf};
-ghost use Rattle.listing.specs.EventText.{refusedText, recordText, gtidText, takenText, eventText, listing};
+ghost use Rattle.text.specs.Lines.{refusedText};
+ghost use Rattle.listing.specs.EventText.{recordText, gtidText, takenText, eventText, listing};
 
 // The type of a Previous-GTIDs event.
 pub const PREVIOUS_GTIDS_EVENT: u8 = 35;
@@ -30,16 +33,14 @@ fn write_refused(refusal: u8, out: &mut [u8]) -> Wrote
     ensures { λ r. ⌜ r ≡ answerOf (now (out .entry)) (bytes (refusedText refusal)) ⌝ }
     ensures { λ _. ⌜ now (out .exit) ≡ outputOf (now (out .entry)) (bytes (refusedText refusal)) ⌝ }
 {
-    let len = 9 + decimal_len(refusal as u64);
+    let len = refused_len(refusal);
     if out.len() < len {
         return Wrote {
             refusal: NO_ROOM,
             len,
         };
     }
-    let at1 = put_bytes(b"refused ", out, 0);
-    let at2 = put_decimal(refusal as u64, out, at1);
-    put_bytes(b"\n", out, at2);
+    put_refused(refusal, out, 0);
     Wrote { refusal: 0, len }
 }
 
@@ -53,7 +54,7 @@ fn write_id(event: GtidEvent, out: &mut [u8]) -> Wrote
     let tag = event.tag;
     let tag_len = event.tag_len as usize;
     let gno = event.gno;
-    let len = 7 + key_len(&uuid, &tag[..tag_len]) + decimal_len(gno);
+    let len = 7 + key_len(&tag[..tag_len]) + decimal_len(gno);
     if out.len() < len {
         return Wrote {
             refusal: NO_ROOM,
@@ -61,7 +62,7 @@ fn write_id(event: GtidEvent, out: &mut [u8]) -> Wrote
         };
     }
     let at1 = put_bytes(b"gtid ", out, 0);
-    let at2 = put_key(&uuid, &tag[..tag_len], out, at1);
+    let at2 = put_key(uuid, &tag[..tag_len], out, at1);
     let at3 = put_bytes(b":", out, at2);
     let at4 = put_decimal(gno, out, at3);
     put_bytes(b"\n", out, at4);

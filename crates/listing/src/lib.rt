@@ -4,10 +4,8 @@
 use set_check::MAX_ENTRIES;
 use set_check::MAX_INTERVALS;
 
-mod digits;
 pub mod event_text;
 mod intervals;
-mod keys;
 pub mod set_text;
 
 // The bytes of the longest text, as in specs/EventText.antt.

@@ -1,16 +1,16 @@
 // The text of a set: a line of its counts, and then its entries, one a line.
-use crate::digits::decimal_len;
-use crate::digits::put_decimal;
 use crate::intervals::intervals_len;
 use crate::intervals::put_intervals;
-use crate::keys::key_len;
-use crate::keys::put_key;
 use misc::Wrote;
 use misc::put::put_bytes;
 use misc::refusal::NO_ROOM;
 use previous_gtids_event::EntryRead;
 use previous_gtids_event::read::entry_at;
 use set_check::check::check;
+use text::digits::decimal_len;
+use text::digits::put_decimal;
+use text::keys::key_len;
+use text::keys::put_key;
 ghost use mathlib.Core.Path.{_≡_};
 ghost use Prim.Native.Nat.{_+_, _*_, _≤_};
 ghost use lib.ListN.{length};
@@ -24,10 +24,9 @@ fn entry_len(set: &[u8], entry: EntryRead) -> usize
     requires { ⌜ EntryOf (now set) entry ⌝ }
     ensures { λ r. ⌜ (r ≡ length (entryText (entryIn (now (set .entry)) entry))) × (r ≤ 70 + 42 * (entry .intervals)) ⌝ }
 {
-    let uuid = entry.uuid;
     let tag = entry.tag;
     let tag_len = entry.tag_len;
-    key_len(&uuid, &tag[..tag_len]) + intervals_len(set, entry.first, entry.intervals as usize) + 1
+    key_len(&tag[..tag_len]) + intervals_len(set, entry.first, entry.intervals as usize) + 1
 }
 
 // Puts the line of an entry.
@@ -38,7 +37,7 @@ fn put_entry(set: &[u8], entry: EntryRead, out: &mut [u8], at: usize) -> usize
     let uuid = entry.uuid;
     let tag = entry.tag;
     let tag_len = entry.tag_len;
-    let at1 = put_key(&uuid, &tag[..tag_len], out, at);
+    let at1 = put_key(uuid, &tag[..tag_len], out, at);
     let at2 = put_intervals(set, entry.first, entry.intervals as usize, out, at1);
     put_bytes(b"\n", out, at2)
 }

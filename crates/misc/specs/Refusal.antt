@@ -54,11 +54,11 @@ smallPayload = numbered 9
 abbrev pub badLead : Refusal
 badLead = numbered 10
 
--- a body over 65,536 bytes
+-- a body over 65,536 bytes, or a set behind the sixty-fourth of a report
 abbrev pub tooLong : Refusal
 tooLong = numbered 11
 
--- a record that can't be written
+-- a record that can't be written, or bytes that are no report
 abbrev pub notWritable : Refusal
 notWritable = numbered 12
 

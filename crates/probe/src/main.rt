@@ -39,6 +39,9 @@ fn answer_by_call<'a>(
     if (52 <= call) & (call < 57) {
         return probe_two_sets::answer(call, head.number, a, b, out, line);
     }
+    if call == 57 {
+        return probe_report::answer(call, a, b, out, line);
+    }
     if (call < 64) | (call == 66) {
         return probe_sets::answer(call, head.event_type, head.number, a, b, c, out, line);
     }

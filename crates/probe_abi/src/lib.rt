@@ -3,6 +3,7 @@
 mod bodies;
 mod dump;
 mod records;
+mod reports;
 mod sets;
 mod two;
 
@@ -51,6 +52,7 @@ fn asked(
         49 => sets::offer(a, event_type, b, out, twin),
         50 => sets::check_set(a),
         52 | 53 | 54 | 55 | 56 => two::another(call, number, a, b, out, twin),
+        57 => reports::report(a, b, out, twin),
         64 => bodies::list(a, out, twin),
         66 => sets::contains(a, b, c, number),
         _ => false,

@@ -24,16 +24,18 @@ use Rattle.gtid_event_laws.proofs.EventBack.{event-alone}
 use Rattle.gtid_sets.specs.TakeIn.{Proper, Lawful, lawful}
 use Rattle.gtid_sets.specs.Lent.{Lent, form, unfit, lentSet}
 use Rattle.gtid_sets.proofs.FormLaws.{lawful-holds}
+use Rattle.gtid_sets.proofs.SetLaws.{has-gno}
 use Rattle.gtid_sets.proofs.TakeInLaws.{form-lawful}
 use Rattle.gtid_sets.proofs.LentLaws.{lent-is, is-lent, read-back}
 use Rattle.resume_set.specs.Answers.{takeInAnswers}
-use Rattle.listing.specs.EventText.{refusedText, gtidText, eventText}
+use Rattle.text.specs.Lines.{refusedText}
+use Rattle.listing.specs.EventText.{gtidText, eventText}
 use Rattle.listing.proofs.EventTextLaws.{id-named, event-gtid}
 use Rattle.resume_set_laws.specs.History.{Turn, Offering, kept, keptAll, lentHas, member}
 use Rattle.resume_set_laws.specs.Ours.{ours}
 use Rattle.promises.specs.SetFaults.{SetFault, BodyIs, TakeInFault, Names}
 use Rattle.promises.specs.Highest.{EndsAt, HasEnd, CarriedOnly, Highest}
-use Rattle.promises.proofs.SetsExact.{body-read, has-gno}
+use Rattle.promises.proofs.SetsExact.{body-read}
 use Rattle.promises.proofs.Naming.{event-named, written-named}
 use Rattle.promises.proofs.AnswersTold.{listing-told}
 use Rattle.promises.proofs.OrdersHold.{no-gno, zeros}

@@ -1,8 +1,8 @@
 -- The demands hold of what our functions promise. Demand 1: `integers-exact`, `events-exact`, `bodies-exact`, `reader-exact`, `sets-exact`,
--- `listing-exact`, `archive-exact`, `offers-exactly`, `asks-exactly`, `two-sets`, `heads`, `sets-told`; `integers-told`, `events-told`, `bodies-told`,
+-- `listing-exact`, `archive-exact`, `offers-exactly`, `asks-exactly`, `two-sets`, `heads`, `reports`, `sets-told`; `integers-told`, `events-told`, `bodies-told`,
 -- `listing-told`; `presence`, `orders`, `zeros`, `outputs`, `rules` and `highest`. Demand 2: `records-mean`, `records-back`, `records-again`, `least-size`,
--- `entries-back`, `entries-mean`, `building`. Demand 3: `tells-history`, `replays`, `refusals-keep`. No two cases hold at once, and what is laid out
--- has no fault (`OneOutcome`). Wrong programs don't meet the demands (`ShutOut`, `Crowding`, `TwoShut`, `HeadsShut`, `Absent`).
+-- `entries-back`, `entries-mean`, `building`. Demand 3: `tells-history`, `counts-taken`, `replays`, `refusals-keep`. No two cases hold at once, and what is laid out
+-- has no fault (`OneOutcome`). Wrong programs don't meet the demands (`ShutOut`, `Crowding`, `TwoShut`, `HeadsShut`, `ReportsShut`, `Absent`).
 pub mod EdgesAgree
 -- the language: what is refused has its case, and a case forces its number
 pub mod Gives
@@ -39,6 +39,7 @@ pub mod SetsExact
 pub mod SetsTold
 pub mod TwoSetsHold
 pub mod HeadsHold
+pub mod ReportsHold
 pub mod BodiesExact
 pub mod ReaderExact
 pub mod ArchiveExact
@@ -53,4 +54,5 @@ pub mod ShutOut
 pub mod Crowding
 pub mod TwoShut
 pub mod HeadsShut
+pub mod ReportsShut
 pub mod Absent

@@ -1,33 +1,33 @@
 -- The statements of `specs/Exact.antt` for the calls over sets.
-use Prim.Native.Nat.{ℕ, _≤_, _<_}
+use Prim.Native.Nat.{ℕ, _≤_}
 use mathlib.Core.Path.{_≡_, refl, sym, ap, _∙_}
 use mathlib.Core.Bool.{true, false, _&&_, and-false}
-use mathlib.Core.List.{List, [], _∷_, _++_}
+use mathlib.Core.List.{List, _++_}
 use native.Mathlib.Omega.{arith}
-use lib.Dec.{eqb, leb, ltb}
+use lib.Dec.{eqb, leb}
 use lib.ListN.{length, drop}
-use borrow.Author.Tests.{ltb-true, leb-true, leb-false, le-leb, lt-leb, lt-ltb, eqb-true, eqb-false, ne-eqb}
+use borrow.Author.Tests.{leb-true, leb-false, le-leb, lt-leb, eqb-true, eqb-false, ne-eqb}
 use Rattle.misc.specs.Refusal.{Refusal, number, tooLong, notASet, badGno, full, crowded}
 use Rattle.misc.specs.Parse.{Bytes, Parse, refuse, parsed}
 use Rattle.misc.specs.Body.{bodyLimit}
 use Rattle.misc.specs.Output.{refused, bytes, outputOf}
 use Rattle.misc.proofs.ParseLaws.{pick-either, pick-parsed}
-use Rattle.packets.specs.Gno.{gnoTop, isGno, Interval, interval}
-use Rattle.packets.specs.Key.{Key, same}
-use Rattle.packets.proofs.Tests.{split, clash, and-true}
-use Rattle.previous_gtids_event.specs.Entry.{Entry, entry}
+use Rattle.packets.specs.Gno.{isGno}
+use Rattle.packets.specs.Key.{same}
+use Rattle.packets.proofs.Tests.{split, clash}
+use Rattle.previous_gtids_event.specs.Entry.{Entry}
 use Rattle.previous_gtids_event.specs.Previous.{noneOrTag, previous}
 use Rattle.previous_gtids_event.specs.Rewrite.{bodyBytes}
 use Rattle.gtid_event.specs.declared.GtidEvent.{GtidEvent}
 use Rattle.gtid_event_read.specs.Seen.{Seen}
 use Rattle.gtid_event_read.specs.Read.{recordIn, named}
-use Rattle.gtid_sets.specs.Interval.{within, covers, Gapped}
 use Rattle.gtid_sets.specs.Set.{has, add, SetForm}
 use Rattle.gtid_sets.specs.TakeIn.{lawful, takeIn}
 use Rattle.gtid_sets.specs.Limits.{Judged, fine, breaks, limits}
 use Rattle.gtid_sets.specs.Run.{broken, names, after}
 use Rattle.gtid_sets.specs.Lent.{Lent, form, unfit, lentSet, SetLaid}
 use Rattle.gtid_sets.proofs.LentLaws.{lent-is, is-lent, lent-none}
+use Rattle.gtid_sets.proofs.SetLaws.{has-gno}
 use Rattle.gtid_sets.proofs.RunLaws.{answer-cases}
 use Rattle.set_check.specs.Check.{checkedOf}
 use Rattle.resume_set.specs.Answers.{setRead, contained, savedIf, takenIn, says, eventOf, fitting, offeredOf, outputFor, offered, output}
@@ -59,7 +59,7 @@ unfit-fault set lent = SetFault.noSet (λ s laid. apart (let clash : unfit ≡ f
 pub fault-unfit : (set : List ℕ) (n : ℕ) → SetFault set n → (n ≡ 14) × (lentSet set ≡ unfit)
 fault-unfit set n (SetFault.noSet none) = (refl, lent-none set none)
 
-set-exact : (say : Lent → ℕ) (set : List ℕ) → say unfit ≡ 14 → ((s : List Entry) → say (form s) ≡ 0) → RefusesExactly (say (lentSet set)) (SetFault set)
+pub set-exact : (say : Lent → ℕ) (set : List ℕ) → say unfit ≡ 14 → ((s : List Entry) → say (form s) ≡ 0) → RefusesExactly (say (lentSet set)) (SetFault set)
 set-exact say set bad good n = (go (lentSet set) refl, forced)
   where
     go : (l : Lent) → lentSet set ≡ l → (say l ≡ n) × (n ≡ 0 → ⊥) → SetFault set n
@@ -235,23 +235,6 @@ offers-exactly set t a l are = (
 )
 
 -- ---- `contains`
-
--- a set's members obey the gno rule
-covers-gno : (low : ℕ) (is : List Interval) (n : ℕ) → Gapped low is → covers is n ≡ true → isGno n ≡ true
-covers-gno low [] n g h = clash h refl
-covers-gno low (interval a b ∷ is) n (above, rises, below, rest) h = split (within a b n)
-    (λ inside.
-    let (from, to) = and-true (leb a n) (ltb n b) inside in
-    let least : 1 ≤ n = omega (arith, leb-true a n from) in
-    let most : n < gnoTop = omega (arith, ltb-true n b to) in
-    rw (le-leb 1 n least, lt-ltb n gnoTop most))
-    (λ outside. covers-gno b is n rest (rw outside at h))
-
-pub has-gno : (s : List Entry) (k : Key) (n : ℕ) → SetForm s → has s k n ≡ true → isGno n ≡ true
-has-gno [] k n f h = clash h refl
-has-gno (entry j is ∷ s) k n (some, gapped, above, rest) h = split (same k j && covers is n)
-    (λ here. covers-gno 0 is n gapped (and-true (same k j) (covers is n) here .1))
-    (λ there. has-gno s k n rest (rw there at h))
 
 module _ (set uuid tag : List ℕ) (gno : ℕ) where
   asks-id : length uuid ≡ 16 → noneOrTag tag ≡ true → asks set uuid tag gno ≡ member set (uuid ++ tag) gno

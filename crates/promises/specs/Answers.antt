@@ -25,8 +25,8 @@ use Rattle.gtid_event_read.specs.Read.{seen, gtid, named, gtidRead}
 use Rattle.gtid_event_write.specs.Write.{eventOutput, lengthOf}
 use Rattle.gtid_sets.specs.Run.{names, anonymous}
 use Rattle.resume_set.specs.Answers.{eventOf}
-use Rattle.listing.specs.SetText.{newline}
-use Rattle.listing.specs.EventText.{anonymousWord, refusedText, recordText, gtidText, eventText}
+use Rattle.text.specs.Lines.{newline, refusedText}
+use Rattle.listing.specs.EventText.{anonymousWord, recordText, gtidText, eventText}
 use Rattle.promises.specs.Meaning.{RecordLaid}
 use Rattle.promises.specs.SetFaults.{keyOf, NamingFault, Names, TakeInFault}
 

@@ -19,7 +19,8 @@ use Rattle.gtid_event.specs.Fits.{Fits}
 use Rattle.gtid_sets.specs.Lent.{SetLaid}
 use Rattle.resume_set.specs.Answers.{takeInAnswers, offerAnswers}
 use Rattle.resume_set.specs.declared.Offered.the-variants.{Refused}
-use Rattle.listing.specs.EventText.{refusedText, recordText, eventText}
+use Rattle.text.specs.Lines.{refusedText}
+use Rattle.listing.specs.EventText.{recordText, eventText}
 use Rattle.resume_set_laws.specs.History.{Turn, keptAll, member}
 use Rattle.resume_set_laws.specs.Ours.{ours}
 use Rattle.promises.specs.SetFaults.{SetFault, BodyIs, Names}

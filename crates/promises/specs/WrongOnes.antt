@@ -1,4 +1,4 @@
--- Wrong programs that the demands shut out: `ShutOut`, `Crowding`, `Absent`, `TwoShut` and `HeadsShut` of proofs/.
+-- Wrong programs that the demands shut out: `ShutOut`, `Crowding`, `Absent`, `TwoShut`, `HeadsShut` and `ReportsShut` of proofs/.
 use Prim.Native.Nat.{ℕ, _+_}
 use mathlib.Core.Bool.{Bool, true, false, not, _&&_, _||_}
 use mathlib.Core.List.{List, [], _∷_, _++_}
@@ -38,7 +38,11 @@ use Rattle.promises.specs.TaggedLayout.{the-tag, seenIn}
 use Rattle.promises.specs.Meaning.{EventReader, EventWriter, EntriesReader}
 use Rattle.promises.specs.Exact.{Asking, asks}
 use Rattle.promises.specs.TwoSets.{Combiner, ourCalls}
+use Rattle.report.specs.Report.{linesOf, summed}
+use Rattle.report.specs.Built.{reportOver}
+use Rattle.report.specs.declared.Counts.{Counts}
 use Rattle.promises.specs.Heads.{Handing, ourHead}
+use Rattle.promises.specs.Reports.{Reporting, ourReport}
 
 -- refuses whatever comes
 abbrev pub refusesAll : EventReader
@@ -320,3 +324,50 @@ wantsCommon = chosenBy (λ a b. withinAnswers b a .all && common a b) (λ a b. w
 -- hands back the right bytes, but of the second of two that are equal
 abbrev pub equalElsewhere : Handing
 equalElsewhere = record { part = ourHead .part; place = λ first second p q. pick (same first second) q (ourHead .place first second p q) }
+
+-- ---- reports
+
+-- the set of all numbers of the zero uuid
+abbrev pub allNumbers : List ℕ
+allNumbers = bodyBytes (entry (replicate 16 0) (interval 1 gnoTop ∷ []) ∷ [])
+
+-- the right report but for its sums, or for its answers
+abbrev pub summedBy : (List (List ℕ) → Counts) → Reporting
+summedBy sums = record { answers = ourReport .answers; sums = sums; text = ourReport .text }
+
+abbrev pub answeredBy : (List (List ℕ) → List ℕ → ℕ) → Reporting
+answeredBy answers = record { answers = answers; sums = ourReport .sums; text = ourReport .text }
+
+-- adds the high words alone: what the low ones carry is lost
+abbrev pub losesCarry : Reporting
+losesCarry = summedBy (λ sets. let c = ourReport .sums sets in
+    record { entries = c .entries; intervals = c .intervals; high = summed (λ l. l .high) (linesOf (reportOver sets)); low = c .low })
+
+-- counts one of the sets that are the same
+abbrev pub otherThan : List ℕ → List (List ℕ) → List (List ℕ)
+otherThan set [] = []
+otherThan set (other ∷ sets) = pick (same other set) (otherThan set sets) (other ∷ otherThan set sets)
+
+abbrev pub unlike : List (List ℕ) → List (List ℕ)
+unlike [] = []
+unlike (set ∷ sets) = set ∷ otherThan set (unlike sets)
+
+abbrev pub countsOnce : Reporting
+countsOnce = summedBy (λ sets. ourReport .sums (unlike sets))
+
+-- counts what is no set as an entry
+abbrev pub countsRefused : Reporting
+countsRefused = summedBy (λ sets. let c = ourReport .sums sets in
+    record { entries = c .entries + summed (λ l. pick (eqb (l .refusal) 0) 0 1) (linesOf (reportOver sets)); intervals = c .intervals; high = c .high; low = c .low })
+
+-- doesn't count what is no set to the 64
+abbrev pub onlySets : List (List ℕ) → List (List ℕ)
+onlySets [] = []
+onlySets (set ∷ sets) = pick (eqb (setRead (lentSet set) .refusal) 0) (set ∷ onlySets sets) (onlySets sets)
+
+abbrev pub forgetsRefused : Reporting
+forgetsRefused = answeredBy (λ before set. ourReport .answers (onlySets before) set)
+
+-- reads the sixty-fifth
+abbrev pub readsOn : Reporting
+readsOn = answeredBy (λ before set. setRead (lentSet set) .refusal)

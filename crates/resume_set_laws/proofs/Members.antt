@@ -1,6 +1,6 @@
 -- Demand 3, members: what a body becomes that is taken in is a set of its ids, and after any offers the members are these and the ids of the
 -- events answered "taken" or "already there".
-use Prim.Native.Nat.{ℕ}
+use Prim.Native.Nat.{ℕ, _+_}
 use mathlib.Core.Path.{_≡_, refl, sym, ap, _∙_}
 use mathlib.Core.Bool.{Bool, true, false, _&&_, _||_, or-false, or-assoc}
 use mathlib.Core.List.{List, [], _∷_}
@@ -25,11 +25,12 @@ use Rattle.gtid_sets.specs.TakeIn.{lawful, takeIn}
 use Rattle.gtid_sets.specs.Limits.{Judged, fine, breaks, limits}
 use Rattle.gtid_sets.specs.Run.{isOf}
 use Rattle.gtid_sets.specs.Lent.{form, lentSet}
+use Rattle.gtid_sets.specs.Total.{total}
 use Rattle.gtid_sets.proofs.FormLaws.{lawful-holds}
 use Rattle.gtid_sets.proofs.TakeInLaws.{has-takeIn}
-use Rattle.gtid_sets.proofs.LentLaws.{lent-takeIn}
+use Rattle.gtid_sets.proofs.LentLaws.{is-lent, lent-takeIn}
 use Rattle.resume_set.specs.Answers.{savedIf, takenIn}
-use Rattle.resume_set_laws.specs.History.{Turn, kept, keptAll, grants, granted, OfBytes, TakesIn, TellsHistory}
+use Rattle.resume_set_laws.specs.History.{Turn, kept, keptAll, grants, granted, OfBytes, TakesIn, TellsHistory, takings, CountsTaken}
 use Rattle.resume_set_laws.specs.Ours.{ours}
 use Rattle.resume_set_laws.proofs.OneOffer.{said, good-said, front, one-offer}
 
@@ -80,9 +81,10 @@ pub record KeepsAll (set : List ℕ) (s : List Entry) (ts : List Turn) : Type 0 
   pub last : List Entry
   pub lent : lentSet (keptAll ours set ts) ≡ form last
   pub members : (k : Key) (n : ℕ) → has last k n ≡ has s k n || granted ours set ts k n
+  pub counted : total last ≡ total s + takings ours set ts
 
 pub all-offers : (set : List ℕ) (s : List Entry) (ts : List Turn) → lentSet set ≡ form s → OfBytes ts → KeepsAll set s ts
-all-offers set s [] lent ok = record { last = s; lent = lent; members = λ k n. sym (or-false (has s k n)) }
+all-offers set s [] lent ok = record { last = s; lent = lent; members = λ k n. sym (or-false (has s k n)); counted = omega arith }
 all-offers set s (t ∷ ts) lent ok =
     let one = one-offer set s t lent (good-said (t .type) (t .body) (ok .0)) in
     let rest = all-offers (kept ours set t) (one .next) ts (one .lent) (ok .1) in
@@ -92,6 +94,7 @@ all-offers set s (t ∷ ts) lent ok =
       members = λ k n.
           rest .members k n ∙ ap (λ (x : Bool). x || granted ours (kept ours set t) ts k n) (one .members k n)
           ∙ or-assoc (has s k n) (grants (ours .answers set t) && isOf (said t) k n) (granted ours (kept ours set t) ts k n);
+      counted = omega (arith, rest .counted, one .counted);
     }
 
 pub tells-history : TellsHistory ours
@@ -100,3 +103,10 @@ tells-history body es set ts t ok =
       (run .last, run .lent),
       λ k n. rw (run .lent) (run .members k n ∙ rw (has-takeIn es k n)),
     )
+
+-- ---- how many there are
+
+pub counts-taken : CountsTaken ours
+counts-taken set s ts laid ok =
+    let run = all-offers set s ts (is-lent set s laid) ok in
+    rw (run .lent) (run .counted)

@@ -1,6 +1,6 @@
 -- One offer to a set's bytes: what is kept after it is a set, whose members are those before and the event's id, if it was answered "taken" or
--- "already there"; and a refusal changes nothing.
-use Prim.Native.Nat.{ℕ}
+-- "already there", one more than before if it was "taken"; and a refusal changes nothing.
+use Prim.Native.Nat.{ℕ, _+_}
 use mathlib.Core.Path.{_≡_, refl, sym, ap, _∙_}
 use mathlib.Core.Bool.{true, false, _&&_, _||_, or-false, or-true}
 use mathlib.Core.List.{List}
@@ -24,17 +24,19 @@ use Rattle.gtid_event_read.proofs.PresentLaws.{named-record}
 use Rattle.gtid_event_read.proofs.Ranges.{UntaggedRange, TaggedRange, gtid-range}
 use Rattle.gtid_sets.specs.Set.{has}
 use Rattle.gtid_sets.specs.Run as run
-use Rattle.gtid_sets.specs.Run.{Event, Answer, noId, already, taken, answer, after, isMember, isOf}
+use Rattle.gtid_sets.specs.Run.{Event, Answer, noId, already, taken, answer, isTaken, after, isMember, isOf}
 use Rattle.gtid_sets.specs.Lent.{Lent, form, unfit, lentSet}
 use Rattle.gtid_sets.specs.Saved.{GoodEvent}
+use Rattle.gtid_sets.specs.Total.{total}
 use Rattle.gtid_sets.proofs.KeyLaws.{good-key}
 use Rattle.gtid_sets.proofs.LentLaws.{lent-is, lent-back}
 use Rattle.gtid_sets.proofs.RunLaws.{has-after, form-after, limits-after}
 use Rattle.gtid_sets.proofs.SavedLaws.{good-after}
+use Rattle.gtid_sets.proofs.TotalLaws.{bit, after-total}
 use Rattle.resume_set.specs.Answers.{says, eventOf, fitting, offeredAs, outputAs}
 use Rattle.resume_set.specs.declared.Offered.{Offered}
 use Rattle.resume_set.specs.declared.Offered.the-variants.{NoId, AlreadyThere, Taken, Refused}
-use Rattle.resume_set_laws.specs.History.{Turn, keptAs, kept, grants, RefusalsKeep}
+use Rattle.resume_set_laws.specs.History.{Turn, keptAs, kept, grants, takes, RefusalsKeep}
 use Rattle.resume_set_laws.specs.Ours.{ours}
 
 -- ---- the event of a turn
@@ -84,6 +86,7 @@ pub record Keeps (set : List ℕ) (s : List Entry) (t : Turn) : Type 0 where
   pub next : List Entry
   pub lent : lentSet (kept ours set t) ≡ form next
   pub members : (k : Key) (n : ℕ) → has next k n ≡ has s k n || (grants (ours .answers set t) && isOf (said t) k n)
+  pub counted : total next ≡ total s + takes (ours .answers set t)
 
 module _ (set : List ℕ) (s : List Entry) (t : Turn) (lent : lentSet set ≡ form s) (good : GoodEvent (said t)) where
   abbrev grown : List ℕ
@@ -98,8 +101,8 @@ module _ (set : List ℕ) (s : List Entry) (t : Turn) (lent : lentSet set ≡ fo
   went : (case : ℕ → Offered) (a : Answer) → answer s (said t) ≡ a
       → ((size room : ℕ) → offeredAs a size room ≡ fitting case size room) → ((bs : List ℕ) → outputAs a bs ≡ bytes bs)
       → ((out : List ℕ) (len : ℕ) → keptAs set out (case len) ≡ take len out) → ((len : ℕ) → grants (case len) ≡ isMember a)
-      → Keeps set s t
-  went case a e told writes keeps member = split (leb (length grown) (length (t .out)))
+      → ((len : ℕ) → takes (case len) ≡ bit (isTaken a)) → Keeps set s t
+  went case a e told writes keeps member adds = split (leb (length grown) (length (t .out)))
       (λ h.
       let o : ours .answers set t ≡ case (length grown) = rw (lent, e, told, h) in
       let w : ours .leaves set t ≡ outputOf (t .out) (bytes grown) = rw (lent, e, writes) in
@@ -108,20 +111,22 @@ module _ (set : List ℕ) (s : List Entry) (t : Turn) (lent : lentSet set ≡ fo
         next = after s (said t);
         lent = ap lentSet k ∙ grown-lent;
         members = λ i n. has-after s (said t) i n ∙ rw (o, member, e);
+        counted = after-total s (said t) (lent-is set s lent .formed) ∙ rw (o, adds, e);
       })
       (λ h.
       let o : ours .answers set t ≡ fitting case (length grown) (length (t .out)) = rw (lent, e, told) in
       let k : ours .answers set t ≡ Refused 13 (length grown) = o ∙ rw h in
-      record { next = s; lent = rw k lent; members = λ i n. rw k (sym (or-false (has s i n))) })
+      record { next = s; lent = rw k lent; members = λ i n. rw k (sym (or-false (has s i n))); counted = rw k (omega arith) })
 
   pub one-offer : Keeps set s t
   one-offer = go (answer s (said t)) refl
     where
       go : (a : Answer) → answer s (said t) ≡ a → Keeps set s t
-      go noId e = went NoId noId e (λ n m. refl) (λ bs. refl) (λ o n. refl) (λ n. refl)
-      go already e = went AlreadyThere already e (λ n m. refl) (λ bs. refl) (λ o n. refl) (λ n. refl)
-      go taken e = went Taken taken e (λ n m. refl) (λ bs. refl) (λ o n. refl) (λ n. refl)
-      go (run.refused r) e = record { next = s; lent = rw (lent, e) lent; members = λ i n. rw (lent, e) (sym (or-false (has s i n))) }
+      go noId e = went NoId noId e (λ n m. refl) (λ bs. refl) (λ o n. refl) (λ n. refl) (λ n. refl)
+      go already e = went AlreadyThere already e (λ n m. refl) (λ bs. refl) (λ o n. refl) (λ n. refl) (λ n. refl)
+      go taken e = went Taken taken e (λ n m. refl) (λ bs. refl) (λ o n. refl) (λ n. refl) (λ n. refl)
+      go (run.refused r) e =
+          record { next = s; lent = rw (lent, e) lent; members = λ i n. rw (lent, e) (sym (or-false (has s i n))); counted = rw (lent, e) (omega arith) }
 
 -- ---- a refusal changes nothing
 

@@ -1,5 +1,5 @@
--- Demand 3 on bytes, as statements about any offer: the members after a run of offers, and replay.
-use Prim.Native.Nat.{ℕ, _≤_}
+-- Demand 3 on bytes, as statements about any offer: the members after a run of offers, how many there are, and replay.
+use Prim.Native.Nat.{ℕ, _+_, _≤_}
 use mathlib.Core.Path.{_≡_}
 use mathlib.Core.Bool.{Bool, true, false, _&&_, _||_}
 use mathlib.Core.List.{List, [], _∷_, _++_}
@@ -13,7 +13,8 @@ use Rattle.previous_gtids_event.specs.Layout.{BodyLaid}
 use Rattle.gtid_sets.specs.Set.{has}
 use Rattle.gtid_sets.specs.Limits.{longestSet}
 use Rattle.gtid_sets.specs.Run.{isOf}
-use Rattle.gtid_sets.specs.Lent.{Lent, form, unfit, lentSet}
+use Rattle.gtid_sets.specs.Lent.{Lent, form, unfit, lentSet, SetLaid}
+use Rattle.gtid_sets.specs.Total.{total}
 use Rattle.resume_set.specs.Answers.{takeInAnswers, takeInLeaves, eventOf}
 use Rattle.resume_set.specs.declared.Offered.{Offered}
 use Rattle.resume_set.specs.declared.Offered.the-variants.{NoId, AlreadyThere, Taken, Refused}
@@ -89,6 +90,30 @@ abbrev pub TellsHistory : Offering → Type 0
 TellsHistory f = (body : List ℕ) (es : List Entry) (set : List ℕ) (ts : List Turn) → TakesIn body es set → OfBytes ts
     → ((s : List Entry) × (lentSet (keptAll f set ts) ≡ form s))
     × ((k : Key) (n : ℕ) → member (keptAll f set ts) k n ≡ has es k n || granted f set ts k n)
+
+-- ---- totals (CR 13)
+
+-- 1 for "taken"
+abbrev pub takes : Offered → ℕ
+takes (NoId len) = 0
+takes (AlreadyThere len) = 0
+takes (Taken len) = 1
+takes (Refused n len) = 0
+
+-- how many offers of a run are answered "taken"
+abbrev pub takings : Offering → List ℕ → List Turn → ℕ
+takings f set [] = 0
+takings f set (t ∷ ts) = takes (f .answers set t) + takings f (kept f set t) ts
+
+-- how many ids some bytes have that are a set
+abbrev pub lentTotal : Lent → ℕ
+lentTotal (form s) = total s
+lentTotal unfit = 0
+
+-- over any offers to a set the number of its ids grows by that of the answers "taken"
+abbrev pub CountsTaken : Offering → Type 0
+CountsTaken f = (set : List ℕ) (s : List Entry) (ts : List Turn) → SetLaid set s → OfBytes ts
+    → lentTotal (lentSet (keptAll f set ts)) ≡ total s + takings f set ts
 
 -- ---- replay
 

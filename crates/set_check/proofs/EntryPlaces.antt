@@ -97,6 +97,16 @@ pub place-made : (bs : List ℕ) (at len n : ℕ) → n ≡ numberAt bs (at + le
     (orNowhere bs (placeFrom bs at len))
 place-made bs at len n e h = rw e (sym (whole bs (placeFrom bs at len) (omega arith)))
 
+-- how an entry's parts lie
+pub record Lies (at : ℕ) (p : EntryPlace) : Type 0 where
+  pub tag-after : at + 16 ≤ p .«tag_at»
+  pub first-is : p .first ≡ p .«tag_at» + p .«tag_len» + 8
+  pub next-is : p .next ≡ p .first + 16 * p .count
+
+pub lies : (w : Bool) (bs : List ℕ) (at : ℕ) → Lies at (placeAt w bs at)
+lies true bs at = record { tag-after = omega arith; first-is = refl; next-is = refl }
+lies false bs at = record { tag-after = omega arith; first-is = refl; next-is = refl }
+
 module _ (bs : List ℕ) (w : Bool) (at : ℕ) where
   -- all of an entry that is there
   pub place-here : placeAt w bs at .next ≤ length bs → placeIn w bs at ≡ placeAt w bs at

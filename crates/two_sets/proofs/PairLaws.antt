@@ -24,7 +24,7 @@ use Rattle.gtid_sets.proofs.SweepLaws.{marks-rise, sweep-shut}
 use Rattle.gtid_sets.proofs.CombineLaws.{combined-lt, combined-eq, combined-gt}
 use Rattle.set_check.specs.Places.{numberAt, intervalsAt, placeAt, placeIn, keyThere, entriesAt, EntriesIn}
 use Rattle.set_check.specs.declared.EntryPlace.{EntryPlace}
-use Rattle.set_check.proofs.EntryPlaces.{place-here}
+use Rattle.set_check.proofs.EntryPlaces.{lies, place-here}
 use Rattle.two_sets.specs.Marks.{marksAt, marksOf, SideIs}
 use Rattle.two_sets.specs.Pairs.{entriesLeft, CursorIs, CursorsAre, combining, uuidsOrder, tagsOrder, UuidNext, sideOf, noSide, keyPlace, beyondOf, ofFirst, ofSecond, ofBoth, Moves, keyIn, PairIs}
 use Rattle.two_sets.specs.declared.Cursor.{Cursor}
@@ -40,16 +40,6 @@ marks-at (suc n) bs at =
     rw (two, far) (ap (λ (l : List ℕ). numberAt bs at ∷ numberAt bs (at + 8) ∷ l) (marks-at n bs (at + 16)))
 
 -- ---- the next entry of a set
-
--- how an entry's parts lie
-record Lies (at : ℕ) (p : EntryPlace) : Type 0 where
-  pub tag-after : at + 16 ≤ p .«tag_at»
-  pub first-is : p .first ≡ p .«tag_at» + p .«tag_len» + 8
-  pub next-is : p .next ≡ p .first + 16 * p .count
-
-lies : (w : Bool) (bs : List ℕ) (at : ℕ) → Lies at (placeAt w bs at)
-lies true bs at = record { tag-after = omega arith; first-is = refl; next-is = refl }
-lies false bs at = record { tag-after = omega arith; first-is = refl; next-is = refl }
 
 pub record Ahead (bs : List ℕ) (c : Cursor) (p : EntryPlace) : Type 0 where
   pub list : List Interval

@@ -1,7 +1,7 @@
 //! What the tests share: a folder for files, random numbers, an offer that is committed, sets with many entries or intervals, and the follower
 //! of `examples` with a binlog for it.
 #![allow(dead_code)] // no test uses all of it
-use gtid_resume::{Offered, Refusal, ResumeSet};
+use gtid_resume::{Counts, Offered, Refusal, ResumeSet};
 use std::env;
 use std::ffi::OsString;
 use std::fs;
@@ -108,6 +108,14 @@ pub fn entries(count: u16) -> Vec<Listed<'static>> {
 
 pub fn set(entries: &[Listed]) -> ResumeSet {
     ResumeSet::take_in(&body(entries)).unwrap()
+}
+
+pub fn counts(entries: u64, intervals: u64, ids: u128) -> Counts {
+    Counts {
+        entries,
+        intervals,
+        ids,
+    }
 }
 
 /// A binlog without checksums.

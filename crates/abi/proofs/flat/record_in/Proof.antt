@@ -62,17 +62,17 @@ number-at-requires-5 c κs = search needs
 number-at-requires-6 : tie.Need-number-at-requires-6
 number-at-requires-6 c κs = search needs
 
-version-at-requires : tie.Need-version-at-requires
-version-at-requires c κs = search needs
+four-at-requires : tie.Need-four-at-requires
+four-at-requires c κs = search needs
 
-version-at-requires-2 : tie.Need-version-at-requires-2
-version-at-requires-2 c κs = search needs
+four-at-requires-2 : tie.Need-four-at-requires-2
+four-at-requires-2 c κs = search needs
 
 number-at-requires-7 : tie.Need-number-at-requires-7
 number-at-requires-7 c κs = search needs
 
 returns : tie.Need-returns
-returns c = record-is (now (c .before .before .before .before .before .before .before .before .before .before .before .before .before .before .before .before .before .before .before .args .s)) _ _ _ _ _ _ _ _ _ _ _ _ (c .before .before .before .before .before .before .before .before .before .before .before .before .before .before .before .before .before .before .before .pre) (c .before .before .before .before .before .before .before .before .before .before .before .before .before .before .before .uuid-bytes .ensures) (c .before .before .before .before .before .before .before .before .before .before .before .before .before .before .number-at .ensures) (c .before .before .before .before .before .before .before .before .before .before .before .before .tag-bytes .ensures) (c .before .before .before .before .before .before .before .before .typecode-if .ensures) (c .before .before .before .before .before .before .before .number-at2 .ensures) (c .before .before .before .before .before .before .number-at3 .ensures) (c .before .before .before .before .before .number-at4 .ensures) (c .before .before .before .before .number-at5 .ensures) (c .before .before .before .number-at6 .ensures) (c .before .before .version-at .ensures) (c .before .version-at2 .ensures) (c .number-at7 .ensures)
+returns c = record-is (now (c .before .before .before .before .before .before .before .before .before .before .before .before .before .before .before .before .before .before .before .args .s)) _ _ _ _ _ _ _ _ _ _ _ _ (c .before .before .before .before .before .before .before .before .before .before .before .before .before .before .before .before .before .before .before .pre) (c .before .before .before .before .before .before .before .before .before .before .before .before .before .before .before .uuid-bytes .ensures) (c .before .before .before .before .before .before .before .before .before .before .before .before .before .before .number-at .ensures) (c .before .before .before .before .before .before .before .before .before .before .before .before .tag-bytes .ensures) (c .before .before .before .before .before .before .before .before .typecode-if .ensures) (c .before .before .before .before .before .before .before .number-at2 .ensures) (c .before .before .before .before .before .before .number-at3 .ensures) (c .before .before .before .before .before .number-at4 .ensures) (c .before .before .before .before .number-at5 .ensures) (c .before .before .before .number-at6 .ensures) (c .before .before .four-at .ensures) (c .before .four-at2 .ensures) (c .number-at7 .ensures)
 
 pub record-in-spec : {M : Type 1} → statement M
 record-in-spec =
@@ -97,7 +97,7 @@ record-in-spec =
     number-at-requires-4
     number-at-requires-5
     number-at-requires-6
-    version-at-requires
-    version-at-requires-2
+    four-at-requires
+    four-at-requires-2
     number-at-requires-7
     returns)

@@ -13,8 +13,10 @@ same-length c = search needs
 
 returns : tie.Need-returns
 returns c =
-    let a = c .before .before .before .before .before .before .before .args in
-    same-text (now (a .out)) (event-previous (a .event-type) (now (a .body)) (c .before .before .before .before .if1 .taken)) (c .before .before .list-previous .ensures)
+    let text = c .before .before in
+    let test = text .before .before in
+    let a = test .before .before .before .args in
+    same-text (now (a .out)) (event-previous (a .event-type) (now (a .body)) (test .if1 .taken)) (text .list-previous .ensures)
 
 list-gtid-requires : tie.Need-list-gtid-requires
 list-gtid-requires c κs = search needs
@@ -24,8 +26,10 @@ same-length-2 c = search needs
 
 returns-2 : tie.Need-returns-2
 returns-2 c =
-    let a = c .before .before .before .before .before .before .before .args in
-    same-text (now (a .out)) (event-gtid (a .event-type) (now (a .body)) (c .before .before .before .before .if1 .left)) (c .before .before .list-gtid .ensures)
+    let text = c .before .before in
+    let test = text .before .before in
+    let a = test .before .before .before .args in
+    same-text (now (a .out)) (event-gtid (a .event-type) (now (a .body)) (test .if1 .left)) (text .list-gtid .ensures)
 
 pub list-spec : {M : Type 1} → statement M
 list-spec =

@@ -17,9 +17,12 @@ same-length c = search needs
 
 returns : tie.Need-returns
 returns c =
-    let a = c .before .before .before .before .before .before .before .before .args in
-    let r = c .before .before .before .before .before .read-named in
-    same-text (now (a .out)) (text-refused (a .event-type) (now (a .body)) (r .result) (r .ensures) (c .before .before .before .before .if1 .taken)) (c .before .before .write-refused .ensures)
+    let text = c .before .before in
+    let test = text .before .before in
+    let said = test .before in
+    let r = said .read-named in
+    let a = said .before .before .before .args in
+    same-text (now (a .out)) (text-refused (a .event-type) (now (a .body)) (r .result) (r .ensures) (test .if1 .taken)) (text .write-refused .ensures)
 
 slice-aggregate-write-bytes : tie.Need-slice-aggregate-write-bytes
 slice-aggregate-write-bytes c = search needs
@@ -32,24 +35,38 @@ same-length-2 c = search needs
 
 returns-2 : tie.Need-returns-2
 returns-2 c =
-    let a = c .before .before .before .before .before .before .before .before .before .before .args in
-    let r = c .before .before .before .before .before .before .before .read-named in
-    same-text (now (a .out)) (text-anonymous (a .event-type) (now (a .body)) (r .result) (r .ensures) (c .before .before .before .before .before .before .if1 .left) (c .before .before .before .before .before .if2 .taken)) (c .before .before .write-bytes .ensures)
+    let text = c .before .before in
+    let type = text .before .before .before in
+    let test = type .before in
+    let said = test .before in
+    let r = said .read-named in
+    let a = said .before .before .before .args in
+    let anonymous = text-anonymous (a .event-type) (now (a .body)) (r .result) (r .ensures) (test .if1 .left) (type .if2 .taken) in
+    same-text (now (a .out)) anonymous (text .write-bytes .ensures)
 
 write-id-requires : tie.Need-write-id-requires
 write-id-requires c κs =
-    let a = c .before .before .before .before .before .before .args in
-    let r = c .before .before .before .read-named in
-    named-parts (a .event-type) (now (a .body)) (r .result) (r .ensures) (c .before .before .if1 .left) (λ i. c .before .before .before .before .before .shared-slice-known .given i .fits)
+    let test = c .before .before in
+    let said = test .before in
+    let r = said .read-named in
+    let a = said .before .before .before .args in
+    named-parts (a .event-type) (now (a .body)) (r .result) (r .ensures) (test .if1 .left) (λ i. said .before .before .shared-slice-known .given i .fits)
 
 same-length-3 : tie.Need-same-length-3
 same-length-3 c = search needs
 
 returns-3 : tie.Need-returns-3
 returns-3 c =
-    let a = c .before .before .before .before .before .before .before .before .before .args in
-    let r = c .before .before .before .before .before .before .read-named in
-    same-text (now (a .out)) (text-id (a .event-type) (now (a .body)) (r .result) (r .ensures) (c .before .before .before .before .before .if1 .left) (c .before .before .before .before .if2 .left) (λ i. c .before .before .before .before .before .before .before .before .shared-slice-known .given i .fits)) (c .before .before .write-id .ensures)
+    let text = c .before .before in
+    let type = text .before .before in
+    let test = type .before in
+    let said = test .before in
+    let r = said .read-named in
+    let a = said .before .before .before .args in
+    let known = said .before .before .shared-slice-known in
+    let id = text-id (a .event-type) (now (a .body)) (r .result) (r .ensures) (test .if1 .left) (type .if2 .left)
+    (λ i. known .given i .fits) in
+    same-text (now (a .out)) id (text .write-id .ensures)
 
 pub list-gtid-spec : {M : Type 1} → statement M
 list-gtid-spec =

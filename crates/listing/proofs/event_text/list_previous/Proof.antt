@@ -10,8 +10,13 @@ use Rattle.listing.proofs.event_text.list_previous.Statement.{statement
 use Rattle.listing.proofs.event_text.list_previous.Tie as tie
 
 -- the set in the buffer, once it is taken in
-set-of : (c : tie.Else1) → TakenSet (now (c .before .before .before .before .before .before .args .body)) (c .before .before .take-in .last .1 .0) (c .before .before .take-in .result .len)
-set-of c = let t = c .before .before .take-in in taken-set (now (c .before .before .before .before .before .before .args .body)) _ _ _ (search needs ∙ sym longestSet-is) (t .ensures .0) (t .ensures .1) (c .if1 .left)
+set-of : (c : tie.Else1)
+    → TakenSet (now (c .before .before .before .before .before .before .args .body)) (c .before .before .take-in .last .1 .0)
+    (c .before .before .take-in .result .len)
+set-of c =
+    let t = c .before .before .take-in in
+    let body = now (c .before .before .before .before .before .before .args .body) in
+    taken-set body _ _ _ (search needs ∙ sym longestSet-is) (t .ensures .0) (t .ensures .1) (c .if1 .left)
 
 slice-aggregate-take-in : tie.Need-slice-aggregate-take-in
 slice-aggregate-take-in c = search needs
@@ -27,9 +32,12 @@ same-length c = search needs
 
 returns : tie.Need-returns
 returns c =
-    let a = c .before .before .before .before .before .before .before .before .before .before .args in
-    let t = c .before .before .before .before .before .before .take-in in
-    same-text (now (a .out)) (taken-refused (now (a .body)) _ _ _ (search needs ∙ sym longestSet-is) (t .ensures .0) (t .ensures .1) (c .before .before .before .before .if1 .taken)) (c .before .before .write-refused .ensures)
+    let text = c .before .before in
+    let test = text .before .before in
+    let t = test .before .before .take-in in
+    let a = test .before .before .before .before .before .before .args in
+    let refused = taken-refused (now (a .body)) _ _ _ (search needs ∙ sym longestSet-is) (t .ensures .0) (t .ensures .1) (test .if1 .taken) in
+    same-text (now (a .out)) refused (text .write-refused .ensures)
 
 slice-aggregate-list-set : tie.Need-slice-aggregate-list-set
 slice-aggregate-list-set c = search needs
@@ -48,8 +56,10 @@ same-length-2 c = search needs
 
 returns-2 : tie.Need-returns-2
 returns-2 c =
-    let a = c .before .before .before .before .before .before .before .before .before .before .before .before .args in
-    same-output (now (a .out)) (taken-listed (now (a .body)) _ _ (set-of (c .before .before .before .before .before .before))) (c .before .before .list-set .ensures)
+    let text = c .before .before in
+    let test = text .before .before .before .before in
+    let a = test .before .before .before .before .before .before .args in
+    same-output (now (a .out)) (taken-listed (now (a .body)) _ _ (set-of test)) (text .list-set .ensures)
 
 pub list-previous-spec : {M : Type 1} → statement M
 list-previous-spec =

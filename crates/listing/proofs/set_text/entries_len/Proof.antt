@@ -27,7 +27,8 @@ entry-len-requires c κs = next-entry _ _ _ _ (c .before .before .loop .inv .ahe
 add-len : tie.Need-add-len Inv-loop μ-loop
 add-len c =
     let g = c .before .before .before .loop .inv in
-    record { fits = omega (arith, g .most, g .ahead .small, next-size _ _ _ _ (g .ahead) (omega arith) _ (c .before .entry-at .ensures), c .entry-len .ensures .1) }
+    let size = next-size _ _ _ _ (g .ahead) (omega arith) _ (c .before .entry-at .ensures) in
+    record { fits = omega (arith, g .most, g .ahead .small, c .entry-len .ensures .1) }
 
 sub-left : tie.Need-sub-left Inv-loop μ-loop
 sub-left c = omega arith

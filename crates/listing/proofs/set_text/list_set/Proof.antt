@@ -46,9 +46,13 @@ add-len c =
 
 returns-2 : tie.Need-returns-2
 returns-2 c =
-    let a = c .before .before .before .before .before .before .before .before .before .args in
-    let said = c .before .before .before .before .before .check in
-    list-short (now (a .word)) (now (a .set)) (now (a .out)) (said .result) (said .ensures) (omega arith) _ _ _ (c .before .before .before .decimal-len .ensures .0) (c .before .before .decimal-len2 .ensures .0) (c .before .entries-len .ensures .0) (omega arith)
+    let lines = c .before in
+    let total = lines .before in
+    let entries = total .before in
+    let said = entries .before .before .check in
+    let a = entries .before .before .before .before .before .before .args in
+    list-short (now (a .word)) (now (a .set)) (now (a .out)) (said .result) (said .ensures) (omega arith) _ _ _
+    (entries .decimal-len .ensures .0) (total .decimal-len2 .ensures .0) (lines .entries-len .ensures .0) (omega arith)
 
 put-head-requires : tie.Need-put-head-requires
 put-head-requires c κs = search needs
@@ -64,9 +68,16 @@ same-length c = search needs
 
 returns-3 : tie.Need-returns-3
 returns-3 c =
-    let a = c .before .before .before .before .before .before .before .before .before .before .before .before .before .before .before .before .before .args in
-    let said = c .before .before .before .before .before .before .before .before .before .before .before .before .before .check in
-    list-fits (now (a .word)) (now (a .set)) (now (a .out)) (said .result) (said .ensures) (omega arith) _ _ _ (c .before .before .before .before .before .before .before .before .before .before .before .decimal-len .ensures .0) (c .before .before .before .before .before .before .before .before .before .before .decimal-len2 .ensures .0) (c .before .before .before .before .before .before .before .before .before .entries-len .ensures .0) (omega arith) (c .before .before .before .before .before .before .put-head .ensures) (c .before .before .put-entries .ensures)
+    let rest = c .before .before in
+    let head = rest .before .before .before .before in
+    let lines = head .before .before .before in
+    let total = lines .before in
+    let entries = total .before in
+    let said = entries .before .before .check in
+    let a = entries .before .before .before .before .before .before .args in
+    list-fits (now (a .word)) (now (a .set)) (now (a .out)) (said .result) (said .ensures) (omega arith) _ _ _
+    (entries .decimal-len .ensures .0) (total .decimal-len2 .ensures .0) (lines .entries-len .ensures .0) (omega arith)
+    (head .put-head .ensures) (rest .put-entries .ensures)
 
 pub list-set-spec : {M : Type 1} → statement M
 list-set-spec =

@@ -5,16 +5,17 @@ use lib.ListN.{length}
 use denote.Ref.{now}
 use borrow.Author.Needs.{needs}
 use Rattle.gtid_sets.specs.Lent.{lentSet}
+use Rattle.text.proofs.PuttingLaws.{Putting, putting-none, putting-all, putting-turn}
 use Rattle.listing.specs.Inside.{lentEntries}
 use Rattle.listing.specs.SetText.{entriesText}
 use Rattle.listing.proofs.EntryTextLaws.{entriesFrom, Ahead, set-ahead, none-ahead, next-entry, next-ahead, next-text}
-use Rattle.listing.proofs.PuttingLaws.{Putting, putting-none, putting-all, putting-turn}
 use Rattle.listing.proofs.set_text.put_entries.Statement.{statement}
 use Rattle.listing.proofs.set_text.put_entries.Tie as tie
 
 abbrev Inv-loop : tie.InvT-loop
 Inv-loop set tagged count out₀ at end₀ from₀ left₀ out end from left =
-    (length out ≡ length out₀) × Ahead set tagged from left × Putting (entriesText (lentEntries (lentSet set))) out₀ at (entriesText (entriesFrom set tagged from left)) out end
+    (length out ≡ length out₀) × Ahead set tagged from left
+    × Putting (entriesText (lentEntries (lentSet set))) out₀ at (entriesText (entriesFrom set tagged from left)) out end
 
 abbrev μ-loop : tie.MeasureT-loop
 μ-loop set tagged count out₀ at end₀ from₀ left₀ out end from left = left

@@ -6,15 +6,12 @@ use Rattle.listing.proofs.EntryTextLaws.{tag-there, entry-put}
 use Rattle.listing.proofs.set_text.put_entry.Statement.{statement}
 use Rattle.listing.proofs.set_text.put_entry.Tie as tie
 
-slice-aggregate-put-key : tie.Need-slice-aggregate-put-key
-slice-aggregate-put-key c = search needs
-
 array-share-prefix-tag : tie.Need-array-share-prefix-tag
 array-share-prefix-tag c = search needs
 
-slice-aggregate-put-key-2 : tie.Need-slice-aggregate-put-key-2
-slice-aggregate-put-key-2 c =
-    let s = c .before .before .before .before .before .before in
+slice-aggregate-put-key : tie.Need-slice-aggregate-put-key
+slice-aggregate-put-key c =
+    let s = c .before .before .before .before .before in
     tag-there (now (s .args .set)) (s .args .entry) (s .pre)
 
 put-key-requires : tie.Need-put-key-requires
@@ -34,17 +31,19 @@ same-length c = search needs
 
 returns : tie.Need-returns
 returns c =
-    let s = c .before .before .before .before .before .before .before .before .before .before .before .before .before .before .before .before .before .before .before in
-    let last = c .before .before .put-bytes .ensures in
-    entry-put (now (s .args .set)) (s .args .entry) (s .pre) (c .before .before .before .before .before .before .before .before .before .before .before .put-key .ensures) (c .before .before .before .before .before .before .before .put-intervals .ensures) (put-placed last)
+    let newline = c .before .before in
+    let intervals = newline .before .before .before .before .before in
+    let key = intervals .before .before .before .before in
+    let s = key .before .before .before .before .before .before .before in
+    entry-put (now (s .args .set)) (s .args .entry) (s .pre) (put-placed (key .put-key .ensures)) (intervals .put-intervals .ensures)
+    (put-placed (newline .put-bytes .ensures))
 
 pub put-entry-spec : {M : Type 1} → statement M
 put-entry-spec =
     tie.close
     (tie.spec
-    slice-aggregate-put-key
     array-share-prefix-tag
-    slice-aggregate-put-key-2
+    slice-aggregate-put-key
     put-key-requires
     put-intervals-requires
     slice-aggregate-put-bytes

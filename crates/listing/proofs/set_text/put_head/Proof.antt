@@ -36,12 +36,14 @@ same-length c = search needs
 
 returns : tie.Need-returns
 returns c =
-    let word = c .before .before .before .before .before .before .before .before .before .before .before .before .before .before .before .before .before .before .before .before .before .before .before .before .before .put-bytes .ensures in
-    let entries = c .before .before .before .before .before .before .before .before .before .before .before .before .before .before .before .before .before .before .before .before .put-bytes2 .ensures in
-    let intervals = c .before .before .before .before .before .before .before .before .before .before .before .put-bytes3 .ensures in
-    let last = c .before .before .put-bytes4 .ensures in
-    put-placed word also put-placed entries also c .before .before .before .before .before .before .before .before .before .before .before .before .before .before .before .before .put-decimal .ensures also put-placed intervals
-    also c .before .before .before .before .before .before .before .put-decimal2 .ensures also put-placed last
+    let newline = c .before .before in
+    let total = newline .before .before .before .before .before in
+    let intervals = total .before .before .before .before in
+    let number = intervals .before .before .before .before .before in
+    let entries = number .before .before .before .before in
+    let word = entries .before .before .before .before .before in
+    put-placed (word .put-bytes .ensures) also put-placed (entries .put-bytes2 .ensures) also put-placed (number .put-decimal .ensures)
+    also put-placed (intervals .put-bytes3 .ensures) also put-placed (total .put-decimal2 .ensures) also put-placed (newline .put-bytes4 .ensures)
 
 pub put-head-spec : {M : Type 1} → statement M
 put-head-spec =

@@ -1,0 +1,48 @@
+-- `abi::flat_report::keep_line` meets its contract.
+use native.Mathlib.Omega.{arith}
+use denote.Ref.{now}
+use borrow.Author.Needs.{needs}
+use Rattle.abi.proofs.FlatReportLaws.{line-kept}
+use Rattle.abi.proofs.flat_report.keep_line.Statement.{statement}
+use Rattle.abi.proofs.flat_report.keep_line.Tie as tie
+
+number-at-requires : tie.Need-number-at-requires
+number-at-requires c κs = search needs
+
+mul-put-line : tie.Need-mul-put-line
+mul-put-line c = search needs
+
+add-put-line : tie.Need-add-put-line
+add-put-line c = search needs
+
+put-line-requires : tie.Need-put-line-requires
+put-line-requires c κs = search needs
+
+add-put-u64-le : tie.Need-add-put-u64-le
+add-put-u64-le c = search needs
+
+put-u64-le-requires : tie.Need-put-u64-le-requires
+put-u64-le-requires c κs = search needs
+
+same-length : tie.Need-same-length
+same-length c = search needs
+
+returns : tie.Need-returns
+returns c =
+    let s = c .before .before .before .before .before .before .before .before .before .before .before in
+    let number = c .before .before .before .before .before .before .before .before .number-at in
+    line-kept (now (s .args .report)) (s .args .line) (number .result) (s .pre .0) (number .ensures) (omega (arith, s .pre .1, number .ensures))
+    (c .before .before .before .before .before .before .put-line .ensures) (c .before .before .put-u64-le .ensures)
+
+pub keep-line-spec : {M : Type 1} → statement M
+keep-line-spec =
+    tie.close
+    (tie.spec
+    number-at-requires
+    mul-put-line
+    add-put-line
+    put-line-requires
+    add-put-u64-le
+    put-u64-le-requires
+    same-length
+    returns)

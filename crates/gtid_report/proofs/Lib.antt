@@ -1,0 +1,2 @@
+-- The program's rooms are enough.
+mod ProgramLaws

@@ -1,0 +1,2 @@
+-- What the program's report is of, and its text.
+pub mod Program

@@ -1,0 +1,274 @@
+-- Month's end: totals, the report, and the archive's.
+use Prim.Native.Nat.{ℕ, _+_, _*_, _^_, _<_, _≤_}
+use mathlib.Core.Path.{_≡_, refl, sym, ap, _∙_}
+use mathlib.Core.Bool.{false}
+use mathlib.Core.List.{List, [], _∷_, _++_, append-assoc}
+use native.Mathlib.Omega.{arith}
+use lib.ListN.{length, take, replicate, length-replicate}
+use lib.Seq.{take-all, take-append-seam}
+use lib.Dec.{eqb}
+use borrow.Author.Tests.{ne-eqb, eqb-true, eqb-false}
+use Rattle.misc.specs.Parse.{many, bytesAt, byteAt}
+use Rattle.misc.specs.Body.{bodyLimit}
+use Rattle.misc.specs.Le.{leOf, leBytes, leAt}
+use Rattle.misc.specs.Output.{bytes}
+use Rattle.misc.proofs.ParseLaws as parse-laws
+use Rattle.packets.specs.Gno.{gnoTop}
+use Rattle.previous_gtids_event.specs.Previous.{saysTagged, saysCount, previous}
+use Rattle.previous_gtids_event.specs.Rewrite.{entriesBytes, anyTag, headerBytes, bodyBytes}
+use Rattle.gtid_sets.specs.Limits.{maxEntries, maxIntervals, maxOfEntry, intervals, judged, limits}
+use Rattle.gtid_sets.specs.Lent.{Lent, form, unfit, lentSet}
+use Rattle.gtid_sets.specs.Total.{total}
+use Rattle.gtid_sets.proofs.LentLaws.{lent-is, is-lent}
+use Rattle.gtid_sets.proofs.TotalLaws.{total-counts, total-named, same-total, part-total, either-total}
+use Rattle.text.specs.Digits.{decimalIn, decimal}
+use Rattle.text.specs.Lines.{refusedText}
+use Rattle.report.specs.Report.{highWord, lowWord, refusedLine, lineOf, idsOf, maxSets, linesOf, added, summed, sumOf}
+use Rattle.report.specs.Built.{withSets, reportOver, linesFor}
+use Rattle.report.specs.Text.{sumWord, countsText, lineText, linesText, reportText, longestReport}
+use Rattle.report.specs.declared.Line.{Line}
+use Rattle.report.specs.declared.Added.{Added}
+use Rattle.report.specs.declared.Report.{Report}
+use Rattle.report.proofs.WideLaws.{words, low-small}
+use Rattle.report.proofs.LineLaws.{one-more, no-more}
+use Rattle.report.proofs.TextLaws.{set-line, refused-line}
+use Rattle.report.proofs.BuiltLaws.{over-count, over-lines, longest}
+use Rattle.abi.specs.FlatReport.{reportIn, flatAdds, flatLeaves, flatRefusal, flatSum, flatText}
+use Rattle.abi.proofs.FlatReportLaws.{no-report, adds-none, sum-none, flat-there}
+use Rattle.abi.proofs.FlatReportBack.{adds-alike, zeros-new}
+use Rattle.promises.specs.Exact.{Exactly}
+use Rattle.promises.specs.Reports.{CountsMembers, lentNumber, lentSum, AddAnswer, NumbersLine, SetLine, Lines, ReportsExactly, ourReport, flatOver, zeros, NoReport, ArchiveReports, Reports}
+use Rattle.promises.proofs.Exactly.{short-exactly, judges-exactly}
+use Rattle.promises.proofs.SetsExact.{unfit-fault, fault-unfit, set-exact}
+
+totals : CountsMembers
+totals = record {
+  counts = total-counts;
+  named = total-named;
+  same = λ s t f g m. same-total s t f g m;
+  part = part-total;
+  twice = λ s t f g. either-total s t f g;
+}
+
+-- ---- answers
+
+module _ (before : List (List ℕ)) (set : List ℕ) where
+  answer-full : 64 ≤ length before → ourReport .answers before set ≡ 11
+  answer-full h = ap (λ (a : Added). a .line .refusal) (sym (no-more (reportOver before) set (refusedLine 11) (omega (arith, over-count before)) refl))
+
+  answer-line : length before < 64 → ourReport .answers before set ≡ lineOf (lentSet set) .refusal
+  answer-line h =
+      ap (λ (a : Added). a .line .refusal) (sym (one-more (reportOver before) set (lineOf (lentSet set)) (omega (arith, over-count before)) refl))
+
+  answer-found : AddAnswer before set (ourReport .answers before set)
+  answer-found = parse-laws.split 64 (length before)
+      (λ h. rw (answer-full h) (AddAnswer.full h))
+      (λ h. rw (answer-line h) (go h (lentSet set) refl))
+    where
+      go : length before < 64 → (x : Lent) → lentSet set ≡ x → AddAnswer before set (lineOf x .refusal)
+      go h unfit e = AddAnswer.badSet h (unfit-fault set e)
+      go h (form s) e = AddAnswer.counted h (lent-is set s e)
+
+  answer-forced : (n : ℕ) → AddAnswer before set n → ourReport .answers before set ≡ n
+  answer-forced n (AddAnswer.full h) = answer-full h
+  answer-forced n (AddAnswer.badSet h fault) =
+      let (is, none) = fault-unfit set n fault in
+      answer-line h ∙ ap (λ (x : Lent). lineOf x .refusal) none ∙ sym is
+  answer-forced n (AddAnswer.counted h laid) = answer-line h ∙ ap (λ (x : Lent). lineOf x .refusal) (is-lent set _ laid)
+
+  answers-exactly : (n : ℕ) → Exactly (ourReport .answers before set ≡ n) (AddAnswer before set n)
+  answers-exactly n = (λ e. rw e at answer-found, answer-forced n)
+
+-- ---- sums
+
+sum-entries : (sets : List (List ℕ)) → summed (λ l. l .entries) (linesFor sets) ≡ lentSum length sets
+sum-entries [] = refl
+sum-entries (set ∷ sets) = rw (one (lentSet set), sum-entries sets)
+  where
+    one : (x : Lent) → lineOf x .entries ≡ lentNumber length x
+    one unfit = refl
+    one (form s) = refl
+
+sum-intervals : (sets : List (List ℕ)) → summed (λ l. l .intervals) (linesFor sets) ≡ lentSum intervals sets
+sum-intervals [] = refl
+sum-intervals (set ∷ sets) = rw (one (lentSet set), sum-intervals sets)
+  where
+    one : (x : Lent) → lineOf x .intervals ≡ lentNumber intervals x
+    one unfit = refl
+    one (form s) = refl
+
+sum-ids : (sets : List (List ℕ)) → summed idsOf (linesFor sets) ≡ lentSum total sets
+sum-ids [] = refl
+sum-ids (set ∷ sets) = rw (one (lentSet set), sum-ids sets)
+  where
+    one : (x : Lent) → idsOf (lineOf x) ≡ lentNumber total x
+    one unfit = refl
+    one (form s) = words (total s)
+
+module _ (sets : List (List ℕ)) (few : length sets ≤ 64) where
+  all-lines : linesOf (reportOver sets) ≡ linesFor sets
+  all-lines = over-lines sets ∙ ap linesFor (take-all 64 sets few)
+
+  ids-are : ourReport .sums sets .high * 2 ^ 64 + ourReport .sums sets .low ≡ lentSum total sets
+  ids-are = words (summed idsOf (linesOf (reportOver sets))) ∙ ap (summed idsOf) all-lines ∙ sum-ids sets
+
+-- ---- the text
+
+line-is : (set : List ℕ) → SetLine set (lineText (lineOf (lentSet set)))
+unfolding countsText
+line-is set = go (lentSet set) refl
+  where
+    go : (x : Lent) → lentSet set ≡ x → SetLine set (lineText (lineOf x))
+    go unfit e = rw (refused-line (refusedLine 14) (λ h. omega arith)) (SetLine.refused (unfit-fault set e))
+    go (form s) e =
+        rw (set-line (lineOf (form s)) refl)
+        (SetLine.counted (lent-is set s e)
+        (record { high = highWord (total s); low = lowWord (total s); words = sym (words (total s)); small = low-small (total s); is = refl }))
+
+lines-are : (sets : List (List ℕ)) (last : List ℕ) → Lines sets last (linesText (linesFor sets) ++ last)
+unfolding linesText
+lines-are [] last = Lines.none last
+lines-are (set ∷ sets) last =
+    rw (append-assoc (lineText (lineOf (lentSet set))) (linesText (linesFor sets)) last) (Lines.next (line-is set) (lines-are sets last))
+
+module _ (sets : List (List ℕ)) (few : length sets ≤ 64) where
+  abbrev sumLine : List ℕ
+  sumLine = countsText sumWord (sumOf (linesFor sets))
+
+  sum-line : NumbersLine sumWord (lentSum length sets) (lentSum intervals sets) (lentSum total sets) sumLine
+  unfolding countsText
+  sum-line =
+      let ids = summed idsOf (linesFor sets) in
+      record {
+        high = highWord ids;
+        low = lowWord ids;
+        words = sym (words ids ∙ sum-ids sets);
+        small = low-small ids;
+        is = rw (sum-entries sets, sum-intervals sets);
+      }
+
+  text-is : ourReport .text sets ≡ linesText (linesFor sets) ++ sumLine
+  unfolding reportText
+  text-is = ap reportText (all-lines sets few)
+
+-- what comes behind 64 sets has no line
+module _ (sets more : List (List ℕ)) (all : length sets ≡ 64) where
+  beyond-lines : linesOf (reportOver (sets ++ more)) ≡ linesOf (reportOver sets)
+  beyond-lines =
+      over-lines (sets ++ more) ∙ ap linesFor (ap (λ (n : ℕ). take n (sets ++ more)) (sym all) ∙ take-append-seam sets more)
+      ∙ sym (all-lines sets (omega arith))
+
+report-holds : ReportsExactly ourReport
+report-holds = record {
+  answers = answers-exactly;
+  sum-entries = λ sets few. ap (summed (λ l. l .entries)) (all-lines sets few) ∙ sum-entries sets;
+  sum-intervals = λ sets few. ap (summed (λ l. l .intervals)) (all-lines sets few) ∙ sum-intervals sets;
+  sum-ids = ids-are;
+  words = λ sets few. low-small (summed idsOf (linesOf (reportOver sets)));
+  text = λ sets few. (sumLine sets few, sum-line sets few, rw (text-is sets few) (lines-are sets (sumLine sets few)));
+  beyond = λ sets more all. (ap sumOf (beyond-lines sets more all), ap reportText (beyond-lines sets more all));
+}
+
+-- ---- the archive's
+
+flat-over : (bs : List ℕ) (sets : List (List ℕ)) → length bs ≡ 1352
+    → (length (flatOver bs sets) ≡ 1352) × (reportIn (flatOver bs sets) ≡ withSets (reportIn bs) sets)
+flat-over bs [] long = (long, refl)
+flat-over bs (set ∷ sets) long =
+    let alike = adds-alike bs set long in
+    let (still, same) = flat-over (flatLeaves bs set) sets (alike .long) in
+    (still, same ∙ ap (λ (r : Report). withSets r sets) (alike .report))
+
+module _ (sets : List (List ℕ)) where
+  over-zeros : (length (flatOver zeros sets) ≡ 1352) × (reportIn (flatOver zeros sets) ≡ reportOver sets)
+  over-zeros =
+      let (long, same) = flat-over zeros sets (length-replicate {A = ℕ} 1352 0) in
+      (long, same ∙ ap (λ (r : Report). withSets r sets) zeros-new)
+
+  archive-line : (set : List ℕ) → flatAdds (flatOver zeros sets) set ≡ added (reportOver sets) set .line
+  archive-line set =
+      let (long, same) = over-zeros in
+      adds-alike (flatOver zeros sets) set long .line ∙ ap (λ (r : Report). added r set .line) same
+
+  archive-sums : flatSum (flatOver zeros sets) ≡ ourReport .sums sets
+  archive-sums =
+      let (long, same) = over-zeros in
+      flat-there (flatOver zeros sets) long .0 ∙ ap (λ (r : Report). sumOf (linesOf r)) same
+
+  archive-text : flatText (flatOver zeros sets) ≡ bytes (ourReport .text sets)
+  archive-text =
+      let (long, same) = over-zeros in
+      flat-there (flatOver zeros sets) long .1 ∙ ap (λ (r : Report). bytes (reportText (linesOf r))) same
+
+-- 12 says that there is no report: no set is refused with it
+line-not-12 : (x : Lent) → lineOf x .refusal ≡ 12 → ⊥
+line-not-12 unfit e = omega arith
+line-not-12 (form s) e = omega arith
+
+archive-refuses : (bs set : List ℕ) → Exactly (flatAdds bs set .refusal ≡ 12) (NoReport bs 12)
+archive-refuses bs set = (found, forced)
+  where
+    forced : NoReport bs 12 → flatAdds bs set .refusal ≡ 12
+    forced (NoReport.otherSize none) = ap (λ (l : Line). l .refusal) (adds-none bs set 12 (no-report bs none) (λ h. omega arith) .0)
+
+    found : flatAdds bs set .refusal ≡ 12 → NoReport bs 12
+    found e = NoReport.otherSize (λ long.
+        let line = adds-alike bs set long .line in
+        added-not-12 (reportIn bs) set (sym (ap (λ (l : Line). l .refusal) line) ∙ e))
+      where
+        added-not-12 : (r : Report) (bs : List ℕ) → added r bs .line .refusal ≡ 12 → ⊥
+        added-not-12 r bs h = parse-laws.split 64 (r .sets)
+            (λ full. let told = ap (λ (a : Added). a .line .refusal) (no-more r bs (refusedLine 11) full refl) in omega arith)
+            (λ free. line-not-12 (lentSet bs) (ap (λ (a : Added). a .line .refusal) (one-more r bs (lineOf (lentSet bs)) free refl) ∙ h))
+
+archive-sum-refuses : (bs : List ℕ) (n : ℕ) → Exactly ((flatRefusal bs ≡ n) × (n ≡ 0 → ⊥)) (NoReport bs n)
+archive-sum-refuses bs = judges-exactly (flatRefusal bs) 12 (NoReport bs) (eqb (length bs) 1352)
+    (λ h. flat-there bs (eqb-true (length bs) 1352 h) .2)
+    (λ h. sym (sum-none bs (eqb-false (length bs) 1352 h) .0))
+    (λ h. NoReport.otherSize (eqb-false (length bs) 1352 h))
+    is-12
+    (λ h. omega arith)
+  where
+    is-12 : (n : ℕ) → NoReport bs n → (n ≡ 12) × (eqb (length bs) 1352 ≡ false)
+    is-12 n (NoReport.otherSize none) = (refl, ne-eqb (length bs) 1352 none)
+
+archive-keeps : (bs set : List ℕ) (n : ℕ) → NoReport bs n → flatLeaves bs set ≡ bs
+archive-keeps bs set n (NoReport.otherSize none) = adds-none bs set 12 (no-report bs none) (λ h. omega arith) .1
+
+archive : ArchiveReports
+archive = record {
+  line = archive-line;
+  sums = archive-sums;
+  text = archive-text;
+  «gtid_report_add» = archive-refuses;
+  kept = archive-keeps;
+  «gtid_report_sum» = archive-sum-refuses;
+}
+
+-- ---- together
+
+longest-is : (sets : List (List ℕ)) → length (ourReport .text sets) ≤ 2476
+unfolding longestReport maxSets
+longest-is sets = longest sets
+
+no-sets : ourReport .text [] ≡ 115 ∷ 117 ∷ 109 ∷ 32 ∷ 48 ∷ 32 ∷ 48 ∷ 32 ∷ 48 ∷ 32 ∷ 48 ∷ 10 ∷ []
+unfolding reportText linesText countsText decimal decimalIn highWord lowWord maxSets
+no-sets = refl
+
+two-sets : ourReport .text (replicate 8 0 ∷ [] ∷ [])
+    ≡ (115 ∷ 101 ∷ 116 ∷ 32 ∷ 48 ∷ 32 ∷ 48 ∷ 32 ∷ 48 ∷ 32 ∷ 48 ∷ 10 ∷ [])
+    ++ (114 ∷ 101 ∷ 102 ∷ 117 ∷ 115 ∷ 101 ∷ 100 ∷ 32 ∷ 49 ∷ 52 ∷ 10 ∷ []) ++ (115 ∷ 117 ∷ 109 ∷ 32 ∷ 48 ∷ 32 ∷ 48 ∷ 32 ∷ 48 ∷ 32 ∷ 48 ∷ 10 ∷ [])
+unfolding reportText linesText lineText countsText refusedText decimal decimalIn highWord lowWord maxSets many bytesAt byteAt bodyLimit leOf leBytes leAt gnoTop saysTagged saysCount previous entriesBytes anyTag headerBytes bodyBytes maxEntries maxIntervals maxOfEntry judged limits lentSet
+two-sets = refl
+
+pub reports : Reports
+reports = record {
+  totals = totals;
+  report = report-holds;
+  «line_of» = λ set. set-exact (λ x. lineOf x .refusal) set refl (λ s. refl);
+  write = λ sets out. short-exactly (ourReport .text sets) out;
+  longest = longest-is;
+  none = no-sets;
+  two = two-sets;
+  archive = archive;
+}

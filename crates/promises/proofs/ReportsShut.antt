@@ -1,0 +1,86 @@
+-- Wrong reports are shut out, and an offer whose answers don't count what it adds.
+use Prim.Native.Nat.{ℕ, _*_, _-_, _^_}
+use mathlib.Core.Path.{_≡_, refl}
+use mathlib.Core.List.{List, [], _∷_}
+use native.Mathlib.Omega.{arith}
+use lib.ListN.{length, replicate}
+use Rattle.misc.specs.Parse.{many, bytesAt, byteAt}
+use Rattle.misc.specs.Body.{bodyLimit}
+use Rattle.misc.specs.Le.{leOf, leBytes, leAt}
+use Rattle.misc.specs.Output.{outputOf}
+use Rattle.packets.specs.Gno.{gnoTop}
+use Rattle.previous_gtids_event.specs.Entry.{uuidOf, tagOf}
+use Rattle.previous_gtids_event.specs.Previous.{tagAt, keyAt, headAt, intervalAt, entryAt, saysTagged, saysCount, previous}
+use Rattle.previous_gtids_event.specs.Rewrite.{intervalsBytes, entryBytes, entriesBytes, anyTag, headerBytes, bodyBytes}
+use Rattle.gtid_sets.specs.Limits.{maxEntries, maxIntervals, maxOfEntry, judged, limits}
+use Rattle.gtid_sets.specs.Lent.{form, lentSet}
+use Rattle.gtid_sets.specs.Total.{total}
+use Rattle.gtid_sets.proofs.LentLaws.{lent-is}
+use Rattle.report.specs.Report.{highWord, lowWord, maxSets}
+use Rattle.resume_set_laws.specs.History.{Turn, keptAll, lentTotal, CountsTaken}
+use Rattle.promises.specs.Reports.{lentSum, AddAnswer, ReportsExactly}
+use Rattle.promises.specs.WrongOnes.{copiesItsSet, alone, allNumbers, losesCarry, countsOnce, countsRefused, forgetsRefused, readsOn}
+
+-- what the sums and answers come to
+record Computed : Type 0 where
+  -- three sets of 2^63 - 2 ids pass 2^64
+  thrice : lentSum total (allNumbers ∷ allNumbers ∷ allNumbers ∷ []) ≡ 3 * (2 ^ 63 - 2)
+  carry-lost : losesCarry .sums (allNumbers ∷ allNumbers ∷ allNumbers ∷ []) .high ≡ 0
+  -- {1} twice
+  twice : lentSum length (alone 1 ∷ alone 1 ∷ []) ≡ 2
+  once : countsOnce .sums (alone 1 ∷ alone 1 ∷ []) .entries ≡ 1
+  -- no bytes at all
+  refused : lentSum length ([] ∷ []) ≡ 0
+  counted : countsRefused .sums ([] ∷ []) .entries ≡ 1
+  forgotten : forgetsRefused .answers (replicate 64 []) (alone 1) ≡ 0
+  read : readsOn .answers (replicate 64 []) [] ≡ 14
+
+computed : Computed
+unfolding many bytesAt byteAt bodyLimit leOf leBytes leAt gnoTop uuidOf tagOf tagAt keyAt headAt intervalAt entryAt saysTagged saysCount previous intervalsBytes entryBytes entriesBytes anyTag headerBytes bodyBytes maxEntries maxIntervals maxOfEntry judged limits lentSet highWord lowWord maxSets
+computed = record {
+  thrice = refl;
+  carry-lost = refl;
+  twice = refl;
+  once = refl;
+  refused = refl;
+  counted = refl;
+  forgotten = refl;
+  read = refl;
+}
+
+losesCarry-out : ReportsExactly losesCarry → ⊥
+losesCarry-out h =
+    let sets = allNumbers ∷ allNumbers ∷ allNumbers ∷ [] in
+    omega (arith, h .sum-ids sets (omega arith), h .words sets (omega arith), computed .thrice, computed .carry-lost)
+
+countsOnce-out : ReportsExactly countsOnce → ⊥
+countsOnce-out h = omega (arith, h .sum-entries (alone 1 ∷ alone 1 ∷ []) (omega arith), computed .twice, computed .once)
+
+countsRefused-out : ReportsExactly countsRefused → ⊥
+countsRefused-out h = omega (arith, h .sum-entries ([] ∷ []) (omega arith), computed .refused, computed .counted)
+
+-- behind 64 of whatever, 11
+eleven : (set : List ℕ) → AddAnswer (replicate 64 []) set 11
+eleven set = AddAnswer.full (omega arith)
+
+forgetsRefused-out : ReportsExactly forgetsRefused → ⊥
+forgetsRefused-out h = omega (arith, h .answers (replicate 64 []) (alone 1) 11 .1 (eleven (alone 1)), computed .forgotten)
+
+readsOn-out : ReportsExactly readsOn → ⊥
+readsOn-out h = omega (arith, h .answers (replicate 64 []) [] 11 .1 (eleven []), computed .read)
+
+-- ---- an offer that says "taken" and adds nothing
+
+abbrev nothing : Turn
+nothing = record { type = 0; body = []; out = replicate 8 0 }
+
+empty-lent : lentSet (bodyBytes []) ≡ form []
+unfolding many bytesAt byteAt bodyLimit leOf leBytes leAt saysTagged saysCount previous entriesBytes anyTag headerBytes bodyBytes maxEntries maxIntervals judged limits lentSet
+empty-lent = refl
+
+copied : lentTotal (lentSet (keptAll copiesItsSet (bodyBytes []) (nothing ∷ []))) ≡ 0
+unfolding many bytesAt byteAt bodyLimit leOf leBytes leAt saysTagged saysCount previous entriesBytes anyTag headerBytes bodyBytes maxEntries maxIntervals judged limits lentSet outputOf
+copied = refl
+
+copies-uncounted : CountsTaken copiesItsSet → ⊥
+copies-uncounted h = omega (arith, h (bodyBytes []) [] (nothing ∷ []) (lent-is (bodyBytes []) [] empty-lent) ((λ i. omega arith), tt), copied)
