@@ -96,7 +96,8 @@ module _ (bs : List ℕ) (l : Line) (long : length bs ≡ 1352) (free : numberAt
 
   line-here : lineIn (part (withLineIn bs l) place 21) ≡ l
   line-here =
-      let there : part first place 21 ≡ flatLine l = ap (part first place) (sym (length-line l)) ∙ part-written bs place (flatLine l) (omega (arith, length-line l)) in
+      let there : part first place 21 ≡ flatLine l =
+      ap (part first place) (sym (length-line l)) ∙ part-written bs place (flatLine l) (omega (arith, length-line l)) in
       ap lineIn (behind-count place (omega arith) ∙ there) ∙ back
 
   line-before : (q : ℕ) → 8 ≤ q → q + 21 ≤ place → part (withLineIn bs l) q 21 ≡ part bs q 21

@@ -34,7 +34,7 @@ use Rattle.report.proofs.LineLaws.{one-more, no-more}
 use Rattle.report.proofs.TextLaws.{set-line, refused-line}
 use Rattle.report.proofs.BuiltLaws.{over-count, over-lines, longest}
 use Rattle.abi.specs.FlatReport.{reportIn, flatAdds, flatLeaves, flatRefusal, flatSum, flatText}
-use Rattle.abi.proofs.FlatReportLaws.{no-report, adds-none, sum-none, flat-there}
+use Rattle.abi.proofs.FlatReportLaws.{no-report, no-place, place-cases, adds-here, adds-none, sum-none, flat-there}
 use Rattle.abi.proofs.FlatReportBack.{adds-alike, zeros-new}
 use Rattle.promises.specs.Exact.{Exactly}
 use Rattle.promises.specs.Reports.{CountsMembers, lentNumber, lentSum, AddAnswer, NumbersLine, SetLine, Lines, ReportsExactly, ourReport, flatOver, zeros, NoReport, ArchiveReports, Reports}
@@ -232,8 +232,15 @@ archive-sum-refuses bs = judges-exactly (flatRefusal bs) 12 (NoReport bs) (eqb (
     is-12 : (n : ℕ) → NoReport bs n → (n ≡ 12) × (eqb (length bs) 1352 ≡ false)
     is-12 n (NoReport.otherSize none) = (refl, ne-eqb (length bs) 1352 none)
 
-archive-keeps : (bs set : List ℕ) (n : ℕ) → NoReport bs n → flatLeaves bs set ≡ bs
-archive-keeps bs set n (NoReport.otherSize none) = adds-none bs set 12 (no-report bs none) (λ h. omega arith) .1
+archive-keeps : (bs set : List ℕ) → (flatAdds bs set .refusal ≡ 0 → ⊥) → (flatAdds bs set .refusal ≡ 14 → ⊥) → flatLeaves bs set ≡ bs
+archive-keeps bs set some other = place-cases bs
+    (λ none. adds-none bs set 12 (no-report bs none) (λ h. omega arith) .1)
+    (λ long full. adds-none bs set 11 (no-place bs long full) (λ h. omega arith) .1)
+    (λ long free. read (lentSet set) (ap (λ (l : Line). l .refusal) (adds-here bs set long free .0)))
+  where
+    read : (x : Lent) → flatAdds bs set .refusal ≡ lineOf x .refusal → flatLeaves bs set ≡ bs
+    read unfit told = absurd (other told)
+    read (form s) told = absurd (some told)
 
 archive : ArchiveReports
 archive = record {

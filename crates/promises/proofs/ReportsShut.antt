@@ -48,26 +48,26 @@ computed = record {
   read = refl;
 }
 
-losesCarry-out : ReportsExactly losesCarry → ⊥
-losesCarry-out h =
+pub loses-carry-out : ReportsExactly losesCarry → ⊥
+loses-carry-out h =
     let sets = allNumbers ∷ allNumbers ∷ allNumbers ∷ [] in
     omega (arith, h .sum-ids sets (omega arith), h .words sets (omega arith), computed .thrice, computed .carry-lost)
 
-countsOnce-out : ReportsExactly countsOnce → ⊥
-countsOnce-out h = omega (arith, h .sum-entries (alone 1 ∷ alone 1 ∷ []) (omega arith), computed .twice, computed .once)
+pub counts-once-out : ReportsExactly countsOnce → ⊥
+counts-once-out h = omega (arith, h .sum-entries (alone 1 ∷ alone 1 ∷ []) (omega arith), computed .twice, computed .once)
 
-countsRefused-out : ReportsExactly countsRefused → ⊥
-countsRefused-out h = omega (arith, h .sum-entries ([] ∷ []) (omega arith), computed .refused, computed .counted)
+pub counts-refused-out : ReportsExactly countsRefused → ⊥
+counts-refused-out h = omega (arith, h .sum-entries ([] ∷ []) (omega arith), computed .refused, computed .counted)
 
 -- behind 64 of whatever, 11
 eleven : (set : List ℕ) → AddAnswer (replicate 64 []) set 11
 eleven set = AddAnswer.full (omega arith)
 
-forgetsRefused-out : ReportsExactly forgetsRefused → ⊥
-forgetsRefused-out h = omega (arith, h .answers (replicate 64 []) (alone 1) 11 .1 (eleven (alone 1)), computed .forgotten)
+pub forgets-refused-out : ReportsExactly forgetsRefused → ⊥
+forgets-refused-out h = omega (arith, h .answers (replicate 64 []) (alone 1) 11 .1 (eleven (alone 1)), computed .forgotten)
 
-readsOn-out : ReportsExactly readsOn → ⊥
-readsOn-out h = omega (arith, h .answers (replicate 64 []) [] 11 .1 (eleven []), computed .read)
+pub reads-on-out : ReportsExactly readsOn → ⊥
+reads-on-out h = omega (arith, h .answers (replicate 64 []) [] 11 .1 (eleven []), computed .read)
 
 -- ---- an offer that says "taken" and adds nothing
 
@@ -82,5 +82,5 @@ copied : lentTotal (lentSet (keptAll copiesItsSet (bodyBytes []) (nothing ∷ []
 unfolding many bytesAt byteAt bodyLimit leOf leBytes leAt saysTagged saysCount previous entriesBytes anyTag headerBytes bodyBytes maxEntries maxIntervals judged limits lentSet outputOf
 copied = refl
 
-copies-uncounted : CountsTaken copiesItsSet → ⊥
-copies-uncounted h = omega (arith, h (bodyBytes []) [] (nothing ∷ []) (lent-is (bodyBytes []) [] empty-lent) ((λ i. omega arith), tt), copied)
+pub copies-uncounted-out : CountsTaken copiesItsSet → ⊥
+copies-uncounted-out h = omega (arith, h (bodyBytes []) [] (nothing ∷ []) (lent-is (bodyBytes []) [] empty-lent) ((λ i. omega arith), tt), copied)

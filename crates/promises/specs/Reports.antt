@@ -120,9 +120,10 @@ pub record ArchiveReports : Type 0 where
   pub line : (before : List (List ℕ)) (set : List ℕ) → flatAdds (flatOver zeros before) set ≡ added (reportOver before) set .line
   pub sums : (sets : List (List ℕ)) → flatSum (flatOver zeros sets) ≡ ourReport .sums sets
   pub text : (sets : List (List ℕ)) → flatText (flatOver zeros sets) ≡ bytes (ourReport .text sets)
-  -- bytes that are no report are 12, and stay
+  -- bytes that are no report are 12
   pub «gtid_report_add» : (bs set : List ℕ) → Exactly (flatAdds bs set .refusal ≡ 12) (NoReport bs 12)
-  pub kept : (bs set : List ℕ) (n : ℕ) → NoReport bs n → flatLeaves bs set ≡ bs
+  -- every refusal leaves them as they were, but for 14, which is a line of the report
+  pub kept : (bs set : List ℕ) → (flatAdds bs set .refusal ≡ 0 → ⊥) → (flatAdds bs set .refusal ≡ 14 → ⊥) → flatLeaves bs set ≡ bs
   pub «gtid_report_sum» : (bs : List ℕ) → RefusesExactly (flatRefusal bs) (NoReport bs)
 
 -- ---- together

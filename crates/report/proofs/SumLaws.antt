@@ -110,5 +110,6 @@ module _ (sum : Counts) (line : Line) (more : Counts) (told : more ≡ countsOf 
     high = ids .high;
     low = ids .low;
   }) (plusOf sum line)
-      × ((sum .entries + more .entries ≤ sum .entries + 2 ^ 32) × (sum .intervals + more .intervals ≤ sum .intervals + 2 ^ 32) × (ids .high ≤ sum .high + 2 ^ 32))
+      × ((sum .entries + more .entries ≤ sum .entries + 2 ^ 32) × (sum .intervals + more .intervals ≤ sum .intervals + 2 ^ 32)
+      × (ids .high ≤ sum .high + 2 ^ 32))
   plus-made = (rw (added, told), (omega (arith, small .0), omega (arith, small .1), carried))

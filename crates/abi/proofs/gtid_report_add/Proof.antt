@@ -39,8 +39,12 @@ same-length-2 c = search needs
 
 returns-2 : tie.Need-returns-2
 returns-2 c =
-    let a = c .before .before .before .before .before .before .before .before .before .before .before .before .before .args in
-    kept-told (now (a .report)) (now (a .set)) (sym (c .before .before .before .before .before .before .before .before .if1 .left) ∙ c .before .before .before .before .before .before .before .before .before .room-for .ensures) _ (c .before .before .before .before .before .before .before .line-of .ensures) _ (c .before .before .before .before .before .keep-line .ensures)
+    let kept = c .before .before .before .before .before in
+    let line = kept .before .before in
+    let free = line .before in
+    let room = free .before in
+    let a = room .before .before .before .before .args in
+    kept-told (now (a .report)) (now (a .set)) (sym (free .if1 .left) ∙ room .room-for .ensures) _ (line .line-of .ensures) _ (kept .keep-line .ensures)
 
 pub gtid-report-add-spec : {M : Type 1} → statement M
 gtid-report-add-spec =

@@ -26,8 +26,13 @@ same-length c = search needs
 returns : tie.Need-returns
 unfolding flatLine
 returns c =
-    put-placed (c .before .before .before .before .before .before .before .before .before .before .before .before .before .before .before .before .before .before .put-byte .ensures) also put-placed (c .before .before .before .before .before .before .before .before .before .before .before .before .before .before .put-u32-le .ensures) also put-placed (c .before .before .before .before .before .before .before .before .before .before .put-u32-le2 .ensures)
-    also put-placed (c .before .before .before .before .before .before .put-u32-le3 .ensures) also put-placed (c .before .before .put-u64-le .ensures)
+    let low = c .before .before in
+    let high = low .before .before .before .before in
+    let intervals = high .before .before .before .before in
+    let entries = intervals .before .before .before .before in
+    let refusal = entries .before .before .before .before in
+    put-placed (refusal .put-byte .ensures) also put-placed (entries .put-u32-le .ensures) also put-placed (intervals .put-u32-le2 .ensures)
+    also put-placed (high .put-u32-le3 .ensures) also put-placed (low .put-u64-le .ensures)
 
 pub put-line-spec : {M : Type 1} → statement M
 put-line-spec =

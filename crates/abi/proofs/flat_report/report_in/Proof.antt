@@ -55,7 +55,8 @@ loop-less c = omega arith
 loop-again : tie.Need-loop-again Inv-loop μ-loop
 loop-again c =
     let l = c .before .before .before .loop in
-    reading-turn (now (c .before .before .before .before .before .before .before .args .s)) _ _ _ (l .inv) (omega arith) ((l .at + 21) - l .at) (omega arith) _ (c .line-in .ensures)
+    let s = now (c .before .before .before .before .before .before .before .args .s) in
+    reading-turn s _ _ _ (l .inv) (omega arith) ((l .at + 21) - l .at) (omega arith) _ (c .line-in .ensures)
 
 number-at-requires : tie.Need-number-at-requires Inv-loop μ-loop
 number-at-requires c κs = search needs

@@ -23,9 +23,13 @@ add-len c = search needs
 
 returns : tie.Need-returns
 returns c =
-    let a = c .before .before .before .before .before .before .before .args in
-    let same = kept-lines (a .self) _ (c .before .before .before .before .kept .ensures) in
-    report-short _ _ same _ (c .before .before .before .sum-of .ensures) _ _ (c .before .before .lines-len .ensures .0) (c .before .counts-len .ensures .0) (now (a .out)) (omega arith)
+    let last = c .before in
+    let lines = last .before in
+    let sum = lines .before in
+    let kept = sum .before in
+    let a = kept .before .before .before .args in
+    let same = kept-lines (a .self) _ (kept .kept .ensures) in
+    report-short _ _ same _ (sum .sum-of .ensures) _ _ (lines .lines-len .ensures .0) (last .counts-len .ensures .0) (now (a .out)) (omega arith)
 
 put-lines-requires : tie.Need-put-lines-requires
 put-lines-requires c κs = search needs
@@ -41,10 +45,16 @@ same-length c = search needs
 
 returns-2 : tie.Need-returns-2
 returns-2 c =
-    let a = c .before .before .before .before .before .before .before .before .before .before .before .before .before .before .before .before .args in
-    let same = kept-lines (a .self) _ (c .before .before .before .before .before .before .before .before .before .before .before .before .before .kept .ensures) in
-    report-fits _ _ same _ (c .before .before .before .before .before .before .before .before .before .before .before .before .sum-of .ensures) _ _ (c .before .before .before .before .before .before .before .before .before .before .before .lines-len .ensures .0) (c .before .before .before .before .before .before .before .before .before .before .counts-len .ensures .0) (now (a .out)) (omega arith)
-    (c .before .before .before .before .before .before .before .put-lines .ensures) (c .before .before .put-counts .ensures)
+    let put = c .before .before in
+    let put-all = put .before .before .before .before .before in
+    let last = put-all .before .before .before in
+    let lines = last .before in
+    let sum = lines .before in
+    let kept = sum .before in
+    let a = kept .before .before .before .args in
+    let same = kept-lines (a .self) _ (kept .kept .ensures) in
+    report-fits _ _ same _ (sum .sum-of .ensures) _ _ (lines .lines-len .ensures .0) (last .counts-len .ensures .0) (now (a .out)) (omega arith)
+    (put-all .put-lines .ensures) (put .put-counts .ensures)
 
 pub write-spec : {M : Type 1} → statement M
 write-spec =

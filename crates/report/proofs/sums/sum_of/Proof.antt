@@ -36,7 +36,8 @@ loop-again : tie.Need-loop-again Inv-loop μ-loop
 loop-again c =
     let l = c .before .before .before .loop in
     let s = c .before .before .before .before in
-    (omega arith, summing-next (s .args .t1) (s .args .count) _ (l .i) (omega arith) (omega (arith, s .pre)) (l .inv .1) _ (c .with-line .ensures .0) (c .with-line .ensures .1))
+    let said = c .with-line .ensures in
+    (omega arith, summing-next (s .args .t1) (s .args .count) _ (l .i) (omega arith) (omega (arith, s .pre)) (l .inv .1) _ (said .0) (said .1))
 
 returns : tie.Need-returns Inv-loop μ-loop
 returns c =

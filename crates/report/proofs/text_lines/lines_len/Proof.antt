@@ -25,7 +25,9 @@ line-len-requires : tie.Need-line-len-requires Inv-loop μ-loop
 line-len-requires c κs = search needs
 
 add-len : tie.Need-add-len Inv-loop μ-loop
-add-len c = record { fits = omega (arith, c .before .before .before .loop .inv .1 .most, c .before .before .before .loop .inv .0, c .before .before .before .before .pre, c .line-len .ensures .1) }
+add-len c =
+    let l = c .before .before .before .loop in
+    record { fits = omega (arith, l .inv .1 .most, l .inv .0, c .before .before .before .before .pre, c .line-len .ensures .1) }
 
 add-i : tie.Need-add-i Inv-loop μ-loop
 add-i c = record { fits = omega arith }

@@ -32,11 +32,15 @@ same-length c = search needs
 
 returns : tie.Need-returns
 returns c =
-    let a = c .before .before .before .before .before .before .before .before .before .before .before .before .before .before .before .before .before .before .before .before .before .before .before .before .before .before .before .args in
-    let word = c .before .before .before .before .before .before .before .before .before .before .before .before .before .before .before .before .before .before .before .before .before .before .before .put-bytes .ensures in
-    let last = c .before .before .put-bytes2 .ensures in
-    counts-put (now (a .word)) (a .counts) (put-placed word) (c .before .before .before .before .before .before .before .before .before .before .before .before .before .before .before .before .before .before .before .put-number .ensures) (c .before .before .before .before .before .before .before .before .before .before .before .before .before .before .before .put-number2 .ensures)
-    (c .before .before .before .before .before .before .before .before .before .before .before .put-number3 .ensures) (c .before .before .before .before .before .before .before .put-number4 .ensures) (put-placed last)
+    let last = c .before .before in
+    let low = last .before .before .before .before .before in
+    let high = low .before .before .before .before in
+    let intervals = high .before .before .before .before in
+    let entries = intervals .before .before .before .before in
+    let word = entries .before .before .before .before in
+    let a = word .before .before .before .before .args in
+    counts-put (now (a .word)) (a .counts) (put-placed (word .put-bytes .ensures)) (entries .put-number .ensures) (intervals .put-number2 .ensures)
+    (high .put-number3 .ensures) (low .put-number4 .ensures) (put-placed (last .put-bytes2 .ensures))
 
 pub put-counts-spec : {M : Type 1} → statement M
 put-counts-spec =
