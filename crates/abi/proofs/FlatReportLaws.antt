@@ -1,5 +1,4 @@
--- Laws of a report as bytes (`specs/FlatReport.antt`): what is read from it, what the calls over it answer and leave, and that adding a set to the
--- bytes adds it to the report.
+-- Laws of a report as bytes (`specs/FlatReport.antt`): what is read from it, and what the calls over it answer and leave.
 use Prim.Native.Nat.{ℕ, suc, _+_, _-_, _*_, _<_, _≤_}
 use mathlib.Core.Path.{_≡_, refl, sym, ap, _∙_}
 use mathlib.Core.List.{List, [], _∷_, _++_, append-nil, append-assoc}

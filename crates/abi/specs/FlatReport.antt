@@ -50,7 +50,7 @@ flatAdds bs set = pick (isReport bs) (added (reportIn bs) set .line) (refusedLin
 abbrev pub withLineIn : List ℕ → Line → List ℕ
 withLineIn bs l = written (written bs (8 + 21 * numberAt bs 0) (flatLine l)) 0 (leBytes 8 (numberAt bs 0 + 1))
 
--- so the bytes are afterwards, where they are a report with a place for it (`adds-one` of proofs/FlatReportLaws.antt: it is the report with this set)
+-- so the bytes are afterwards, where they are a report with a place for it (`adds-alike` of proofs/FlatReportBack.antt: they are the report with this set)
 unfoldable pub flatLeaves : List ℕ → List ℕ → List ℕ
 flatLeaves bs set = pick (isReport bs) (pick (ltb (numberAt bs 0) maxSets) (withLineIn bs (flatAdds bs set)) bs) bs
 
