@@ -18,9 +18,13 @@ use Rattle.gtid_event_write.specs.Size.{sizeWith, payloadSize, sizeIn64}
 use Rattle.gtid_event_write.specs.Layout.{itemsBytes, identityBytes, clockBytes, restBytes, fieldBytes, taggedBytes, openingBytes, laterBytes, untaggedBytes}
 use Rattle.gtid_event_write.specs.Write.{eventBytes}
 use Rattle.set_check.specs.Places.{numberAt}
+use Rattle.text.specs.Digits.{decimalIn, decimal}
+use Rattle.text.specs.Lines.{refusedText}
+use Rattle.report.specs.Report.{highWord, lowWord}
+use Rattle.report.specs.Text.{countsText, lineText, linesText, reportText}
 use Rattle.abi.specs.Flat.{flatIdentity, flatClock, flatRest, flat, fourAt, flatRead}
 use Rattle.promises.specs.Edges.{edges, Agree}
 
 pub edges-agree : Agree edges
-unfolding many bytesAt byteAt bodyLimit meantBy signedAt naturalAt bitsOf limitedAt uuidAt tagAt fieldAt fieldsFrom openingAt untagged tagged seen leOf leBytes leAt lenencBytes trailingOnes itemValue varlenAt sizeFrom varlenSize itemOf varlenBytes sentAs padded allTagBytes isTag headerBytes sizeWith payloadSize sizeIn64 itemsBytes identityBytes clockBytes restBytes fieldBytes taggedBytes openingBytes laterBytes untaggedBytes eventBytes numberAt flatIdentity flatClock flatRest flat fourAt flatRead
+unfolding many bytesAt byteAt bodyLimit meantBy signedAt naturalAt bitsOf limitedAt uuidAt tagAt fieldAt fieldsFrom openingAt untagged tagged seen leOf leBytes leAt lenencBytes trailingOnes itemValue varlenAt sizeFrom varlenSize itemOf varlenBytes sentAs padded allTagBytes isTag headerBytes sizeWith payloadSize sizeIn64 itemsBytes identityBytes clockBytes restBytes fieldBytes taggedBytes openingBytes laterBytes untaggedBytes eventBytes numberAt flatIdentity flatClock flatRest flat fourAt flatRead reportText linesText lineText countsText refusedText decimal decimalIn highWord lowWord
 edges-agree = refl

@@ -4,25 +4,18 @@ use mathlib.Core.Path.{_≡_, refl, sym, ap, _∙_}
 use mathlib.Core.Bool.{false}
 use mathlib.Core.List.{List, [], _∷_, _++_, append-assoc}
 use native.Mathlib.Omega.{arith}
-use lib.ListN.{length, take, replicate, length-replicate}
+use lib.ListN.{length, take, length-replicate}
 use lib.Seq.{take-all, take-append-seam}
 use lib.Dec.{eqb}
 use borrow.Author.Tests.{ne-eqb, eqb-true, eqb-false}
-use Rattle.misc.specs.Parse.{many, bytesAt, byteAt}
-use Rattle.misc.specs.Body.{bodyLimit}
-use Rattle.misc.specs.Le.{leOf, leBytes, leAt}
 use Rattle.misc.specs.Output.{bytes}
 use Rattle.misc.proofs.ParseLaws as parse-laws
-use Rattle.packets.specs.Gno.{gnoTop}
-use Rattle.previous_gtids_event.specs.Previous.{saysTagged, saysCount, previous}
-use Rattle.previous_gtids_event.specs.Rewrite.{entriesBytes, anyTag, headerBytes, bodyBytes}
-use Rattle.gtid_sets.specs.Limits.{maxEntries, maxIntervals, maxOfEntry, intervals, judged, limits}
-use Rattle.gtid_sets.specs.Lent.{Lent, form, unfit, lentSet}
+use Rattle.previous_gtids_event.specs.Entry.{Entry}
+use Rattle.gtid_sets.specs.Limits.{intervals}
+use Rattle.gtid_sets.specs.Lent.{Lent, form, unfit, lentSet, SetLaid}
 use Rattle.gtid_sets.specs.Total.{total}
 use Rattle.gtid_sets.proofs.LentLaws.{lent-is, is-lent}
 use Rattle.gtid_sets.proofs.TotalLaws.{total-counts, total-named, same-total, part-total, either-total}
-use Rattle.text.specs.Digits.{decimalIn, decimal}
-use Rattle.text.specs.Lines.{refusedText}
 use Rattle.report.specs.Report.{highWord, lowWord, refusedLine, lineOf, idsOf, maxSets, linesOf, added, summed, sumOf}
 use Rattle.report.specs.Built.{withSets, reportOver, linesFor}
 use Rattle.report.specs.Text.{sumWord, countsText, lineText, linesText, reportText, longestReport}
@@ -258,24 +251,17 @@ longest-is : (sets : List (List ℕ)) → length (ourReport .text sets) ≤ 2476
 unfolding longestReport maxSets
 longest-is sets = longest sets
 
-no-sets : ourReport .text [] ≡ 115 ∷ 117 ∷ 109 ∷ 32 ∷ 48 ∷ 32 ∷ 48 ∷ 32 ∷ 48 ∷ 32 ∷ 48 ∷ 10 ∷ []
-unfolding reportText linesText countsText decimal decimalIn highWord lowWord maxSets
-no-sets = refl
-
-two-sets : ourReport .text (replicate 8 0 ∷ [] ∷ [])
-    ≡ (115 ∷ 101 ∷ 116 ∷ 32 ∷ 48 ∷ 32 ∷ 48 ∷ 32 ∷ 48 ∷ 32 ∷ 48 ∷ 10 ∷ [])
-    ++ (114 ∷ 101 ∷ 102 ∷ 117 ∷ 115 ∷ 101 ∷ 100 ∷ 32 ∷ 49 ∷ 52 ∷ 10 ∷ []) ++ (115 ∷ 117 ∷ 109 ∷ 32 ∷ 48 ∷ 32 ∷ 48 ∷ 32 ∷ 48 ∷ 32 ∷ 48 ∷ 10 ∷ [])
-unfolding reportText linesText lineText countsText refusedText decimal decimalIn highWord lowWord maxSets many bytesAt byteAt bodyLimit leOf leBytes leAt gnoTop saysTagged saysCount previous entriesBytes anyTag headerBytes bodyBytes maxEntries maxIntervals maxOfEntry judged limits lentSet
-two-sets = refl
+numbers-are : (set : List ℕ) (s : List Entry) → SetLaid set s → let l = lineOf (lentSet set) in
+    (l .entries ≡ length s) × (l .intervals ≡ intervals s) × (l .high * 2 ^ 64 + l .low ≡ total s) × (l .low < 2 ^ 64)
+numbers-are set s laid = rw (is-lent set s laid) (refl, refl, words (total s), low-small (total s))
 
 pub reports : Reports
 reports = record {
   totals = totals;
   report = report-holds;
   «line_of» = λ set. set-exact (λ x. lineOf x .refusal) set refl (λ s. refl);
+  numbers = numbers-are;
   write = λ sets out. short-exactly (ourReport .text sets) out;
   longest = longest-is;
-  none = no-sets;
-  two = two-sets;
   archive = archive;
 }

@@ -22,8 +22,11 @@ use Rattle.gtid_event_write.specs.Size.{payloadSize, sizeIn64}
 use Rattle.gtid_event_write.specs.Write.{eventBytes}
 use Rattle.gtid_sets.specs.Set.{add}
 use Rattle.gtid_sets.specs.Combine.{either, both, without, marks, combined, subset}
-use Rattle.gtid_sets.specs.Lent.{form}
+use Rattle.gtid_sets.specs.Lent.{form, unfit}
+use Rattle.gtid_sets.specs.Total.{total}
 use Rattle.two_sets.specs.Answers.{headRead}
+use Rattle.report.specs.Report.{lineOf}
+use Rattle.report.specs.Text.{lineText, reportText}
 use Rattle.abi.specs.Answers.{headNumbers, bit}
 use Rattle.abi.specs.Flat.{flat, flatRead}
 
@@ -145,6 +148,14 @@ otherList = interval 3 8 ∷ interval 20 21 ∷ []
 abbrev ofZeros : List Interval → List Entry
 ofZeros is = entry (replicate 16 0) is ∷ []
 
+-- these intervals for each of three uuids
+abbrev thrice : List Interval → List Entry
+thrice is = entry (replicate 16 0) is ∷ entry (replicate 16 1) is ∷ entry (replicate 16 2) is ∷ []
+
+-- ` 0 0 0 0`, and the newline
+abbrev fourZeros : List ℕ
+fourZeros = 32 ∷ 48 ∷ 32 ∷ 48 ∷ 32 ∷ 48 ∷ 32 ∷ 48 ∷ 10 ∷ []
+
 abbrev ofTag : List Interval → List Entry
 ofTag is = entry (replicate 16 0 ++ (97 ∷ [])) is ∷ []
 
@@ -199,6 +210,15 @@ edges =
     ∷ edge (headAs (ofZeros oneList) (ofZeros (interval 3 6 ∷ []))) (0 ∷ 1 ∷ [])
     ∷ edge (headAs (ofZeros oneList) (ofZeros otherList)) (22 ∷ 0 ∷ [])
     ∷ edge (headAs [] []) (0 ∷ 1 ∷ [])
+    -- a report over no set is `sum 0 0 0 0`; over the empty set and bytes that are none `set 0 0 0 0`, `refused 14`, `sum 0 0 0 0`
+    ∷ edge (reportText []) (115 ∷ 117 ∷ 109 ∷ fourZeros)
+    ∷ edge (reportText (lineOf (form []) ∷ lineOf unfit ∷ []))
+    ((115 ∷ 101 ∷ 116 ∷ fourZeros) ++ (114 ∷ 101 ∷ 102 ∷ 117 ∷ 115 ∷ 101 ∷ 100 ∷ 32 ∷ 49 ∷ 52 ∷ 10 ∷ []) ++ (115 ∷ 117 ∷ 109 ∷ fourZeros))
+    -- {1-9, 20} of three uuids, and all numbers of three: 30 ids, and 1 times 2^64 and 9,223,372,036,854,775,802
+    ∷ edge (only (total (thrice (interval 1 10 ∷ interval 20 21 ∷ [])))) (only 30)
+    ∷ edge (lineText (lineOf (form (thrice (interval 1 (2 ^ 63 - 1) ∷ [])))))
+    ((115 ∷ 101 ∷ 116 ∷ 32 ∷ 51 ∷ 32 ∷ 51 ∷ 32 ∷ 49 ∷ 32 ∷ 57 ∷ 50 ∷ 50 ∷ 51 ∷ 51 ∷ 55 ∷ 50 ∷ 48 ∷ 51 ∷ 54 ∷ 56 ∷ 53 ∷ 52 ∷ 55 ∷ 55 ∷ 53 ∷ 56 ∷ [])
+    ++ (48 ∷ 50 ∷ 10 ∷ []))
     -- the same uuid with a tag is another key: none is in both, two entries in either; and an entry that is left empty goes
     ∷ edge (only (length (combined both (ofZeros oneList) (ofTag oneList)))) (only 0)
     ∷ edge (only (length (combined either (ofZeros oneList) (ofTag oneList)))) (only 2)
