@@ -7,7 +7,8 @@ use probe_lines::line::push_text_if;
 use probe_lines::parts::u32_at;
 use report::Line;
 use report::Report;
-ghost use Prim.Native.Nat.{_≤_};
+ghost use Prim.Native.Nat.{_≤_, _-_};
+ghost use mathlib.Core.Path.{_≡_};
 ghost use lib.ListN.{length};
 
 // The report so far, the place of the next set, the end of what is said of those before it, and whether a refused one of these has a
@@ -25,9 +26,11 @@ fn nonzero(line: Line) -> bool {
 
 // Where a part of so many bytes ends; at the end of the whole if that comes first.
 pub fn part_end(at: usize, len: usize, whole: usize) -> usize
-    requires { ⌜ at ≤ whole ⌝ }
-    ensures { λ r. ⌜ (at ≤ r) × (r ≤ whole) ⌝ }
+    ensures { λ r. ⌜ r ≡ whole - (whole - at - len) ⌝ }
 {
+    if whole < at {
+        return whole;
+    }
     if whole - at < len {
         return whole;
     }

@@ -1,6 +1,6 @@
 -- Month's end: totals, the report, and the archive's.
 use Prim.Native.Nat.{ℕ, _+_, _*_, _^_, _<_, _≤_}
-use mathlib.Core.Path.{_≡_, refl, sym, ap, _∙_}
+use mathlib.Core.Path.{_≡_, refl, sym, ap, subst, _∙_}
 use mathlib.Core.Bool.{false}
 use mathlib.Core.List.{List, [], _∷_, _++_, append-assoc}
 use native.Mathlib.Omega.{arith}
@@ -8,11 +8,11 @@ use lib.ListN.{length, take, length-replicate}
 use lib.Seq.{take-all, take-append-seam}
 use lib.Dec.{eqb}
 use borrow.Author.Tests.{ne-eqb, eqb-true, eqb-false}
-use Rattle.misc.specs.Output.{bytes}
+use Rattle.misc.specs.Refusal.{Refusal, number, notWritable}
+use Rattle.misc.specs.Output.{refused, bytes}
 use Rattle.misc.proofs.ParseLaws as parse-laws
-use Rattle.previous_gtids_event.specs.Entry.{Entry}
 use Rattle.gtid_sets.specs.Limits.{intervals}
-use Rattle.gtid_sets.specs.Lent.{Lent, form, unfit, lentSet, SetLaid}
+use Rattle.gtid_sets.specs.Lent.{Lent, form, unfit, lentSet}
 use Rattle.gtid_sets.specs.Total.{total}
 use Rattle.gtid_sets.proofs.LentLaws.{lent-is, is-lent}
 use Rattle.gtid_sets.proofs.TotalLaws.{total-counts, total-named, same-total, part-total, either-total}
@@ -22,7 +22,7 @@ use Rattle.report.specs.Text.{sumWord, countsText, lineText, linesText, reportT
 use Rattle.report.specs.declared.Line.{Line}
 use Rattle.report.specs.declared.Added.{Added}
 use Rattle.report.specs.declared.Report.{Report}
-use Rattle.report.proofs.WideLaws.{words, low-small}
+use Rattle.report.proofs.WideLaws.{words, low-small, high-is, low-is}
 use Rattle.report.proofs.LineLaws.{one-more, no-more}
 use Rattle.report.proofs.TextLaws.{set-line, refused-line}
 use Rattle.report.proofs.BuiltLaws.{over-count, over-lines, longest}
@@ -30,9 +30,10 @@ use Rattle.abi.specs.FlatReport.{reportIn, flatAdds, flatLeaves, flatRefusal, f
 use Rattle.abi.proofs.FlatReportLaws.{no-report, no-place, place-cases, adds-here, adds-none, sum-none, flat-there}
 use Rattle.abi.proofs.FlatReportBack.{adds-alike, zeros-new}
 use Rattle.promises.specs.Exact.{Exactly}
-use Rattle.promises.specs.Reports.{CountsMembers, lentNumber, lentSum, AddAnswer, NumbersLine, SetLine, Lines, ReportsExactly, ourReport, flatOver, zeros, NoReport, ArchiveReports, Reports}
-use Rattle.promises.proofs.Exactly.{short-exactly, judges-exactly}
-use Rattle.promises.proofs.SetsExact.{unfit-fault, fault-unfit, set-exact}
+use Rattle.promises.specs.Reports.{CountsMembers, lentNumber, lentSum, noNumbers, Told, AddAnswer, NumbersLine, SetLine, Lines, ReportsExactly, ourReport, flatOver, zeros, NoReport, ArchiveReports, Reports}
+use Rattle.promises.proofs.Exactly.{short-exactly, judges-exactly, writes-exactly}
+use Rattle.promises.proofs.Forces.{WriterRefuses}
+use Rattle.promises.proofs.SetsExact.{apart, unfit-fault, fault-unfit}
 
 totals : CountsMembers
 totals = record {
@@ -45,32 +46,40 @@ totals = record {
 
 -- ---- answers
 
-module _ (before : List (List ℕ)) (set : List ℕ) where
-  answer-full : 64 ≤ length before → ourReport .answers before set ≡ 11
-  answer-full h = ap (λ (a : Added). a .line .refusal) (sym (no-more (reportOver before) set (refusedLine 11) (omega (arith, over-count before)) refl))
+module _ (set : List ℕ) where
+  told-found : (x : Lent) → lentSet set ≡ x → Told set (lineOf x)
+  told-found unfit e = Told.badSet (unfit-fault set e)
+  told-found (form s) e = Told.counted (lent-is set s e) (sym (words (total s))) (low-small (total s))
 
-  answer-line : length before < 64 → ourReport .answers before set ≡ lineOf (lentSet set) .refusal
+  told-forced : (l : Line) → Told set l → lineOf (lentSet set) ≡ l
+  told-forced l (Told.badSet {n = n} fault) =
+      let (is, none) = fault-unfit set n fault in
+      ap lineOf none ∙ ap noNumbers (sym is)
+  told-forced l (Told.counted {s = s} {high = high} {low = low} laid value small) =
+      ap lineOf (is-lent set s laid) ∙ rw (← high-is high low (total s) small (sym value), ← low-is high low (total s) small (sym value)) refl
+
+  told-exactly : (l : Line) → Exactly (lineOf (lentSet set) ≡ l) (Told set l)
+  told-exactly l = (λ e. subst (Told set) e (told-found (lentSet set) refl), told-forced l)
+
+module _ (before : List (List ℕ)) (set : List ℕ) where
+  answer-full : 64 ≤ length before → ourReport .answers before set ≡ noNumbers 11
+  answer-full h = ap (λ (a : Added). a .line) (sym (no-more (reportOver before) set (refusedLine 11) (omega (arith, over-count before)) refl))
+
+  answer-line : length before < 64 → ourReport .answers before set ≡ lineOf (lentSet set)
   answer-line h =
-      ap (λ (a : Added). a .line .refusal) (sym (one-more (reportOver before) set (lineOf (lentSet set)) (omega (arith, over-count before)) refl))
+      ap (λ (a : Added). a .line) (sym (one-more (reportOver before) set (lineOf (lentSet set)) (omega (arith, over-count before)) refl))
 
   answer-found : AddAnswer before set (ourReport .answers before set)
   answer-found = parse-laws.split 64 (length before)
       (λ h. rw (answer-full h) (AddAnswer.full h))
-      (λ h. rw (answer-line h) (go h (lentSet set) refl))
-    where
-      go : length before < 64 → (x : Lent) → lentSet set ≡ x → AddAnswer before set (lineOf x .refusal)
-      go h unfit e = AddAnswer.badSet h (unfit-fault set e)
-      go h (form s) e = AddAnswer.counted h (lent-is set s e)
+      (λ h. rw (answer-line h) (AddAnswer.read h (told-exactly set (lineOf (lentSet set)) .0 refl)))
 
-  answer-forced : (n : ℕ) → AddAnswer before set n → ourReport .answers before set ≡ n
-  answer-forced n (AddAnswer.full h) = answer-full h
-  answer-forced n (AddAnswer.badSet h fault) =
-      let (is, none) = fault-unfit set n fault in
-      answer-line h ∙ ap (λ (x : Lent). lineOf x .refusal) none ∙ sym is
-  answer-forced n (AddAnswer.counted h laid) = answer-line h ∙ ap (λ (x : Lent). lineOf x .refusal) (is-lent set _ laid)
+  answer-forced : (l : Line) → AddAnswer before set l → ourReport .answers before set ≡ l
+  answer-forced l (AddAnswer.full h) = answer-full h
+  answer-forced l (AddAnswer.read h told) = answer-line h ∙ told-exactly set l .1 told
 
-  answers-exactly : (n : ℕ) → Exactly (ourReport .answers before set ≡ n) (AddAnswer before set n)
-  answers-exactly n = (λ e. rw e at answer-found, answer-forced n)
+  answers-exactly : (l : Line) → Exactly (ourReport .answers before set ≡ l) (AddAnswer before set l)
+  answers-exactly l = (λ e. rw e at answer-found, answer-forced l)
 
 -- ---- sums
 
@@ -151,7 +160,7 @@ module _ (sets more : List (List ℕ)) (all : length sets ≡ 64) where
       over-lines (sets ++ more) ∙ ap linesFor (ap (λ (n : ℕ). take n (sets ++ more)) (sym all) ∙ take-append-seam sets more)
       ∙ sym (all-lines sets (omega arith))
 
-report-holds : ReportsExactly ourReport
+pub report-holds : ReportsExactly ourReport
 report-holds = record {
   answers = answers-exactly;
   sum-entries = λ sets few. ap (summed (λ l. l .entries)) (all-lines sets few) ∙ sum-entries sets;
@@ -178,7 +187,7 @@ module _ (sets : List (List ℕ)) where
       let (long, same) = flat-over zeros sets (length-replicate {A = ℕ} 1352 0) in
       (long, same ∙ ap (λ (r : Report). withSets r sets) zeros-new)
 
-  archive-line : (set : List ℕ) → flatAdds (flatOver zeros sets) set ≡ added (reportOver sets) set .line
+  archive-line : (set : List ℕ) → flatAdds (flatOver zeros sets) set ≡ ourReport .answers sets set
   archive-line set =
       let (long, same) = over-zeros in
       adds-alike (flatOver zeros sets) set long .line ∙ ap (λ (r : Report). added r set .line) same
@@ -198,21 +207,19 @@ line-not-12 : (x : Lent) → lineOf x .refusal ≡ 12 → ⊥
 line-not-12 unfit e = omega arith
 line-not-12 (form s) e = omega arith
 
-archive-refuses : (bs set : List ℕ) → Exactly (flatAdds bs set .refusal ≡ 12) (NoReport bs 12)
-archive-refuses bs set = (found, forced)
+archive-refuses : (bs set : List ℕ) → Exactly (flatAdds bs set ≡ noNumbers 12) (NoReport bs 12)
+archive-refuses bs set = (λ e. found (ap (λ (l : Line). l .refusal) e), forced)
   where
-    forced : NoReport bs 12 → flatAdds bs set .refusal ≡ 12
-    forced (NoReport.otherSize none) = ap (λ (l : Line). l .refusal) (adds-none bs set 12 (no-report bs none) (λ h. omega arith) .0)
+    forced : NoReport bs 12 → flatAdds bs set ≡ noNumbers 12
+    forced (NoReport.otherSize none) = adds-none bs set 12 (no-report bs none) (λ h. omega arith) .0
 
     found : flatAdds bs set .refusal ≡ 12 → NoReport bs 12
-    found e = NoReport.otherSize (λ long.
-        let line = adds-alike bs set long .line in
-        added-not-12 (reportIn bs) set (sym (ap (λ (l : Line). l .refusal) line) ∙ e))
-      where
-        added-not-12 : (r : Report) (bs : List ℕ) → added r bs .line .refusal ≡ 12 → ⊥
-        added-not-12 r bs h = parse-laws.split 64 (r .sets)
-            (λ full. let told = ap (λ (a : Added). a .line .refusal) (no-more r bs (refusedLine 11) full refl) in omega arith)
-            (λ free. line-not-12 (lentSet bs) (ap (λ (a : Added). a .line .refusal) (one-more r bs (lineOf (lentSet bs)) free refl) ∙ h))
+    found e = place-cases bs
+        NoReport.otherSize
+        (λ long full.
+        let told = ap (λ (l : Line). l .refusal) (adds-none bs set 11 (no-place bs long full) (λ h. omega arith) .0) in
+        absurd (omega arith))
+        (λ long free. absurd (line-not-12 (lentSet set) (sym (ap (λ (l : Line). l .refusal) (adds-here bs set long free .0)) ∙ e)))
 
 archive-sum-refuses : (bs : List ℕ) (n : ℕ) → Exactly ((flatRefusal bs ≡ n) × (n ≡ 0 → ⊥)) (NoReport bs n)
 archive-sum-refuses bs = judges-exactly (flatRefusal bs) 12 (NoReport bs) (eqb (length bs) 1352)
@@ -224,6 +231,41 @@ archive-sum-refuses bs = judges-exactly (flatRefusal bs) 12 (NoReport bs) (eqb (
   where
     is-12 : (n : ℕ) → NoReport bs n → (n ≡ 12) × (eqb (length bs) 1352 ≡ false)
     is-12 n (NoReport.otherSize none) = (refl, ne-eqb (length bs) 1352 none)
+
+archive-zeros : (bs : List ℕ) (n : ℕ) → NoReport bs n → flatSum bs ≡ record { entries = 0; intervals = 0; high = 0; low = 0 }
+unfolding flatSum
+archive-zeros bs n (NoReport.otherSize none) = rw (ne-eqb (length bs) 1352 none)
+
+-- the text that is written, by whether there is a report
+module _ (bs : List ℕ) where
+  text-refused : (length bs ≡ 1352 → ⊥) → flatText bs ≡ refused notWritable
+  unfolding flatText
+  text-refused none = rw (ne-eqb (length bs) 1352 none)
+
+  report-cases : {P : Type 0} → (length bs ≡ 1352 → P) → ((length bs ≡ 1352 → ⊥) → P) → P
+  report-cases there none = place-cases bs none (λ long full. there long) (λ long free. there long)
+
+  text-faulty : (r : Refusal) → flatText bs ≡ refused r → NoReport bs (number r)
+  text-faulty r e = report-cases
+      (λ long. let two : bytes (reportText (linesOf (reportIn bs))) ≡ refused r = sym (flat-there bs long .1) ∙ e in apart cc)
+      (λ none. let this : notWritable ≡ r = cc-refused (sym (text-refused none) ∙ e) in rw (← this) (NoReport.otherSize none))
+    where
+      cc-refused : {x y : Refusal} → refused x ≡ refused y → x ≡ y
+      cc-refused h = cc
+
+  text-forced : (n : ℕ) → NoReport bs n → WriterRefuses (flatText bs) n
+  text-forced n (NoReport.otherSize none) = (notWritable, text-refused none, refl)
+
+  text-writes : (text : List ℕ) → flatText bs ≡ bytes text → (length bs ≡ 1352) × (text ≡ reportText (linesOf (reportIn bs)))
+  text-writes text e = report-cases
+      (λ long. (long, cc-bytes (sym e ∙ flat-there bs long .1)))
+      (λ none. let two : refused notWritable ≡ bytes text = sym (text-refused none) ∙ e in apart cc)
+    where
+      cc-bytes : {x y : List ℕ} → bytes x ≡ bytes y → x ≡ y
+      cc-bytes h = cc
+
+  text-written : (text : List ℕ) → (length bs ≡ 1352) × (text ≡ reportText (linesOf (reportIn bs))) → flatText bs ≡ bytes text
+  text-written text (long, is) = flat-there bs long .1 ∙ ap bytes (sym is)
 
 archive-keeps : (bs set : List ℕ) → (flatAdds bs set .refusal ≡ 0 → ⊥) → (flatAdds bs set .refusal ≡ 14 → ⊥) → flatLeaves bs set ≡ bs
 archive-keeps bs set some other = place-cases bs
@@ -237,12 +279,15 @@ archive-keeps bs set some other = place-cases bs
 
 archive : ArchiveReports
 archive = record {
-  line = archive-line;
+  answers = archive-line;
   sums = archive-sums;
   text = archive-text;
   «gtid_report_add» = archive-refuses;
   kept = archive-keeps;
   «gtid_report_sum» = archive-sum-refuses;
+  sum-zeros = archive-zeros;
+  «gtid_report_write» = λ bs out. writes-exactly (flatText bs) out (NoReport bs) (λ text. (length bs ≡ 1352) × (text ≡ reportText (linesOf (reportIn bs))))
+      (text-faulty bs) (text-forced bs) (text-writes bs) (text-written bs);
 }
 
 -- ---- together
@@ -251,16 +296,11 @@ longest-is : (sets : List (List ℕ)) → length (ourReport .text sets) ≤ 2476
 unfolding longestReport maxSets
 longest-is sets = longest sets
 
-numbers-are : (set : List ℕ) (s : List Entry) → SetLaid set s → let l = lineOf (lentSet set) in
-    (l .entries ≡ length s) × (l .intervals ≡ intervals s) × (l .high * 2 ^ 64 + l .low ≡ total s) × (l .low < 2 ^ 64)
-numbers-are set s laid = rw (is-lent set s laid) (refl, refl, words (total s), low-small (total s))
-
 pub reports : Reports
 reports = record {
   totals = totals;
   report = report-holds;
-  «line_of» = λ set. set-exact (λ x. lineOf x .refusal) set refl (λ s. refl);
-  numbers = numbers-are;
+  «line_of» = told-exactly;
   write = λ sets out. short-exactly (ourReport .text sets) out;
   longest = longest-is;
   archive = archive;

@@ -1,6 +1,6 @@
 -- Wrong reports are shut out, and an offer whose answers don't count what it adds.
 use Prim.Native.Nat.{ℕ, _*_, _-_, _^_}
-use mathlib.Core.Path.{_≡_, refl}
+use mathlib.Core.Path.{_≡_, refl, ap}
 use mathlib.Core.List.{List, [], _∷_}
 use native.Mathlib.Omega.{arith}
 use lib.ListN.{length, replicate}
@@ -17,9 +17,11 @@ use Rattle.gtid_sets.specs.Lent.{form, lentSet}
 use Rattle.gtid_sets.specs.Total.{total}
 use Rattle.gtid_sets.proofs.LentLaws.{lent-is}
 use Rattle.report.specs.Report.{highWord, lowWord, maxSets}
+use Rattle.report.specs.declared.Line.{Line}
 use Rattle.resume_set_laws.specs.History.{Turn, keptAll, lentTotal, CountsTaken}
-use Rattle.promises.specs.Reports.{lentSum, AddAnswer, ReportsExactly}
-use Rattle.promises.specs.WrongOnes.{copiesItsSet, alone, allNumbers, losesCarry, countsOnce, countsRefused, forgetsRefused, readsOn}
+use Rattle.promises.specs.Reports.{lentSum, noNumbers, AddAnswer, ReportsExactly, ourReport}
+use Rattle.promises.specs.WrongOnes.{copiesItsSet, alone, allNumbers, losesCarry, countsOnce, countsRefused, forgetsRefused, readsOn, tellsNoNumbers}
+use Rattle.promises.proofs.ReportsHold.{report-holds}
 
 -- what the sums and answers come to
 record Computed : Type 0 where
@@ -32,8 +34,10 @@ record Computed : Type 0 where
   -- no bytes at all
   refused : lentSum length ([] ∷ []) ≡ 0
   counted : countsRefused .sums ([] ∷ []) .entries ≡ 1
-  forgotten : forgetsRefused .answers (replicate 64 []) (alone 1) ≡ 0
-  read : readsOn .answers (replicate 64 []) [] ≡ 14
+  forgotten : forgetsRefused .answers (replicate 64 []) (alone 1) .refusal ≡ 0
+  -- {1} has one entry
+  one : ourReport .answers [] (alone 1) .entries ≡ 1
+  read : readsOn .answers (replicate 64 []) [] .refusal ≡ 14
 
 computed : Computed
 unfolding many bytesAt byteAt bodyLimit leOf leBytes leAt gnoTop uuidOf tagOf tagAt keyAt headAt intervalAt entryAt saysTagged saysCount previous intervalsBytes entryBytes entriesBytes anyTag headerBytes bodyBytes maxEntries maxIntervals maxOfEntry judged limits lentSet highWord lowWord maxSets
@@ -45,6 +49,7 @@ computed = record {
   refused = refl;
   counted = refl;
   forgotten = refl;
+  one = refl;
   read = refl;
 }
 
@@ -60,14 +65,20 @@ pub counts-refused-out : ReportsExactly countsRefused → ⊥
 counts-refused-out h = omega (arith, h .sum-entries ([] ∷ []) (omega arith), computed .refused, computed .counted)
 
 -- behind 64 of whatever, 11
-eleven : (set : List ℕ) → AddAnswer (replicate 64 []) set 11
+eleven : (set : List ℕ) → AddAnswer (replicate 64 []) set (noNumbers 11)
 eleven set = AddAnswer.full (omega arith)
 
 pub forgets-refused-out : ReportsExactly forgetsRefused → ⊥
-forgets-refused-out h = omega (arith, h .answers (replicate 64 []) (alone 1) 11 .1 (eleven (alone 1)), computed .forgotten)
+forgets-refused-out h =
+    omega (arith, ap (λ (l : Line). l .refusal) (h .answers (replicate 64 []) (alone 1) (noNumbers 11) .1 (eleven (alone 1))), computed .forgotten)
 
 pub reads-on-out : ReportsExactly readsOn → ⊥
-reads-on-out h = omega (arith, h .answers (replicate 64 []) [] 11 .1 (eleven []), computed .read)
+reads-on-out h = omega (arith, ap (λ (l : Line). l .refusal) (h .answers (replicate 64 []) [] (noNumbers 11) .1 (eleven [])), computed .read)
+
+pub tells-no-numbers-out : ReportsExactly tellsNoNumbers → ⊥
+tells-no-numbers-out h =
+    let right = report-holds .answers [] (alone 1) (ourReport .answers [] (alone 1)) .0 refl in
+    omega (arith, ap (λ (l : Line). l .entries) (h .answers [] (alone 1) (ourReport .answers [] (alone 1)) .1 right), computed .one)
 
 -- ---- an offer that says "taken" and adds nothing
 

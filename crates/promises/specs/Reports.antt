@@ -19,9 +19,10 @@ use Rattle.text.specs.Lines.{refusedText}
 use Rattle.report.specs.Report.{lineOf, linesOf, added, sumOf}
 use Rattle.report.specs.Built.{reportOver}
 use Rattle.report.specs.Text.{setWord, sumWord, reportText}
+use Rattle.report.specs.declared.Line.{Line}
 use Rattle.report.specs.declared.Counts.{Counts}
-use Rattle.abi.specs.FlatReport.{flatAdds, flatLeaves, flatRefusal, flatSum, flatText}
-use Rattle.promises.specs.PlainFaults.{ShortFault}
+use Rattle.abi.specs.FlatReport.{reportIn, flatAdds, flatLeaves, flatRefusal, flatSum, flatText}
+use Rattle.promises.specs.PlainFaults.{ShortFault, WriteFault}
 use Rattle.promises.specs.SetFaults.{SetFault}
 use Rattle.promises.specs.Exact.{Exactly, RefusesExactly, WritesExactly}
 
@@ -47,14 +48,24 @@ abbrev pub lentSum : (List Entry → ℕ) → List (List ℕ) → ℕ
 lentSum f [] = 0
 lentSum f (set ∷ sets) = lentNumber f (lentSet set) + lentSum f sets
 
--- ---- what is answered for a set, given those before it
+-- ---- what is told of a set
 
-pub data AddAnswer (before : List (List ℕ)) (set : List ℕ) : ℕ → Type 0 where
-  -- 11: 64 came before it, whatever they were, and whatever it is
-  full : 64 ≤ length before → AddAnswer before set 11
+-- a refusal's number, and zeros
+abbrev pub noNumbers : ℕ → Line
+noNumbers n = record { refusal = n; entries = 0; intervals = 0; high = 0; low = 0 }
+
+pub data Told (set : List ℕ) : Line → Type 0 where
   -- 14: it is no set
-  badSet : {n : ℕ} → length before < 64 → SetFault set n → AddAnswer before set n
-  counted : {s : List Entry} → length before < 64 → SetLaid set s → AddAnswer before set 0
+  badSet : {n : ℕ} → SetFault set n → Told set (noNumbers n)
+  -- else its numbers, the last two being the words of one
+  counted : {s : List Entry} {high low : ℕ} → SetLaid set s → total s ≡ high * 2 ^ 64 + low → low < 2 ^ 64
+      → Told set (record { refusal = 0; entries = length s; intervals = intervals s; high = high; low = low })
+
+-- and by a report, given those before it
+pub data AddAnswer (before : List (List ℕ)) (set : List ℕ) : Line → Type 0 where
+  -- 11: 64 came before it, whatever they were, and whatever it is
+  full : 64 ≤ length before → AddAnswer before set (noNumbers 11)
+  read : {l : Line} → length before < 64 → Told set l → AddAnswer before set l
 
 -- ---- the text
 
@@ -78,12 +89,12 @@ pub data Lines : List (List ℕ) → List ℕ → List ℕ → Type 0 where
 -- ---- a way of reporting: what it answers for a set after others, and the sums and the text over sets
 
 pub record Reporting : Type 0 where
-  pub answers : List (List ℕ) → List ℕ → ℕ
+  pub answers : List (List ℕ) → List ℕ → Line
   pub sums : List (List ℕ) → Counts
   pub text : List (List ℕ) → List ℕ
 
 pub record ReportsExactly (f : Reporting) : Type 0 where
-  pub answers : (before : List (List ℕ)) (set : List ℕ) (n : ℕ) → Exactly (f .answers before set ≡ n) (AddAnswer before set n)
+  pub answers : (before : List (List ℕ)) (set : List ℕ) (l : Line) → Exactly (f .answers before set ≡ l) (AddAnswer before set l)
   -- over at most 64 sets; an id in two of them counts twice
   pub sum-entries : (sets : List (List ℕ)) → length sets ≤ 64 → f .sums sets .entries ≡ lentSum length sets
   pub sum-intervals : (sets : List (List ℕ)) → length sets ≤ 64 → f .sums sets .intervals ≡ lentSum intervals sets
@@ -97,7 +108,7 @@ pub record ReportsExactly (f : Reporting) : Type 0 where
 -- the one that `add`, `sum` and `write` promise
 abbrev pub ourReport : Reporting
 ourReport = record {
-  answers = λ before set. added (reportOver before) set .line .refusal;
+  answers = λ before set. added (reportOver before) set .line;
   sums = λ sets. sumOf (linesOf (reportOver sets));
   text = λ sets. reportText (linesOf (reportOver sets));
 }
@@ -117,24 +128,25 @@ pub data NoReport (bs : List ℕ) : ℕ → Type 0 where
 
 pub record ArchiveReports : Type 0 where
   -- over any sets it says what the library says
-  pub line : (before : List (List ℕ)) (set : List ℕ) → flatAdds (flatOver zeros before) set ≡ added (reportOver before) set .line
+  pub answers : (before : List (List ℕ)) (set : List ℕ) → flatAdds (flatOver zeros before) set ≡ ourReport .answers before set
   pub sums : (sets : List (List ℕ)) → flatSum (flatOver zeros sets) ≡ ourReport .sums sets
   pub text : (sets : List (List ℕ)) → flatText (flatOver zeros sets) ≡ bytes (ourReport .text sets)
   -- bytes that are no report are 12
-  pub «gtid_report_add» : (bs set : List ℕ) → Exactly (flatAdds bs set .refusal ≡ 12) (NoReport bs 12)
+  pub «gtid_report_add» : (bs set : List ℕ) → Exactly (flatAdds bs set ≡ noNumbers 12) (NoReport bs 12)
   -- every refusal leaves them as they were, but for 14, which is a line of the report
   pub kept : (bs set : List ℕ) → (flatAdds bs set .refusal ≡ 0 → ⊥) → (flatAdds bs set .refusal ≡ 14 → ⊥) → flatLeaves bs set ≡ bs
   pub «gtid_report_sum» : (bs : List ℕ) → RefusesExactly (flatRefusal bs) (NoReport bs)
+  pub sum-zeros : (bs : List ℕ) (n : ℕ) → NoReport bs n → flatSum bs ≡ record { entries = 0; intervals = 0; high = 0; low = 0 }
+  pub «gtid_report_write» : (bs out : List ℕ)
+      → WritesExactly (answerOf out (flatText bs)) (WriteFault (NoReport bs) (λ text. (length bs ≡ 1352) × (text ≡ reportText (linesOf (reportIn bs))))
+      (length out))
 
 -- ---- together
 
 pub record Reports : Type 0 where
   pub totals : CountsMembers
   pub report : ReportsExactly ourReport
-  pub «line_of» : (set : List ℕ) → RefusesExactly (lineOf (lentSet set) .refusal) (SetFault set)
-  -- the numbers of a set's line
-  pub numbers : (set : List ℕ) (s : List Entry) → SetLaid set s → let l = lineOf (lentSet set) in
-      (l .entries ≡ length s) × (l .intervals ≡ intervals s) × (l .high * 2 ^ 64 + l .low ≡ total s) × (l .low < 2 ^ 64)
+  pub «line_of» : (set : List ℕ) (l : Line) → Exactly (lineOf (lentSet set) ≡ l) (Told set l)
   -- 13 exactly if the output is shorter than the text, whose length is told; it says nothing of the sets, and the report is the same as before
   pub write : (sets : List (List ℕ)) (out : List ℕ)
       → WritesExactly (answerOf out (bytes (ourReport .text sets))) (ShortFault (ourReport .text sets) (length out))

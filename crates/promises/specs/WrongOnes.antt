@@ -38,11 +38,12 @@ use Rattle.promises.specs.TaggedLayout.{the-tag, seenIn}
 use Rattle.promises.specs.Meaning.{EventReader, EventWriter, EntriesReader}
 use Rattle.promises.specs.Exact.{Asking, asks}
 use Rattle.promises.specs.TwoSets.{Combiner, ourCalls}
-use Rattle.report.specs.Report.{linesOf, summed}
+use Rattle.report.specs.Report.{lineOf, linesOf, summed}
 use Rattle.report.specs.Built.{reportOver}
+use Rattle.report.specs.declared.Line.{Line}
 use Rattle.report.specs.declared.Counts.{Counts}
 use Rattle.promises.specs.Heads.{Handing, ourHead}
-use Rattle.promises.specs.Reports.{Reporting, ourReport}
+use Rattle.promises.specs.Reports.{noNumbers, Reporting, ourReport}
 
 -- refuses whatever comes
 abbrev pub refusesAll : EventReader
@@ -335,7 +336,7 @@ allNumbers = bodyBytes (entry (replicate 16 0) (interval 1 gnoTop ∷ []) ∷ []
 abbrev pub summedBy : (List (List ℕ) → Counts) → Reporting
 summedBy sums = record { answers = ourReport .answers; sums = sums; text = ourReport .text }
 
-abbrev pub answeredBy : (List (List ℕ) → List ℕ → ℕ) → Reporting
+abbrev pub answeredBy : (List (List ℕ) → List ℕ → Line) → Reporting
 answeredBy answers = record { answers = answers; sums = ourReport .sums; text = ourReport .text }
 
 -- adds the high words alone: what the low ones carry is lost
@@ -370,4 +371,8 @@ forgetsRefused = answeredBy (λ before set. ourReport .answers (onlySets before)
 
 -- reads the sixty-fifth
 abbrev pub readsOn : Reporting
-readsOn = answeredBy (λ before set. setRead (lentSet set) .refusal)
+readsOn = answeredBy (λ before set. lineOf (lentSet set))
+
+-- answers whether it is a set, and zeros for its numbers
+abbrev pub tellsNoNumbers : Reporting
+tellsNoNumbers = answeredBy (λ before set. noNumbers (ourReport .answers before set .refusal))
