@@ -9,10 +9,11 @@
  * Where a call writes, `*len` bytes stand at the front of the output, and the rest of it is as it was. Where a call refuses,
  * all of the output is as it was, and `*len` is 0. The one exception is 13, an output that is too short: then `*len` is the
  * length that is needed. It can't come where the output has the length that stands with the call.
- * (The report of gtid_report_add is no output: it is read, and changed in its place, also where the call refuses with 14.)
+ * (The report of gtid_report_add is no output: it is read, and changed in its place, also where the call refuses with 14. Nor are
+ * the reader of a binlog file, its work bytes and its set: what the calls do to them stands there.)
  *
- * A call uses up to 210 KB of the stack. None keeps anything but in that report, so calls on different memory may run at the
- * same time. */
+ * A call uses up to 270 KB of the stack. None keeps anything but in that report and in that reader, so calls on different memory
+ * may run at the same time. */
 #ifndef GTID_H
 #define GTID_H
 
@@ -147,6 +148,103 @@ uint8_t gtid_read_varlen_uint(const uint8_t *s, size_t s_len, uint64_t *value, s
  * first loses the transaction. */
 uint8_t gtid_offer(const uint8_t *set, size_t set_len, uint8_t event_type, const uint8_t *body, size_t body_len,
                    uint8_t *out, size_t out_len, uint8_t *kind, size_t *len);
+
+/* A binlog file, read as it arrives, in chunks that end anywhere. Its first four bytes are FE 62 69 6E. Then come events, each
+ * with a header of 19 bytes that has the event's type in byte 4 and its whole size in bytes 9 to 12, lowest byte first; nothing
+ * else of it is looked at. Events of type 33, 34 and 42 are offered to a set, and all ids of one of type 35 are joined to it,
+ * each as soon as the event is whole, its checksum included. Events of any other type are skipped, whatever their size.
+ * Where the file is cut into chunks makes no difference to what is said of its events, to the set, or to how the file ends. An
+ * empty chunk changes nothing.
+ *
+ * The reader is GTID_BINLOG_READER_LEN bytes of the caller's, which gtid_binlog_begin makes and each call changes in their place;
+ * this struct has them as they stand on x86-64. Between the calls it needs the same work bytes, with what stands in them, and the
+ * same set. A copy of all three is a reader, too, and goes on from there. */
+struct gtid_binlog {
+    uint8_t own[3];      /* the library's own */
+    uint8_t said;        /* what the last call said: GTID_REFUSED, and so on up to GTID_ENDED */
+    uint8_t event_type;  /* the type of the event that it said this of, else 0 */
+    uint8_t zeros[3];
+    uint64_t own_too[2]; /* the library's own */
+    uint64_t set_len;    /* the length of the set, which stands at the front of `set` */
+    uint64_t used;       /* how many bytes of the chunk the call used */
+    uint64_t len;        /* the length of an event's body, at the front of `work`; with 13 the one that is needed; else 0 */
+};
+
+#define GTID_BINLOG_READER_LEN 48
+
+/* The work bytes: the longest body, 65,536 bytes, and a checksum. */
+#define GTID_BINLOG_WORK 65540
+
+/* What `said` tells besides GTID_REFUSED, and GTID_TAKEN, GTID_ALREADY_THERE and GTID_NO_ID of an event that was offered. */
+#define GTID_JOINED 4      /* the ids of a Previous-GTIDs event (type 35) were joined to the set */
+#define GTID_MORE_WANTED 5 /* the chunk is used up, and no further event is whole */
+#define GTID_ENDED 6       /* the end was named, and that was well */
+
+/* The loop, over chunks of a file as they come; the saved set stands at the front of `set`:
+ *
+ *     struct gtid_binlog reader;
+ *     static uint8_t set[GTID_LONGEST_SET], spare[GTID_LONGEST_SET], work[GTID_BINLOG_WORK];
+ *
+ *     number = gtid_binlog_begin(set, set_len, checksums, (uint8_t *)&reader, sizeof reader);
+ *     while (number == 0 && (chunk_len = next_chunk(chunk)) != 0)
+ *         for (size_t at = 0; number == 0 && at < chunk_len; at += reader.used) {
+ *             number = gtid_binlog_step((uint8_t *)&reader, sizeof reader, chunk + at, chunk_len - at, work, sizeof work,
+ *                                       set, sizeof set, spare, sizeof spare);
+ *             if (number == 0 && reader.said != GTID_MORE_WANTED)
+ *                 an event of type reader.event_type is whole: its last byte is chunk[at + reader.used - 1], its body stands in
+ *                 the first reader.len bytes of `work`, and the set after it in the first reader.set_len bytes of `set`
+ *         }
+ *     if (number == 0)
+ *         number = gtid_binlog_end((uint8_t *)&reader, sizeof reader);
+ *
+ * When to save. A GTID event is the first of its transaction: when the reader has taken its id into the set, the rows have not
+ * come yet. So what stands in `set` is not the set to save. Whoever saves it and is stopped before the tool has committed the
+ * transaction has a set that claims it, and loses it. The order is:
+ *   1. at GTID_TAKEN, keep a copy of the reader.set_len bytes of the set with the transaction;
+ *   2. copy its rows: they are the skipped events behind it, up to the one that ends it (XID, type 16), and the caller splits
+ *      them out of the same chunks, by their headers;
+ *   3. commit it in the tool, and all transactions before it, whose ids are in that copy, too;
+ *   4. save the copy of 1, beside the old one, and rename it into its place.
+ * After a crash the reader begins again with the saved set, at the file's start; of what the tool has already it says
+ * GTID_ALREADY_THERE. A transaction that was committed and not saved is taken again: the tool must know its id, or set and
+ * transaction go into one commit.
+ *
+ * At GTID_JOINED look at the set first: if its bytes are others than before the event, the event lists ids that the set lacked,
+ * and those transactions were never copied. (Same ids, same bytes. gtid_without of the new set and the old one tells which.) At
+ * the opening of the next file that is a gap: stop, and don't save that set. It is as it should be only where a follower starts
+ * with a file and an empty set, and the tool has all transactions before it. */
+
+/* Begins to read a file: makes a reader that goes on from a set, which may be one that another file left. `checksums` says
+ * whether four bytes of checksum end each event, 0 for no, any other number for yes. They are cut off, and not checked. (The
+ * file's first event, the format description, tells it: its last four bytes are its checksum in any case, and the byte before
+ * them is 0 if the other events have none.) The set is only read here, and lent again with each step.
+ * Refuses with 12 if the reader hasn't exactly GTID_BINLOG_READER_LEN bytes; then it is as it was. Refuses with 14 if the bytes
+ * are no set; then each step repeats it. */
+uint8_t gtid_binlog_begin(const uint8_t *set, size_t set_len, uint8_t checksums, uint8_t *reader, size_t reader_len);
+
+/* Takes bytes of a chunk, up to the end of the next event that is offered or joined, or to the byte that shows a refusal, or all
+ * of them; `used` tells how many, and `said` one thing. What is left of the chunk is lent to the next step.
+ * `set` has the set at its front, before and after, and its other bytes may be anything; `spare` is room for the set after an
+ * event, and has it too, then. Lend each GTID_LONGEST_SET bytes, and `work` GTID_BINLOG_WORK. None of the five may overlap
+ * another.
+ * Refuses, in this order:
+ *   12  if the reader hasn't exactly GTID_BINLOG_READER_LEN bytes (then it is as it was), or is one that no call made;
+ *   13  if there are fewer than GTID_BINLOG_WORK work bytes, unless the end was named; `len` is that number then;
+ *   18  for a wrong byte of the opening; for a header whose size is too small for header and checksum; and for a byte after an
+ *       end that was named and was well;
+ *   11  for a header of type 33, 34, 35 or 42 whose event would have a body over 65,536 bytes.
+ * An event that is whole is refused, if it is of type 33, 34 or 42, as gtid_offer refuses it; of type 35 with 14, if what stands
+ * in `set` is no set, then with 1, 6 and 15, with 17 and 16, both judged of the joined set alone, and with 13. This 13 comes if
+ * the set after the event is longer than `set` or `spare`; `len` is its length then.
+ * With a refusal `set` and `spare` are as they were: the set is as the events before made it, those of the same chunk included.
+ * From then on the reader is stopped. Every call repeats the number and uses nothing, whatever it is lent, also after 13. */
+uint8_t gtid_binlog_step(uint8_t *reader, size_t reader_len, const uint8_t *chunk, size_t chunk_len,
+                         uint8_t *work, size_t work_len, uint8_t *set, size_t set_len, uint8_t *spare, size_t spare_len);
+
+/* Names the end of the file: between two events, or right behind the opening, that is well. Refuses with 1 inside the opening or
+ * an event, also where nothing has come at all; and with 12, as above. A reader that is stopped repeats its refusal. Naming the
+ * end again repeats the answer. Of a file that is only not yet longer the end isn't named. */
+uint8_t gtid_binlog_end(uint8_t *reader, size_t reader_len);
 
 /* Writes the text of an event, at most GTID_LONGEST_TEXT bytes: the input is the byte of its type with its body behind it. An
  * event that is refused has a text too, which tells the number; a tagged one that lacks its uuid or its number is refused

@@ -878,6 +878,519 @@ static void write_without_id(void)
     EXPECT(present == 0x037f);
 }
 
+/* A binlog file in the making, with checksums or without, and a reader of such files with its work bytes. Its set is `set`, and `next` the
+ * room for the set after an event. */
+static uint8_t file[1 << 18], work[GTID_BINLOG_WORK];
+static size_t file_len;
+static uint8_t checksums;
+static struct gtid_binlog reader;
+
+/* What a reader said of a file, one thing after another: of each event what it was told, its type, its body, and the set after it; and at
+ * last the number of the refusal, or 0, and the set. */
+static uint8_t story[1 << 19], known_story[1 << 19];
+static size_t story_len, known_len;
+
+static void put_file_opening(uint8_t with_checksums)
+{
+    memcpy(file, "\xfe" "bin", 4);
+    file_len = 4;
+    checksums = with_checksums;
+}
+
+/* The header of an event that claims a body of so many bytes. */
+static void put_header(uint8_t event_type, uint32_t body_len)
+{
+    uint32_t size = 19 + body_len + (checksums ? 4 : 0);
+
+    memset(file + file_len, 0x5a, 19); /* nothing else of a header is looked at */
+    file[file_len + 4] = event_type;
+    for (int i = 0; i < 4; i++)
+        file[file_len + 9 + i] = (uint8_t)(size >> (8 * i));
+    file_len += 19;
+}
+
+static void put_event(uint8_t event_type, const uint8_t *body, size_t body_len)
+{
+    put_header(event_type, (uint32_t)body_len);
+    memcpy(file + file_len, body, body_len);
+    file_len += body_len;
+    if (checksums) {
+        memset(file + file_len, 0xa5, 4);
+        file_len += 4;
+    }
+}
+
+/* An event of type 33 or 34, with this number of the uuid 07 07 .. . */
+static void put_gtid(uint8_t event_type, uint64_t gno)
+{
+    uint8_t body[25] = {0};
+
+    memset(body + 1, 7, 16);
+    put(body + 17, gno);
+    put_event(event_type, body, sizeof body);
+}
+
+/* An event of type 35, with such intervals of that uuid. */
+static void put_previous(uint64_t count, uint64_t first, uint64_t numbers)
+{
+    put_event(35, one, put_set(one, count, first, numbers));
+}
+
+/* An event that is skipped, with a body of so many bytes. */
+static void put_skipped(uint8_t event_type, size_t body_len)
+{
+    memset(input, 35, body_len);
+    put_event(event_type, input, body_len);
+}
+
+static void tell(const void *bytes, size_t len)
+{
+    memcpy(story + story_len, bytes, len);
+    story_len += len;
+}
+
+static void tell_number(uint64_t number)
+{
+    uint8_t bytes[8];
+
+    put(bytes, number);
+    tell(bytes, sizeof bytes);
+}
+
+static void tell_set(void)
+{
+    tell_number(reader.set_len);
+    tell(set, reader.set_len);
+}
+
+static uint8_t begin_from(const uint8_t *start, size_t start_len)
+{
+    memset(&reader, 0xa5, sizeof reader);
+    memset(set, 0xa5, sizeof set);
+    memset(next, 0xa5, sizeof next);
+    memset(work, 0xa5, sizeof work);
+    memcpy(set, start, start_len);
+    story_len = 0;
+    return gtid_binlog_begin(set, start_len, checksums, (uint8_t *)&reader, sizeof reader);
+}
+
+/* A step with all the room that it may need. */
+static uint8_t step(const uint8_t *chunk, size_t chunk_len)
+{
+    return gtid_binlog_step((uint8_t *)&reader, sizeof reader, chunk, chunk_len, work, sizeof work, set, sizeof set, next, sizeof next);
+}
+
+/* All steps through a chunk. Returns the number of the refusal, or 0. */
+static uint8_t feed(const uint8_t *chunk, size_t chunk_len)
+{
+    size_t at = 0;
+    uint8_t number;
+
+    do {
+        number = step(chunk + at, chunk_len - at);
+        EXPECT((number == 0) == (reader.said != GTID_REFUSED) && reader.used <= chunk_len - at);
+        at += reader.used;
+        if (GTID_TAKEN <= reader.said && reader.said <= GTID_JOINED) {
+            tell(&reader.said, 1);
+            tell(&reader.event_type, 1);
+            tell_number(reader.len);
+            tell(work, reader.len);
+            tell_set();
+            EXPECT(memcmp(next, set, reader.set_len) == 0);
+        } else
+            EXPECT(reader.event_type == 0 && reader.len == 0 && (number != 0 || at == chunk_len));
+    } while (number == 0 && at < chunk_len);
+    return number;
+}
+
+static uint8_t end_file(void)
+{
+    uint8_t number = gtid_binlog_end((uint8_t *)&reader, sizeof reader);
+
+    EXPECT(number == 0 ? reader.said == GTID_ENDED : reader.said == GTID_REFUSED);
+    EXPECT(reader.used == 0 && reader.event_type == 0);
+    return number;
+}
+
+/* Reads the file from a set, in a first chunk and others of so many bytes, and names its end. Returns the number of the refusal, or 0. */
+static uint8_t read_file(const uint8_t *start, size_t start_len, size_t first, size_t others)
+{
+    size_t len = first;
+    uint8_t number = begin_from(start, start_len);
+
+    for (size_t at = 0; at < file_len; at += len, len = others) {
+        if (len > file_len - at)
+            len = file_len - at;
+        EXPECT(feed(file + at, 0) == number); /* an empty chunk changes nothing */
+        number = feed(file + at, len);
+    }
+    EXPECT(number == 0 || end_file() == number);
+    number = end_file();
+    EXPECT(end_file() == number); /* named again */
+    tell_number(number);
+    tell_set();
+    return number;
+}
+
+/* The number that reading the file in one piece ends with. Cut in two anywhere, and in pieces of 1 to 8 bytes, it tells the same story. */
+static uint8_t reads(const uint8_t *start, size_t start_len)
+{
+    static const size_t pieces[] = {1, 2, 3, 5, 8};
+    uint8_t number = read_file(start, start_len, file_len, file_len);
+
+    memcpy(known_story, story, story_len);
+    known_len = story_len;
+    for (size_t cut = 0; cut <= file_len; cut++) {
+        EXPECT(read_file(start, start_len, cut, file_len) == number);
+        EXPECT(story_len == known_len && memcmp(story, known_story, known_len) == 0);
+    }
+    for (int i = 0; i < 5; i++) {
+        EXPECT(read_file(start, start_len, pieces[i], pieces[i]) == number);
+        EXPECT(story_len == known_len && memcmp(story, known_story, known_len) == 0);
+    }
+    return number;
+}
+
+/* Whether the next part of a story is an event of which this was said, and the set after it is this one. Returns the place behind it, or
+ * NULL. */
+static const uint8_t *hears(const uint8_t *at, uint8_t said, uint8_t event_type, size_t body_len, const uint8_t *then, size_t then_len)
+{
+    uint8_t numbers[8];
+
+    if (at == NULL || at[0] != said || at[1] != event_type)
+        return NULL;
+    put(numbers, body_len);
+    if (memcmp(at + 2, numbers, 8) != 0)
+        return NULL;
+    at += 10 + body_len;
+    put(numbers, then_len);
+    return memcmp(at, numbers, 8) == 0 && memcmp(at + 8, then, then_len) == 0 ? at + 8 + then_len : NULL;
+}
+
+static const uint8_t no_ids[8] = {0};
+
+/* A small file, from a set with the numbers 4 to 8: the opening event has 1 to 5, and they are joined; then 9 comes, and comes again, one
+ * without an id, and one with a tag. Between them stand events of other types, one of them without a body. */
+static void read_small_file(uint8_t with_checksums)
+{
+    static uint8_t start[GTID_LONGEST_SET], tagged[GTID_LONGEST_SET];
+    size_t start_len = put_set(start, 1, 4, 5), tagged_len, body_len;
+    const uint8_t *at = known_story;
+
+    put_file_opening(with_checksums);
+    put_skipped(15, 99);
+    put_previous(1, 1, 5);
+    put_gtid(33, 9);
+    put_skipped(30, 40);
+    put_skipped(16, 8);
+    put_gtid(33, 9);
+    put_gtid(34, 0);
+    put_skipped(3, 0);
+    body_len = put_fields(FIELDS(UUID, GNO(6), TAG), 0);
+    put_event(42, input + 1, body_len);
+    put_skipped(4, 21);
+    EXPECT(reads(start, start_len) == 0);
+
+    at = hears(at, GTID_JOINED, 35, 48, wanted, put_set(wanted, 1, 1, 8));
+    at = hears(at, GTID_TAKEN, 33, 25, wanted, put_set(wanted, 1, 1, 9));
+    at = hears(at, GTID_ALREADY_THERE, 33, 25, wanted, put_set(wanted, 1, 1, 9));
+    at = hears(at, GTID_NO_ID, 34, 25, wanted, put_set(wanted, 1, 1, 9));
+    put(tagged, (UINT64_C(1) << 56) + (2 << 8) + 1);
+    memset(tagged + 8, 7, 16);
+    tagged[24] = 0; /* no tag */
+    put_intervals(tagged + 25, 1, 1, 9);
+    memset(tagged + 49, 7, 16);
+    memcpy(tagged + 65, "\x0a" "depot", 6);
+    tagged_len = (size_t)(put_intervals(tagged + 71, 1, 6, 1) - tagged);
+    at = hears(at, GTID_TAKEN, 42, body_len, tagged, tagged_len);
+    EXPECT(at != NULL && at + 16 + tagged_len == known_story + known_len);
+    EXPECT(reader.set_len == tagged_len && memcmp(set, tagged, tagged_len) == 0);
+
+    /* again, from the set that it left: nothing is new, and the bytes are the same */
+    EXPECT(read_file(tagged, tagged_len, file_len, file_len) == 0);
+    EXPECT(hears(story, GTID_JOINED, 35, 48, tagged, tagged_len) != NULL);
+    EXPECT(reader.set_len == tagged_len && memcmp(set, tagged, tagged_len) == 0);
+}
+
+/* The end between two events, and at every other place of the file. Named again it is the same, and bytes behind it change that only if it
+ * was well: then they are refused with 18, and from there on the end is, too. */
+static void end_anywhere(uint8_t with_checksums)
+{
+    size_t ends[5], known = 0;
+
+    put_file_opening(with_checksums);
+    ends[0] = file_len;
+    put_previous(1, 1, 5);
+    ends[1] = file_len;
+    put_skipped(30, 20);
+    ends[2] = file_len;
+    put_skipped(3, 0);
+    ends[3] = file_len;
+    put_gtid(33, 6);
+    ends[4] = file_len;
+    for (size_t cut = 0; cut <= file_len; cut++) {
+        uint8_t number = cut == ends[known] ? (known++, 0) : 1, after = number == 0 ? 18 : 1;
+
+        EXPECT(begin_from(no_ids, sizeof no_ids) == 0 && reader.said == GTID_MORE_WANTED);
+        EXPECT(feed(file, cut) == 0);
+        EXPECT(end_file() == number && end_file() == number);
+        EXPECT(step(file, 0) == number && reader.said == (number == 0 ? GTID_ENDED : GTID_REFUSED));
+        EXPECT(end_file() == number);
+        EXPECT(step(file, file_len) == after && reader.used == (after == 18 ? 1 : 0));
+        EXPECT(end_file() == after && step(file, 0) == after && step(file, 1) == after && reader.used == 0);
+        EXPECT(reader.set_len == (cut < ends[1] ? 8 : 48));
+    }
+    EXPECT(known == 5);
+}
+
+/* Whether the reader's set has the numbers 1 to 6. */
+static int has_six(void)
+{
+    return reader.set_len == put_set(wanted, 1, 1, 6) && memcmp(set, wanted, reader.set_len) == 0;
+}
+
+/* Whether the file is refused with this number, wherever it is cut, and leaves the set with the numbers 1 to 6. */
+static int stops(uint8_t number)
+{
+    return reads(no_ids, sizeof no_ids) == number && has_six();
+}
+
+/* The beginning of a file that has the numbers 1 to 6. Its next event is refused. */
+static void put_six(uint8_t with_checksums)
+{
+    put_file_opening(with_checksums);
+    put_previous(1, 1, 5);
+    put_skipped(30, 3);
+    put_gtid(33, 6);
+}
+
+static void refuse_opening(void)
+{
+    for (size_t wrong = 0; wrong < 4; wrong++) {
+        put_file_opening(0);
+        put_previous(1, 1, 5);
+        file[wrong] ^= 1;
+        EXPECT(reads(no_ids, sizeof no_ids) == 18 && reader.set_len == 8);
+        EXPECT(begin_from(no_ids, sizeof no_ids) == 0 && step(file, file_len) == 18 && reader.used == wrong + 1);
+    }
+}
+
+/* A size that hasn't room for header and checksum, of a type that is read and of one that is skipped. The least size has. */
+static void refuse_small_sizes(uint8_t with_checksums)
+{
+    const uint8_t types[] = {33, 35, 30};
+    uint8_t least = with_checksums ? 23 : 19;
+
+    for (int i = 0; i < 3; i++)
+        for (uint8_t size = 0; size <= least; size++) {
+            put_six(with_checksums);
+            put_event(types[i], input, 0);
+            file[file_len - least + 9] = size;
+            if (size < least)
+                EXPECT(stops(18));
+            else
+                EXPECT(stops(types[i] == 30 ? 0 : 1)); /* a body of no bytes */
+        }
+}
+
+/* A body of 65,536 bytes is read, and one more is refused with 11 once the header is whole; but not of a type that is skipped. */
+static void refuse_long_bodies(uint8_t with_checksums)
+{
+    const uint8_t types[] = {33, 34, 35, 42}, numbers[] = {15, 0, 0, 4};
+
+    for (int i = 0; i < 4; i++) {
+        put_six(with_checksums);
+        put_header(types[i], 65537);
+        EXPECT(stops(11));
+        put_six(with_checksums);
+        put_header(types[i], 1 << 24); /* by the highest byte of its size */
+        EXPECT(stops(11));
+        put_six(with_checksums);
+        memset(input, 0, 65536);
+        put_event(types[i], input, 65536);
+        EXPECT(read_file(no_ids, sizeof no_ids, file_len, 1) == numbers[i] && has_six());
+    }
+    put_six(with_checksums);
+    put_header(30, UINT32_MAX - 19 - (with_checksums ? 4 : 0));
+    EXPECT(stops(1)); /* the end inside it */
+    put_six(with_checksums);
+    put_header(30, 100000);
+    memset(file + file_len, 35, 100004);
+    file_len += 100000 + (with_checksums ? 4 : 0);
+    put_gtid(33, 6);
+    EXPECT(read_file(no_ids, sizeof no_ids, 4093, 4093) == 0 && has_six());
+}
+
+/* Events that are whole, and refused: in an offer, and where they are to be joined. */
+static void refuse_events(uint8_t with_checksums)
+{
+    const uint8_t body[25] = {0};
+
+    put_six(with_checksums);
+    put_event(33, body, 24);
+    put_gtid(33, 7);
+    EXPECT(stops(1));
+    put_six(with_checksums);
+    put_gtid(33, 0);
+    EXPECT(stops(15));
+    put_six(with_checksums);
+    put_event(42, input + 1, put_fields(FIELDS(TAG), 0));
+    put_gtid(33, 7);
+    EXPECT(stops(21));
+    put_six(with_checksums);
+    put_event(35, one, put_set(one, 1, 7, 1) - 1);
+    put_gtid(33, 7);
+    EXPECT(stops(1));
+    put_six(with_checksums);
+    put_previous(1, 0, 7);
+    EXPECT(stops(15));
+    put_six(with_checksums);
+    put_previous(2, 1, 0); /* intervals without a number */
+    EXPECT(stops(15));
+}
+
+/* So many numbers with gaps, 1, 11, .. : joined they may crowd an entry, and a body that would alone may not. */
+static void join_many(void)
+{
+    size_t len;
+
+    put_file_opening(0);
+    put_previous(512, 1, 1);
+    put_previous(512, 3, 1);
+    put_previous(1, 8, 1);
+    EXPECT(read_file(no_ids, sizeof no_ids, 4093, 4093) == 17);
+    EXPECT(reader.set_len == 32 + 1024 * 16);
+    put_file_opening(0);
+    put_previous(1, 1, 20000);
+    put_event(35, input + 1, put_one_entry(1025)); /* of another uuid */
+    EXPECT(read_file(no_ids, sizeof no_ids, 4093, 4093) == 17);
+    put_file_opening(0);
+    put_previous(1, 1, 20000);
+    put_previous(1025, 1, 1);
+    EXPECT(read_file(no_ids, sizeof no_ids, 4093, 4093) == 0);
+    len = put_set(wanted, 1, 1, 20000);
+    EXPECT(reader.set_len == len && memcmp(set, wanted, len) == 0);
+}
+
+/* The longest set: no entry more can be joined, and no number that stands apart is taken; what lengthens an interval is. */
+static void fill_by_file(void)
+{
+    static uint8_t longest[GTID_LONGEST_SET];
+    uint8_t event[GTID_LONGEST_EVENT];
+
+    memcpy(longest, input + 1, put_longest_set());
+    put_file_opening(1);
+    put_event(35, longest, sizeof longest);
+    put_event(42, event, put_last_event(event, LONG_NUMBER + 52));
+    put_previous(1, 1, 1);
+    EXPECT(read_file(no_ids, sizeof no_ids, 4093, 4093) == 16 && reader.set_len == GTID_LONGEST_SET);
+    EXPECT(lies_within(longest, sizeof longest, set, sizeof set) == 1 && lies_within(set, sizeof set, longest, sizeof longest) == 0);
+    put_file_opening(1);
+    put_event(42, event, put_last_event(event, LONG_NUMBER + 54));
+    EXPECT(read_file(longest, sizeof longest, file_len, file_len) == 16 && memcmp(set, longest, sizeof set) == 0);
+}
+
+/* The number of a step through the whole file that is lent so much room, and what it says is needed. Set and spare are as they were, and
+ * with more room it is the same. */
+static uint8_t step_in(size_t work_len, size_t set_room, size_t spare_room, uint64_t *needed)
+{
+    uint8_t number;
+
+    memcpy(wanted, set, sizeof set);
+    memcpy(other, next, sizeof next);
+    number = gtid_binlog_step((uint8_t *)&reader, sizeof reader, file, file_len, work, work_len, set, set_room, next, spare_room);
+    *needed = reader.len;
+    EXPECT(number != 0 && memcmp(set, wanted, sizeof set) == 0 && memcmp(next, other, sizeof next) == 0);
+    EXPECT(step(file, file_len) == number && reader.len == *needed && reader.used == 0);
+    EXPECT(memcmp(set, wanted, sizeof set) == 0 && memcmp(next, other, sizeof next) == 0);
+    return number;
+}
+
+static void refuse_room(void)
+{
+    uint64_t needed;
+
+    put_six(1);
+    EXPECT(begin_from(no_ids, sizeof no_ids) == 0);
+    EXPECT(step_in(GTID_BINLOG_WORK - 1, sizeof set, sizeof next, &needed) == 13 && needed == GTID_BINLOG_WORK);
+    EXPECT(begin_from(no_ids, sizeof no_ids) == 0);
+    EXPECT(step_in(0, sizeof set, sizeof next, &needed) == 13 && needed == GTID_BINLOG_WORK && end_file() == 13);
+    EXPECT(begin_from(no_ids, sizeof no_ids) == 0);
+    EXPECT(step_in(sizeof work, 47, sizeof next, &needed) == 13 && needed == 48);
+    EXPECT(begin_from(no_ids, sizeof no_ids) == 0);
+    EXPECT(step_in(sizeof work, sizeof set, 47, &needed) == 13 && needed == 48);
+    /* an offer likewise; and just enough */
+    put_file_opening(0);
+    put_gtid(33, 6);
+    EXPECT(begin_from(no_ids, sizeof no_ids) == 0);
+    EXPECT(step_in(sizeof work, sizeof set, 47, &needed) == 13 && needed == 48);
+    EXPECT(begin_from(no_ids, sizeof no_ids) == 0);
+    EXPECT(gtid_binlog_step((uint8_t *)&reader, sizeof reader, file, file_len, work, sizeof work, set, 48, next, 48) == 0);
+    EXPECT(reader.said == GTID_TAKEN && reader.set_len == 48 && reader.used == file_len);
+}
+
+/* Bytes that are no set, at the start and in the midst; a reader of another length; and one that no call made. */
+static void refuse_readers(void)
+{
+    uint8_t bytes[GTID_BINLOG_READER_LEN + 1], before[GTID_BINLOG_READER_LEN + 1];
+    const size_t lengths[] = {0, GTID_BINLOG_READER_LEN - 1, GTID_BINLOG_READER_LEN + 1};
+
+    EXPECT(sizeof reader == GTID_BINLOG_READER_LEN);
+    put_six(0);
+    EXPECT(begin_from(no_ids, 7) == 14 && reader.said == GTID_REFUSED);
+    EXPECT(step(file, file_len) == 14 && reader.used == 0 && step(file, 0) == 14 && end_file() == 14);
+    EXPECT(begin_from(no_ids, sizeof no_ids) == 0 && step(file, 4) == 0);
+    set[0] = 1; /* one entry, which isn't there */
+    EXPECT(step(file + 4, file_len - 4) == 14 && reader.set_len == 8 && set[0] == 1);
+    for (int i = 0; i < 3; i++) {
+        memset(bytes, 0xa5, sizeof bytes);
+        memset(before, 0xa5, sizeof before);
+        EXPECT(gtid_binlog_begin(no_ids, sizeof no_ids, 0, bytes, lengths[i]) == 12);
+        EXPECT(gtid_binlog_step(bytes, lengths[i], file, file_len, work, sizeof work, set, sizeof set, next, sizeof next) == 12);
+        EXPECT(gtid_binlog_end(bytes, lengths[i]) == 12 && memcmp(bytes, before, sizeof bytes) == 0);
+    }
+    for (uint8_t kind = 0; kind < 3; kind++) {
+        memset(&reader, 0xa5, sizeof reader);
+        reader.own[0] = kind == 2 ? 0xff : kind; /* of a kind that none has, or with more bytes than can have come */
+        EXPECT(step(file, file_len) == 12 && reader.said == GTID_REFUSED && reader.used == 0);
+        EXPECT(step(file, file_len) == 12 && end_file() == 12);
+    }
+}
+
+/* A copy of a reader, of its work bytes and of its set goes on as the reader does. */
+static void copy_reader(void)
+{
+    static uint8_t kept_work[GTID_BINLOG_WORK];
+    struct gtid_binlog kept_reader;
+
+    put_six(1);
+    for (size_t cut = 0; cut < file_len; cut++) {
+        EXPECT(begin_from(no_ids, sizeof no_ids) == 0 && feed(file, cut) == 0);
+        kept_reader = reader;
+        memcpy(kept_work, work, sizeof work);
+        memcpy(wanted, set, sizeof set);
+        EXPECT(read_file(wanted, reader.set_len, 7, 7) == 0); /* another file in between */
+        reader = kept_reader;
+        memcpy(work, kept_work, sizeof work);
+        memcpy(set, wanted, sizeof set);
+        EXPECT(feed(file + cut, file_len - cut) == 0 && end_file() == 0 && has_six());
+    }
+}
+
+/* The next file goes on from the set that the one before left. */
+static void read_two_files(void)
+{
+    put_six(1);
+    EXPECT(read_file(no_ids, sizeof no_ids, 5, 5) == 0 && reader.set_len == 48);
+    memcpy(other, set, 48);
+    put_file_opening(0);
+    put_previous(1, 1, 6);
+    put_gtid(33, 7);
+    EXPECT(read_file(other, 48, 5, 5) == 0);
+    EXPECT(hears(story, GTID_JOINED, 35, 48, other, 48) != NULL);
+    EXPECT(reader.set_len == 48 && memcmp(set, wanted, put_set(wanted, 1, 1, 7)) == 0);
+}
+
 int main(void)
 {
     size_t len = 9, used = 9, tag_len = 9, first = 9, end = 9;
@@ -966,5 +1479,19 @@ int main(void)
     refuse_fields();
     read_and_offer_untagged();
     write_without_id();
+    for (uint8_t with_checksums = 0; with_checksums < 2; with_checksums++) {
+        read_small_file(with_checksums);
+        end_anywhere(with_checksums);
+        refuse_small_sizes(with_checksums);
+        refuse_long_bodies(with_checksums);
+        refuse_events(with_checksums);
+    }
+    refuse_opening();
+    join_many();
+    fill_by_file();
+    refuse_room();
+    refuse_readers();
+    copy_reader();
+    read_two_files();
     return faults != 0;
 }

@@ -6,7 +6,7 @@
 //!
 //! The archive is for x86-64 Linux. `rt staticlib abi` in the repository makes it (it is looked for in `target/staticlib` there, or in the
 //! folder that GTID_LIB_DIR names); then depend on this crate by its path. On another machine build for x86-64 and emulate: the variables
-//! that this takes stand in `tools/needs`. A call uses up to 210 KB of the stack.
+//! that this takes stand in `tools/needs`. A call uses up to 270 KB of the stack.
 //!
 //! A follower's step, run for each transaction: offer its id, copy it and commit it in the tool, commit the offer, and save. In this order
 //! no crash loses a transaction; [`ResumeSet::offer`] says what the tool must do about one that it is given twice.
@@ -44,6 +44,9 @@
 //! # Ok::<(), io::Error>(())
 //! ```
 //!
+//! A binlog file is read as it arrives, in chunks that end anywhere, by a [`BinlogReader`]: it offers the GTID events that it comes to, and
+//! says which set is to be saved with each.
+//!
 //! Two sets are compared by [`ResumeSet::is_subset`], which shows a gap where a new binlog file begins, and by [`ResumeSet::is_superset`]. They
 //! make a third one by [`ResumeSet::union`], [`ResumeSet::intersection`] and [`ResumeSet::difference`], or `&a | &b`, `&a & &b` and `&a - &b`.
 //!
@@ -53,6 +56,7 @@
 //! is missing.
 #![deny(missing_docs)]
 
+mod binlog;
 mod event;
 mod fields;
 mod gtid;
@@ -64,6 +68,7 @@ mod set;
 mod sys;
 mod two_sets;
 
+pub use binlog::{BinlogReader, Checksums, Feed, Told, Walked};
 pub use event::{GtidEvent, GtidRead};
 pub use fields::{Field, Fields, FieldsIter};
 pub use gtid::Gtid;

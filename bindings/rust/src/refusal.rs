@@ -76,6 +76,7 @@ refusals! {
     BadGno = 15: "a transaction number or an interval outside its rule",
     Full = 16: "full: the set would pass 384 entries or 2,560 intervals",
     Crowded = 17: "crowded: an entry of the set would pass 1,024 intervals",
+    BadFile = 18: "no binlog file: a wrong opening byte, an event's size that is too small, or bytes after the named end",
     AbsentId = 21: "absent id: the fields of a tagged event end without its uuid or its number",
     Diverged = 22: "diverged: each of the two sets has an id that the other lacks",
 }

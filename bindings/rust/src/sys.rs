@@ -130,6 +130,26 @@ extern "C" {
         kind: *mut u8,
         len: *mut usize,
     ) -> u8;
+    pub fn gtid_binlog_begin(
+        set: *const u8,
+        set_len: usize,
+        checksums: u8,
+        reader: *mut u8,
+        reader_len: usize,
+    ) -> u8;
+    pub fn gtid_binlog_step(
+        reader: *mut u8,
+        reader_len: usize,
+        chunk: *const u8,
+        chunk_len: usize,
+        work: *mut u8,
+        work_len: usize,
+        set: *mut u8,
+        set_len: usize,
+        spare: *mut u8,
+        spare_len: usize,
+    ) -> u8;
+    pub fn gtid_binlog_end(reader: *mut u8, reader_len: usize) -> u8;
     pub fn gtid_list(
         input: *const u8,
         input_len: usize,

@@ -44,18 +44,35 @@ fn assert_stops(folder: &Folder, binlog: &[u8], says: &str) {
     assert_eq!(said.matches('\n').count(), 1, "{said}");
 }
 
+/// Also where its id has come, and only its end hasn't.
 #[test]
 fn what_is_not_complete_is_left_for_the_next_run() {
-    let whole = with_six().0.len();
     let mut binlog = with_six();
     binlog.transaction(GTID_EVENT, &gtid(7), &row("seven"));
-    for cut in (whole..binlog.0.len()).step_by(6) {
-        let folder = Folder::new("cut");
-        assert_eq!(followed(&folder, &binlog.0[..cut]), line(6, "six"));
-        let set = ResumeSet::load(folder.file("set")).unwrap();
-        assert!(set.contains(&[7; 16], b"", 6) && !set.contains(&[7; 16], b"", 7));
-        let both = line(6, "six") + &line(7, "seven");
-        assert_eq!(followed(&folder, &binlog.0), both);
+    for (six, both) in with_six().both_forms().iter().zip(binlog.both_forms()) {
+        for cut in (six.len()..both.len()).step_by(6) {
+            let folder = Folder::new("cut");
+            assert_eq!(followed(&folder, &both[..cut]), line(6, "six"));
+            let set = ResumeSet::load(folder.file("set")).unwrap();
+            assert!(set.contains(&[7; 16], b"", 6) && !set.contains(&[7; 16], b"", 7));
+            let lines = line(6, "six") + &line(7, "seven");
+            assert_eq!(followed(&folder, &both), lines);
+        }
+    }
+}
+
+/// Each transaction is longer than the longest chunk.
+#[test]
+fn rows_of_many_chunks_are_put_together() {
+    let rows: Vec<_> = (0..40).map(|nth| format!("{nth}-").repeat(77)).collect();
+    let mut binlog = Binlog::new(&opening(&WITH_FIVE));
+    let mut lines = String::new();
+    for gno in 6..9 {
+        binlog.transaction(GTID_EVENT, &gtid(gno), &rows);
+        lines += &line(gno, &rows.join(" "));
+    }
+    for form in binlog.both_forms() {
+        assert_eq!(followed(&Folder::new("long-rows"), &form), lines);
     }
 }
 
@@ -91,12 +108,34 @@ fn the_next_file_is_followed_and_a_missing_one_is_seen() {
     let mut third = Binlog::new(&opening(&[(7, 7)]));
     third.transaction(GTID_EVENT, &gtid(8), &row("eight"));
     assert_stops(&folder, &third.0, "older file");
+    // and the ids that it lists weren't taken over
+    let set = ResumeSet::load(folder.file("set")).unwrap();
+    assert!(!set.contains(&[7; 16], b"", 7));
     let mut second = Binlog::new(&opening(&[(7, 6)]));
     second.transaction(GTID_EVENT, &gtid(7), &row("seven"));
     second.event(4, b"the next file's name");
-    followed(&folder, &second.0);
+    followed(&folder, &second.with_checksums().0);
     let all = line(6, "six") + &line(7, "seven") + &line(8, "eight");
     assert_eq!(followed(&folder, &third.0), all);
+}
+
+#[test]
+fn nothing_follows_the_end_of_a_closed_file() {
+    let mut closed = with_six();
+    closed.event(4, b"the next file's name");
+    let mut transaction = Binlog(closed.0.clone());
+    transaction.transaction(GTID_EVENT, &gtid(7), &row("seven"));
+    let mut row = Binlog(closed.0.clone());
+    row.event(30, b"a row");
+    for form in 0..2 {
+        let [closed, transaction, row] = [&closed, &transaction, &row].map(Binlog::both_forms);
+        let folder = Folder::new("closed");
+        assert_stops(&folder, &transaction[form], "closes the file");
+        assert_stops(&folder, &row[form], "closes the file");
+        let torn = &row[form][..closed[form].len() + 1];
+        assert_stops(&folder, torn, "refusal 1:");
+        assert_eq!(followed(&folder, &closed[form]), line(6, "six"));
+    }
 }
 
 #[test]
@@ -118,7 +157,8 @@ fn a_damaged_event_is_not_passed_over() {
     without_id.transaction(GTID_EVENT, &gtid(8), &row("eight"));
     let mut nameless = with_six();
     nameless.event(30, b"a row of no transaction");
-    nameless.event(16, &[0; 8]);
+    let mut reopened = with_six();
+    reopened.event(35, &opening(&[(7, 7)]));
     let mut endless = with_six();
     endless.event(33, &gtid(7));
     endless.transaction(GTID_EVENT, &gtid(8), &row("eight"));
@@ -135,35 +175,39 @@ fn a_damaged_event_is_not_passed_over() {
     for (binlog, says) in [
         (short, "refusal 1:"),
         (without_id, "refusal 21:"),
-        (nameless, "refusal 8:"),
+        (nameless, "in no transaction"),
+        (reopened, "older file"),
         (endless, "without an end"),
         (last, "without an end"),
         (anonymous, "without an end"),
         (headless, "without one"),
     ] {
-        let folder = Folder::new("bad-event");
-        assert_stops(&folder, &binlog.0, says);
-        // and what came before it is there
-        let tool = fs::read_to_string(folder.file("tool")).unwrap();
-        assert_eq!(tool, line(6, "six"));
+        for form in binlog.both_forms() {
+            let folder = Folder::new("bad-event");
+            assert_stops(&folder, &form, says);
+            // and what came before it is there
+            let tool = fs::read_to_string(folder.file("tool")).unwrap();
+            assert_eq!(tool, line(6, "six"));
+            let set = ResumeSet::load(folder.file("set")).unwrap();
+            assert_eq!(set, ResumeSet::take_in(&opening(&[(7, 6)])).unwrap());
+        }
     }
 }
 
 #[test]
 fn checksums_are_not_taken_for_rows() {
-    for kind in [0, 1] {
-        let mut binlog = Binlog(b"\xfebin".to_vec());
-        binlog.event(15, &[&[4, 0][..], &[0; 55], &[kind, 9, 9, 9, 9]].concat());
-        binlog.event(35, &opening(&WITH_FIVE));
-        binlog.transaction(GTID_EVENT, &gtid(6), &row("six"));
-        let folder = Folder::new("checksums");
-        if kind == 0 {
-            assert_eq!(followed(&folder, &binlog.0), line(6, "six"));
-        } else {
-            assert_stops(&folder, &binlog.0, "checksums");
-            assert!(!folder.file("tool").exists());
-        }
+    let mut described = Binlog(b"\xfebin".to_vec());
+    described.describe(0);
+    described.0.extend(&with_six().0[4..]);
+    for form in [described.0, with_six().with_checksums().0] {
+        assert_eq!(followed(&Folder::new("checksums"), &form), line(6, "six"));
     }
+    let mut unknown = Binlog(b"\xfebin".to_vec());
+    unknown.describe(2);
+    unknown.0.extend(&with_six().0[4..]);
+    let folder = Folder::new("unknown");
+    assert_stops(&folder, &unknown.0, "checksums of an unknown kind");
+    assert!(!folder.file("tool").exists());
 }
 
 #[test]
@@ -182,13 +226,23 @@ fn what_is_no_binlog_is_an_error() {
     small.0[size] = 18;
     let mut unopened = Binlog(b"\xfebin".to_vec());
     unopened.transaction(GTID_EVENT, &gtid(6), &row("six"));
+    let mut rows = Binlog(b"\xfebin".to_vec());
+    rows.event(30, b"a row");
+    let mut short = Binlog(b"\xfebin".to_vec());
+    short.event(15, b"4"); // too short to tell of checksums
     for (bytes, says) in [
         (b"text".to_vec(), "no binlog"),
+        (b"\xfebi".to_vec(), "no opening event"),
+        (b"\xfebin".to_vec(), "no opening event"),
         (unopened.0, "no opening event"),
-        (small.0, "an event of 18 bytes"),
+        (rows.0, "no opening event"),
+        (short.0, "no opening event"),
     ] {
-        assert_stops(&Folder::new("no-binlog"), &bytes, says);
+        let folder = Folder::new("no-binlog");
+        assert_stops(&folder, &bytes, says);
+        assert!(!folder.file("tool").exists());
     }
+    assert_stops(&Folder::new("small"), &small.0, "refusal 18:");
     let folder = Folder::new("no-file");
     let ended = follower(&folder).output().unwrap();
     assert_eq!(ended.status.code(), Some(2));

@@ -1,4 +1,5 @@
-//! The follower is killed two hundred times, at any moment, and in the end each transaction is in the tool once.
+//! The follower is killed two hundred times, at any moment, and in the end each transaction is in the tool once. Every second start finds the
+//! same events with checksums.
 use gtid_resume::{GtidEvent, ResumeSet, ANONYMOUS_GTID_EVENT};
 use std::collections::{HashMap, HashSet};
 use std::env;
@@ -214,6 +215,8 @@ struct Course {
     longest_life: Duration,
     /// Those that left work undone, by the quarter of the work that they fell in.
     kills: [usize; 4],
+    /// The binlog without checksums, and with them: the next start finds the first.
+    forms: [Vec<u8>; 2],
 }
 
 impl Course {
@@ -233,6 +236,8 @@ impl Course {
 
     /// Whether the follower was killed, and didn't end before.
     fn kill(&mut self, random: &mut Random) -> bool {
+        fs::write(self.folder.file("events"), &self.forms[0]).unwrap();
+        self.forms.swap(0, 1);
         let life = random.below(self.longest_life.as_micros() as u64);
         let life = Duration::from_micros(life).min(self.clock.left());
         let status = run_and_kill(&self.folder, life);
@@ -273,9 +278,11 @@ fn no_kill_loses_or_doubles_a_transaction() {
     let unbroken = run(&folder, &clock);
     assert_whole(&folder, &stand);
     let again = run(&folder, &clock);
+    let forms = stand.binlog.both_forms();
     let mut course = Course {
         folder,
         stand,
+        forms,
         clock,
         // long enough to get on near the end too, and so short that a run takes some hundred
         longest_life: again * 3 / 2 + unbroken / 200,

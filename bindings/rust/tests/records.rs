@@ -202,6 +202,7 @@ fn refusals_tell_name_number_and_words() {
         (Refusal::NotASet, 14),
         (Refusal::Full, 16),
         (Refusal::Crowded, 17),
+        (Refusal::BadFile, 18),
         (Refusal::AbsentId, 21),
         (Refusal::Diverged, 22),
         (Refusal::Unknown(200), 200),
@@ -236,6 +237,7 @@ fn refusals_have_the_names_and_numbers_of_the_source() {
         Refusal::BadGno,
         Refusal::Full,
         Refusal::Crowded,
+        Refusal::BadFile,
         Refusal::AbsentId,
         Refusal::Diverged,
     ];
@@ -263,6 +265,7 @@ fn refusals_become_errors_of_io() {
         (Refusal::NotASet, io::ErrorKind::InvalidData),
         (Refusal::Full, io::ErrorKind::Other),
         (Refusal::Crowded, io::ErrorKind::Other),
+        (Refusal::BadFile, io::ErrorKind::InvalidData),
         (Refusal::AbsentId, io::ErrorKind::InvalidData),
         (Refusal::Diverged, io::ErrorKind::Other),
     ] {

@@ -112,6 +112,25 @@ mod linked {
             out_len: usize,
             len: *mut usize,
         ) -> u8;
+        pub fn gtid_binlog_begin(
+            set: *const u8,
+            set_len: usize,
+            checksums: u8,
+            reader: *mut u8,
+            reader_len: usize,
+        ) -> u8;
+        pub fn gtid_binlog_step(
+            reader: *mut u8,
+            reader_len: usize,
+            chunk: *const u8,
+            chunk_len: usize,
+            work: *mut u8,
+            work_len: usize,
+            set: *mut u8,
+            set_len: usize,
+            spare: *mut u8,
+            spare_len: usize,
+        ) -> u8;
         pub fn gtid_rewrite(
             body: *const u8,
             body_len: usize,
@@ -439,6 +458,47 @@ mod ours {
         (refusal, [entries, intervals, high, low])
     }
 
+    /// A binlog reader, with what its last call said.
+    pub type Reader = [u8; 48];
+
+    /// What it is lent with each call.
+    pub struct Lent {
+        pub work: Vec<u8>,
+        pub set: Vec<u8>,
+        pub spare: Vec<u8>,
+    }
+
+    pub fn binlog_begin(set: &[u8], checksums: bool, reader: &mut Reader) -> u8 {
+        let checksums = u8::from(checksums);
+        unsafe {
+            linked::gtid_binlog_begin(
+                set.as_ptr(),
+                set.len(),
+                checksums,
+                reader.as_mut_ptr(),
+                reader.len(),
+            )
+        }
+    }
+
+    #[inline(always)]
+    pub fn binlog_step(reader: &mut Reader, chunk: &[u8], lent: &mut Lent) -> u8 {
+        unsafe {
+            linked::gtid_binlog_step(
+                reader.as_mut_ptr(),
+                reader.len(),
+                chunk.as_ptr(),
+                chunk.len(),
+                lent.work.as_mut_ptr(),
+                lent.work.len(),
+                lent.set.as_mut_ptr(),
+                lent.set.len(),
+                lent.spare.as_mut_ptr(),
+                lent.spare.len(),
+            )
+        }
+    }
+
     /// The refusal, and the same numbers over all sets.
     #[inline(always)]
     pub fn report_sum(report: &[u8]) -> (u8, [u64; 4]) {
@@ -461,7 +521,7 @@ mod ours {
 
 /// A word for it, what it is, and the smaller number of turns; the other is twice that.
 #[rustfmt::skip]
-const TABLE: [(&str, &str, u64); 90] = [
+const TABLE: [(&str, &str, u64); 99] = [
     ("varint-1", "read 64 variable-length integers of 1 byte", 1000),
     ("varint-2", "read 64 variable-length integers of 2 bytes", 1000),
     ("varint-3", "read 64 variable-length integers of 3 bytes", 1000),
@@ -552,6 +612,15 @@ const TABLE: [(&str, &str, u64); 90] = [
     ("report-write-1", "report_write, a report over 1 set", 1000),
     ("report-write-64", "report_write, a report over 64 sets", 100),
     ("report-write-longest", "the same, every number with its most digits: the longest text", 100),
+    ("binlog-skip", "binlog_step, 1,000 events of 100 bytes, all skipped", 10),
+    ("binlog-skip-long", "the same, of 10,000 bytes", 10),
+    ("binlog-offer-1", "binlog_step, an event that is offered, 1 interval", 1000),
+    ("binlog-offer-1023", "the same, 1,023 intervals of one uuid", 10),
+    ("binlog-offer-there", "the same, an id that is there", 10),
+    ("binlog-offer-bytes", "an event that is offered, 1 interval, a step for each of its bytes", 100),
+    ("binlog-join-1", "binlog_step, a type 35 that is joined, 1 interval", 1000),
+    ("binlog-join-longest", "the same, the longest set and itself", 10),
+    ("binlog-join-merged", "the same, two uuids in falling order and the empty set", 10),
 ];
 
 type Turns = Box<dyn FnMut(u64)>;
@@ -694,6 +763,15 @@ fn made(what: &str) -> Option<Made> {
             &report_text(64, [1, 1, 0, 5], [64, 64, 0, 64 * 5]),
         ),
         "report-write-longest" => reporting(over_great(), &report_text(64, GREAT, GREAT_SUM)),
+        "binlog-skip" => skipping(100),
+        "binlog-skip-long" => skipping(10_000),
+        "binlog-offer-1" => walked_offer(one_uuid(1), apart(1), usize::MAX),
+        "binlog-offer-1023" => walked_offer(one_uuid(1023), apart(1023), usize::MAX),
+        "binlog-offer-there" => walked_offer(one_uuid(1023), interval(1022).0, usize::MAX),
+        "binlog-offer-bytes" => walked_offer(one_uuid(1), apart(1), 1),
+        "binlog-join-1" => walked_join(&one_uuid(1), &one_uuid(1), &one_uuid(1)),
+        "binlog-join-longest" => walked_join(&longest(), &longest(), &longest()),
+        "binlog-join-merged" => walked_join(&reversed(uuids(2, false)), &[], &uuids(2, false)),
         "list-35-merged" => listing(35, &body(&touching()), &text(&merged())),
         "list-35-tags" => listing(35, &body(&reversed(tags(256, 2))), &text(&tags(256, 2))),
         "list-33" => listing(
@@ -1176,6 +1254,78 @@ fn reporting(report: Vec<u8>, expected: &str) -> Made {
         }),
         theirs: None,
     }
+}
+
+/// An event of a binlog without checksums: 19 bytes of header, in which the type and the size are told, and a body.
+fn in_file(event_type: u8, body: &[u8]) -> Vec<u8> {
+    let mut event = vec![0; 19];
+    event[4] = event_type;
+    event[9..13].copy_from_slice(&(19 + body.len() as u32).to_le_bytes());
+    event.extend(body);
+    event
+}
+
+/// What a step says of an event, or that the chunk is used up.
+const TAKEN: u8 = 1;
+const ALREADY_THERE: u8 = 2;
+const JOINED: u8 = 4;
+const MORE_WANTED: u8 = 5;
+
+/// Walks events behind the opening of a file, in pieces of so many bytes, a step for each; the last step says what is expected. Before each
+/// turn the reader is put back between two events, and its set as it was.
+fn walking(events: Vec<u8>, piece: usize, set: Vec<u8>, said: u8, after: &[u8]) -> Made {
+    let mut lent = ours::Lent {
+        work: vec![0; 65_540],
+        set: vec![0; LONGEST],
+        spare: vec![0; LONGEST],
+    };
+    let mut between = [0; 48];
+    assert_eq!(ours::binlog_begin(&set, false, &mut between), 0);
+    assert_eq!(ours::binlog_step(&mut between, b"\xfebin", &mut lent), 0);
+    let mut reader = between;
+    lent.set[..set.len()].copy_from_slice(&set);
+    for chunk in events.chunks(piece) {
+        assert_eq!(ours::binlog_step(&mut reader, chunk, &mut lent), 0);
+        assert_eq!(reader[32..40], (chunk.len() as u64).to_le_bytes(), "used");
+    }
+    assert_eq!(reader[3], said);
+    assert_eq!(&lent.set[..after.len()], after);
+
+    Made {
+        bytes: if said == MORE_WANTED {
+            events.len()
+        } else {
+            set.len()
+        },
+        ours: turns(move || {
+            let mut reader = *black_box(&between);
+            lent.set[..set.len()].copy_from_slice(&set);
+            for chunk in black_box(&events).chunks(piece) {
+                black_box(ours::binlog_step(black_box(&mut reader), chunk, &mut lent));
+            }
+        }),
+        theirs: None,
+    }
+}
+
+fn skipping(size: usize) -> Made {
+    let set = body(&one_uuid(1));
+    let events = in_file(2, &vec![0; size - 19]).repeat(1000);
+    walking(events, usize::MAX, set.clone(), MORE_WANTED, &set)
+}
+
+fn walked_offer(entries: Vec<Entry>, gno: u64, piece: usize) -> Made {
+    let set = body(&entries);
+    let (event_type, event) = event_for(&entries[0], gno);
+    let mut after = entries;
+    let there = !with(&mut after[0].intervals, gno);
+    let said = if there { ALREADY_THERE } else { TAKEN };
+    walking(in_file(event_type, &event), piece, set, said, &body(&after))
+}
+
+fn walked_join(joined: &[Entry], before: &[Entry], after: &[Entry]) -> Made {
+    let events = in_file(35, &body(joined));
+    walking(events, usize::MAX, body(before), JOINED, &body(after))
 }
 
 fn listing(event_type: u8, body: &[u8], expected: &str) -> Made {
@@ -1665,7 +1815,7 @@ impl Sent {
 
 #[rustfmt::skip]
 fn stack() {
-    let rows: [(&str, &[&str]); 20] = [
+    let rows: [(&str, &[&str]); 21] = [
         ("gtid_read_varlen_uint", &["varint-1", "varint-7", "varint-9"]),
         ("gtid_read", &["read-untagged", "read-short", "read-tagged", "read-tagged-32"]),
         ("gtid_read_present", &["read-present", "read-present-32"]),
@@ -1685,6 +1835,7 @@ fn stack() {
         ("gtid_report_add", &["report-add-1", "report-add-1024", "report-add-longest", "report-add-cut", "report-add-65th"]),
         ("gtid_report_sum", &["report-sum-1", "report-sum-64"]),
         ("gtid_report_write", &["report-write-1", "report-write-64", "report-write-longest"]),
+        ("gtid_binlog_step", &["binlog-skip", "binlog-offer-1", "binlog-offer-1023", "binlog-join-1", "binlog-join-longest", "binlog-join-merged"]),
         ("gtid_list", &["list-35", "list-35-longest", "list-35-merged", "list-35-tags", "list-33", "list-42"]),
     ];
     println!("| call | bytes of stack | on the input |");

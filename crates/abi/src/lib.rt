@@ -3,6 +3,9 @@
 use flat::SIZE;
 use flat::put_record;
 use flat::record_in;
+use flat_binlog::READER_SIZE;
+use flat_binlog::keep_step;
+use flat_binlog::reader_in;
 use flat_report::REPORT_SIZE;
 use flat_report::keep_line;
 use flat_report::report_in;
@@ -17,6 +20,7 @@ use previous_gtids_event::read::header_of;
 use resume_set::Offered;
 use two_sets::Choice;
 ghost use mathlib.Core.Path.{_≡_};
+ghost use lib.Dec.{ltb};
 ghost use lib.ListN.{length};
 ghost use Rattle.misc.specs.Parse.{uintRead};
 ghost use Rattle.misc.specs.Varlen.{varlenAt};
@@ -32,9 +36,13 @@ ghost use Rattle.two_sets.specs.Answers.{combineAnswers, combineLeaves, withinA
 ghost use Rattle.listing.specs.EventText.{listing};
 ghost use Rattle.abi.specs.Answers.{numbersOf, headNumbers, bit, entryIn};
 ghost use Rattle.abi.specs.Flat.{readOutput, readUsed, readPresent, writeOutput};
+ghost use Rattle.binlog.specs.Held.{Front};
+ghost use Rattle.binlog_reader.specs.Step.{stepAnswers, beginAnswers, endAnswersOf};
+ghost use Rattle.abi.specs.FlatBinlog.{readerIn, flatSays, flatKeeps, flatStepped, flatBuffer, flatHolds};
 ghost use Rattle.abi.specs.FlatReport.{flatAdds, flatLeaves, flatRefusal, flatSum, flatText};
 
 mod flat;
+mod flat_binlog;
 mod flat_report;
 
 // Reads the variable-length unsigned integer at the front of some bytes: its value, and how many bytes it takes.
@@ -431,4 +439,53 @@ pub extern "C" fn gtid_report_write(report: &[u8], out: &mut [u8], len: &mut usi
     let wrote = report_in(report).write(out);
     *len = wrote.len;
     wrote.refusal
+}
+
+// Begins to read a binlog file: the reader, which is 48 bytes, goes on from a set. `checksums` is 0 where events end without them.
+#[no_mangle]
+pub extern "C" fn gtid_binlog_begin(set: &[u8], checksums: u8, reader: &mut [u8]) -> u8
+    ensures { λ r. ⌜ r ≡ flatSays (now (reader .entry)) (beginAnswers (now (set .entry)) (ltb 0 checksums)) ⌝ }
+    ensures { λ _. ⌜ now (reader .exit) ≡ flatKeeps (now (reader .entry)) (beginAnswers (now (set .entry)) (ltb 0 checksums)) ⌝ }
+{
+    if reader.len() != READER_SIZE {
+        return NOT_WRITABLE;
+    }
+    let begun = binlog_reader::begin(set, 0 < checksums);
+    keep_step(begun, reader)
+}
+
+// Takes bytes of a chunk up to the end of the next event that is offered or joined, or of the chunk.
+#[no_mangle]
+pub extern "C" fn gtid_binlog_step(
+    reader: &mut [u8],
+    chunk: &[u8],
+    work: &mut [u8],
+    set: &mut [u8],
+    spare: &mut [u8],
+) -> u8
+    ensures { λ r. ⌜ r ≡ flatSays (now (reader .entry)) (stepAnswers (readerIn (now (reader .entry))) (flatStepped (now (reader .entry)) (now (work .entry)) (now (set .entry)) (length (now (spare .entry))) (now (chunk .entry)))) ⌝ }
+    ensures { λ _. ⌜ now (reader .exit) ≡ flatKeeps (now (reader .entry)) (stepAnswers (readerIn (now (reader .entry))) (flatStepped (now (reader .entry)) (now (work .entry)) (now (set .entry)) (length (now (spare .entry))) (now (chunk .entry)))) ⌝ }
+    ensures { λ _. ⌜ now (set .exit) ≡ flatBuffer (now (reader .entry)) (now (set .entry)) (flatStepped (now (reader .entry)) (now (work .entry)) (now (set .entry)) (length (now (spare .entry))) (now (chunk .entry))) ⌝ }
+    ensures { λ _. ⌜ now (spare .exit) ≡ flatBuffer (now (reader .entry)) (now (spare .entry)) (flatStepped (now (reader .entry)) (now (work .entry)) (now (set .entry)) (length (now (spare .entry))) (now (chunk .entry))) ⌝ }
+    ensures { λ _. ⌜ Front (flatHolds (now (reader .entry)) (flatStepped (now (reader .entry)) (now (work .entry)) (now (set .entry)) (length (now (spare .entry))) (now (chunk .entry)))) (now (work .exit)) ⌝ }
+{
+    if reader.len() != READER_SIZE {
+        return NOT_WRITABLE;
+    }
+    let before = reader_in(reader);
+    let stepped = binlog_reader::step(before, chunk, work, set, spare);
+    keep_step(stepped, reader)
+}
+
+// Names the end of the file.
+#[no_mangle]
+pub extern "C" fn gtid_binlog_end(reader: &mut [u8]) -> u8
+    ensures { λ r. ⌜ r ≡ flatSays (now (reader .entry)) (endAnswersOf (readerIn (now (reader .entry)))) ⌝ }
+    ensures { λ _. ⌜ now (reader .exit) ≡ flatKeeps (now (reader .entry)) (endAnswersOf (readerIn (now (reader .entry)))) ⌝ }
+{
+    if reader.len() != READER_SIZE {
+        return NOT_WRITABLE;
+    }
+    let ended = binlog_reader::end(reader_in(reader));
+    keep_step(ended, reader)
 }

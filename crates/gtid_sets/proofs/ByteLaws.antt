@@ -28,7 +28,7 @@ tag-long : (w : Bool) (t : List ℕ) → noneOrTag t ≡ true → length (tagByt
 tag-long false t h = omega arith
 tag-long true t h = let short = none-or-tag-short t h in rw (length-append, one-byte (length t) (omega arith)) (omega arith)
 
-entries-long : (w : Bool) (es : List Entry) → GoodKeys es → length (entriesBytes w es) ≤ 57 * length es + 16 * intervals es
+pub entries-long : (w : Bool) (es : List Entry) → GoodKeys es → length (entriesBytes w es) ≤ 57 * length es + 16 * intervals es
 unfolding entriesBytes
 entries-long w [] g = omega arith
 entries-long w (entry k is ∷ es) g = simp (length-append, entry-length w k is (g .0 .uuid))

@@ -15,7 +15,7 @@ use Rattle.gtid_sets.specs.Lent.{GoodKeys}
 use Rattle.gtid_sets.specs.TakeIn.{Lawful, union, takeIn}
 use Rattle.gtid_sets.specs.Combine.{either, without, swept, keep, combined, isEmpty, subset}
 use Rattle.gtid_sets.proofs.SetLaws.{above-down, above-misses, set-unique}
-use Rattle.gtid_sets.proofs.TakeInLaws.{has-union, has-takeIn, form-union, form-takeIn}
+use Rattle.gtid_sets.proofs.TakeInLaws.{has-union, has-takeIn, form-union, form-takeIn, form-lawful, takeIn-self}
 use Rattle.gtid_sets.proofs.SweepLaws.{swept-gapped, swept-covers}
 
 -- ---- the ways of a combining: the first entry of the first set stands before that of the second, has its key, or stands after it
@@ -170,3 +170,7 @@ pub join-is-either : (r s : List Entry) → Lawful r → SetForm s → union r s
 join-is-either r s l f =
     is-combined either refl s (takeIn r) (union r s) f (form-takeIn r l) (form-union r s l f)
     (λ k n. has-union r s k n ∙ rw (has-takeIn r k n) (or-comm (has r k n) (has s k n)))
+
+-- and where the body's entries are in set form themselves, they are those in either of the two sets
+pub union-either : (t s : List Entry) → SetForm t → SetForm s → union t s ≡ combined either s t
+union-either t s g f = join-is-either t s (form-lawful t g) f ∙ ap (combined either s) (takeIn-self t g)

@@ -25,7 +25,7 @@ use Rattle.gtid_sets.specs.TakeIn.{Lawful, joinAll, union, takeIn}
 use Rattle.gtid_sets.specs.Limits.{intervals, crowds, fine, isFine, limits, longestSet}
 use Rattle.gtid_sets.specs.Lent.{Lent, form, unfit, isForm, lentRead, lentSet, GoodKeys, SetLaid}
 use Rattle.gtid_sets.proofs.SetLaws.{join-before, join-into, join-after}
-use Rattle.gtid_sets.proofs.TakeInLaws.{form-takeIn}
+use Rattle.gtid_sets.proofs.TakeInLaws.{form-union, form-takeIn}
 use Rattle.gtid_sets.proofs.FormLaws.{form-holds, form-tests}
 use Rattle.gtid_sets.proofs.LimitLaws.{maxEntries-is, maxIntervals-is, longestSet-is, limits-crowded, limits-says, limits-from, fine-holds}
 use Rattle.gtid_sets.proofs.KeyLaws.{read-good}
@@ -143,3 +143,10 @@ good-takeIn r g = good-union r [] g tt
 pub lent-takeIn : (bs : List ℕ) (r : List Entry) (next : ℕ) → previous bs ≡ parsed r next → Lawful r → limits (takeIn r) ≡ fine
     → lentSet (bodyBytes (takeIn r)) ≡ form (takeIn r)
 lent-takeIn bs r next e l h = lent-back (takeIn r) (form-takeIn r l) (good-takeIn r (read-good bs r next e)) h
+
+-- and so is a lent set with all ids of a body too
+pub lent-union : (bs : List ℕ) (r : List Entry) (next : ℕ) (set : List ℕ) (s : List Entry) → previous bs ≡ parsed r next → lentSet set ≡ form s
+    → Lawful r → limits (union r s) ≡ fine → lentSet (bodyBytes (union r s)) ≡ form (union r s)
+lent-union bs r next set s e h l fits =
+    let i = lent-is set s h in
+    lent-back (union r s) (form-union r s l (i .formed)) (good-union r s (read-good bs r next e) (i .keyed)) fits

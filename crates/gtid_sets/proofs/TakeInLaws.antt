@@ -1,7 +1,7 @@
 -- Laws of taking in: its members are the body's ids, it is in set form, and since that is unique any other way to them gives the same.
 use Prim.Native.Nat.{ℕ}
 use mathlib.Core.Path.{_≡_, refl, sym, _∙_}
-use mathlib.Core.Bool.{_&&_, _||_, or-false, and-false, and-or-distrib-left}
+use mathlib.Core.Bool.{true, _&&_, _||_, or-false, and-false, and-or-distrib-left}
 use mathlib.Core.List.{List, [], _∷_}
 use native.Mathlib.Omega.{arith}
 use Rattle.packets.specs.Gno.{Interval, interval}
@@ -10,7 +10,7 @@ use Rattle.previous_gtids_event.specs.Entry.{Entry, entry}
 use Rattle.gtid_sets.specs.Interval.{covers, Gapped}
 use Rattle.gtid_sets.specs.Set.{has, SetForm, join}
 use Rattle.gtid_sets.specs.TakeIn.{Proper, Lawful, joinAll, union, takeIn}
-use Rattle.gtid_sets.proofs.Bools.{or-shift}
+use Rattle.gtid_sets.proofs.Bools.{or-shift, or-within}
 use Rattle.gtid_sets.proofs.SetLaws.{has-join, form-join, set-unique}
 
 -- ---- members
@@ -57,6 +57,10 @@ form-lawful (entry k is ∷ s) f = (gapped-proper 0 is (f .1), form-lawful s (f 
 pub is-union : (r s u : List Entry) → Lawful r → SetForm s → SetForm u
     → ((k : Key) (n : ℕ) → has u k n ≡ has r k n || has s k n) → u ≡ union r s
 is-union r s u l f g m = set-unique u (union r s) g (form-union r s l f) (λ k n. m k n ∙ sym (has-union r s k n))
+
+-- ids that are members already change nothing
+pub union-within : (r s : List Entry) → Lawful r → SetForm s → ((k : Key) (n : ℕ) → has r k n ≡ true → has s k n ≡ true) → union r s ≡ s
+union-within r s l f m = sym (is-union r s s l f f (λ k n. sym (or-within (has r k n) (has s k n) (m k n))))
 
 pub is-takeIn : (r u : List Entry) → Lawful r → SetForm u → ((k : Key) (n : ℕ) → has u k n ≡ has r k n) → u ≡ takeIn r
 is-takeIn r u l g m = is-union r [] u l tt g (λ k n. m k n ∙ sym (or-false (has r k n)))

@@ -1,8 +1,7 @@
--- Offering events to a set, one after another: the answers, and the set after them.
+-- Offering an event to a set: the answer, and the set after it.
 use Prim.Native.Nat.{ℕ}
-use mathlib.Core.Path.{_≡_}
-use mathlib.Core.Bool.{Bool, true, false, _&&_, _||_}
-use mathlib.Core.List.{List, [], _∷_}
+use mathlib.Core.Bool.{Bool, true, false, _&&_}
+use mathlib.Core.List.{List}
 use lib.Dec.{eqb}
 use Rattle.misc.specs.Pick.{pick}
 use Rattle.misc.specs.Refusal.{Refusal, badGno}
@@ -46,11 +45,6 @@ after s anonymous = s
 after s (broken r) = s
 after s (names k n) = pick (isTaken (answer s (names k n))) (add k n s) s
 
--- the set after a list of events
-abbrev pub run : List Entry → List Event → List Entry
-run s [] = s
-run s (e ∷ es) = run (after s e) es
-
 -- ---- what demand 3 speaks of
 
 -- "taken" or "already there": the event's id is a member after it
@@ -66,18 +60,8 @@ isOf anonymous k n = false
 isOf (broken r) k n = false
 isOf (names j m) k n = same k j && eqb n m
 
--- whether (k, n) is the id of an event that was answered "taken" or "already there"
-abbrev pub granted : List Entry → List Event → Key → ℕ → Bool
-granted s [] k n = false
-granted s (e ∷ es) k n = (isMember (answer s e) && isOf e k n) || granted (after s e) es k n
-
 abbrev pub forFull : Answer → Bool
 forFull noId = false
 forFull already = false
 forFull taken = false
 forFull (refused r) = isFull r
-
--- no event of the run was refused for full
-abbrev pub NeverFull : List Entry → List Event → Type 0
-NeverFull s [] = Unit {0}
-NeverFull s (e ∷ es) = (forFull (answer s e) ≡ false) × NeverFull (after s e) es

@@ -1,6 +1,6 @@
 -- Offering events to a saved set, as bytes.
 use Prim.Native.Nat.{ℕ}
-use mathlib.Core.List.{List, [], _∷_}
+use mathlib.Core.List.{List}
 use Rattle.previous_gtids_event.specs.Previous.{GoodKey}
 use Rattle.previous_gtids_event.specs.Rewrite.{bodyBytes}
 use Rattle.gtid_sets.specs.Run.{Event, anonymous, broken, names, after}
@@ -14,16 +14,8 @@ grown unfit bs e = bs
 abbrev pub savedAfter : List ℕ → Event → List ℕ
 savedAfter bs e = grown (lentSet bs) bs e
 
-abbrev pub savedRun : List ℕ → List Event → List ℕ
-savedRun bs [] = bs
-savedRun bs (e ∷ es) = savedRun (savedAfter bs e) es
-
 -- an event names no id, or one whose key is as keys are read
 abbrev pub GoodEvent : Event → Type 0
 GoodEvent anonymous = Unit {0}
 GoodEvent (broken r) = Unit {0}
 GoodEvent (names k n) = GoodKey k
-
-abbrev pub GoodEvents : List Event → Type 0
-GoodEvents [] = Unit {0}
-GoodEvents (e ∷ es) = GoodEvent e × GoodEvents es

@@ -8,6 +8,7 @@ use misc::bytes::write_bytes;
 use misc::put::put_bytes;
 use misc::refusal::ENDED;
 use misc::refusal::NO_ROOM;
+use previous_gtids_event::PREVIOUS_GTIDS_EVENT;
 use resume_set::take_in::take_in;
 use set_check::LONGEST_SET;
 use text::digits::decimal_len;
@@ -24,9 +25,6 @@ ghost use Rattle.previous_gtids_event.specs.Previous.{previous};
 ghost use Rattle.resume_set.specs.Answers.{takenIn, eventOf};
 ghost use Rattle.text.specs.Lines.{refusedText};
 ghost use Rattle.listing.specs.EventText.{recordText, gtidText, takenText, eventText, listing};
-
-// The type of a Previous-GTIDs event.
-pub const PREVIOUS_GTIDS_EVENT: u8 = 35;
 
 // Writes that an event is refused, and the number.
 fn write_refused(refusal: u8, out: &mut [u8]) -> Wrote

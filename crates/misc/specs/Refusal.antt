@@ -58,7 +58,7 @@ badLead = numbered 10
 abbrev pub tooLong : Refusal
 tooLong = numbered 11
 
--- a record that can't be written, or bytes that are no report
+-- a record that can't be written, bytes that are no report, or a binlog reader that no call made
 abbrev pub notWritable : Refusal
 notWritable = numbered 12
 
@@ -81,6 +81,10 @@ full = numbered 16
 -- crowded: an entry of the result's set form has more intervals than one may have (CR 11); judged just before `full`
 abbrev pub crowded : Refusal
 crowded = numbered 17
+
+-- a binlog file: a wrong opening byte, a size too small for header and trailer, or bytes after the named end (CR 2)
+abbrev pub badFile : Refusal
+badFile = numbered 18
 
 -- a tagged event was sent without its uuid or its gno, and its id is asked for (CR 6)
 abbrev pub absentId : Refusal

@@ -2,9 +2,16 @@
 use crate::Wrote;
 use crate::refusal::NO_ROOM;
 ghost use mathlib.Core.Path.{_≡_};
-ghost use Prim.Native.Nat.{_-_, _≤_};
+ghost use Prim.Native.Nat.{_-_, _≤_, min};
 ghost use lib.ListN.{length};
 ghost use Rattle.misc.specs.Output.{bytes, outputOf, answerOf, written};
+
+// The smaller of two lengths.
+pub fn smaller(a: usize, b: usize) -> usize
+    ensures { λ r. ⌜ (r ≡ min a b) × (r ≤ a) × (r ≤ b) ⌝ }
+{
+    if a < b { a } else { b }
+}
 
 // How many bytes stand from `at` on: none where that is past the end.
 pub fn left_at(s: &[u8], at: usize) -> usize

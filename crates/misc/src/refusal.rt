@@ -33,6 +33,8 @@ pub const FULL: u8 = 16;
 
 pub const CROWDED: u8 = 17;
 
+pub const BAD_FILE: u8 = 18;
+
 pub const ABSENT_ID: u8 = 21;
 
 pub const DIVERGED: u8 = 22;

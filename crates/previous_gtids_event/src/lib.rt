@@ -3,6 +3,9 @@
 pub mod read;
 pub mod rewrite;
 
+// Its type.
+pub const PREVIOUS_GTIDS_EVENT: u8 = 35;
+
 // A header with 1 in its top byte: what lies below it counts the entries of an untagged body.
 pub(crate) const TOP_ONE: u64 = 0x100_0000_0000_0000;
 

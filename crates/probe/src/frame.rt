@@ -1,4 +1,5 @@
 // A request: its head, and reading its parts.
+use probe_binlog::TWIN_ROOM;
 use probe_lines::parts::byte_at;
 use probe_lines::parts::u32_at;
 use probe_lines::parts::u64_at;
@@ -28,7 +29,11 @@ fn two_at(s: &[u8], low: usize, high: usize) -> usize {
     wide(byte_at(s, low)) + 256 * wide(byte_at(s, high))
 }
 
+// These two calls take no length of the output from the request.
 fn out_len_of(call: u8, told: usize) -> usize {
+    if call == 51 {
+        return TWIN_ROOM;
+    }
     if call == 64 {
         return TEXT_ROOM;
     }

@@ -17,7 +17,7 @@ const OUT_ROOM: usize = 140_000;
 
 const LINE_ROOM: usize = 450_000;
 
-// The line by the library's answer.
+// The line by the library's answer. That of call 51 has the archive's held against it already.
 fn answer_by_call<'a>(
     head: Head,
     a: &'a [u8],
@@ -35,6 +35,9 @@ fn answer_by_call<'a>(
     }
     if call < 48 {
         return probe_previous::answer(call, a, out, line);
+    }
+    if call == 51 {
+        return probe_binlog::answer(head.number, a, b, c, out, line);
     }
     if (52 <= call) & (call < 57) {
         return probe_two_sets::answer(call, head.number, a, b, out, line);

@@ -1,4 +1,6 @@
 // Numbers and parts of a request's bytes. Past the end there are zeros, and nothing.
+ghost use Prim.Native.Nat.{_-_};
+ghost use mathlib.Core.Path.{_≡_};
 
 pub fn byte_at(s: &[u8], at: usize) -> u8 {
     if at < s.len() {
@@ -21,4 +23,25 @@ pub fn from_on(s: &[u8], at: usize) -> &[u8] {
         return &s[..0];
     }
     &s[at..]
+}
+
+// So many bytes of the front, or all where there are fewer.
+pub fn front(s: &[u8], len: usize) -> &[u8] {
+    if s.len() < len {
+        return s;
+    }
+    &s[..len]
+}
+
+// Where a part of so many bytes ends; at the end of the whole if that comes first.
+pub fn part_end(at: usize, len: usize, whole: usize) -> usize
+    ensures { λ r. ⌜ r ≡ whole - (whole - at - len) ⌝ }
+{
+    if whole < at {
+        return whole;
+    }
+    if whole - at < len {
+        return whole;
+    }
+    at + len
 }

@@ -4,11 +4,11 @@ use probe_lines::checks;
 use probe_lines::line::push_byte;
 use probe_lines::line::push_decimal;
 use probe_lines::line::push_text_if;
+use probe_lines::parts::part_end;
 use probe_lines::parts::u32_at;
 use report::Line;
 use report::Report;
-ghost use Prim.Native.Nat.{_≤_, _-_};
-ghost use mathlib.Core.Path.{_≡_};
+ghost use Prim.Native.Nat.{_≤_};
 ghost use lib.ListN.{length};
 
 // The report so far, the place of the next set, the end of what is said of those before it, and whether a refused one of these has a
@@ -22,19 +22,6 @@ struct Said {
 
 fn nonzero(line: Line) -> bool {
     (line.entries != 0) | (line.intervals != 0) | (line.high != 0) | (line.low != 0)
-}
-
-// Where a part of so many bytes ends; at the end of the whole if that comes first.
-pub fn part_end(at: usize, len: usize, whole: usize) -> usize
-    ensures { λ r. ⌜ r ≡ whole - (whole - at - len) ⌝ }
-{
-    if whole < at {
-        return whole;
-    }
-    if whole - at < len {
-        return whole;
-    }
-    at + len
 }
 
 // Adds a set, and says how it went: `0`, or the number of its refusal.

@@ -31,7 +31,7 @@ use Rattle.resume_set.specs.Answers.{takeInAnswers}
 use Rattle.text.specs.Lines.{refusedText}
 use Rattle.listing.specs.EventText.{gtidText, eventText}
 use Rattle.listing.proofs.EventTextLaws.{id-named, event-gtid}
-use Rattle.resume_set_laws.specs.History.{Turn, Offering, kept, keptAll, lentHas, member}
+use Rattle.resume_set_laws.specs.History.{kept, keptAll, lentHas, member, Turn, Offering, comesTo}
 use Rattle.resume_set_laws.specs.Ours.{ours}
 use Rattle.promises.specs.SetFaults.{SetFault, BodyIs, TakeInFault, Names}
 use Rattle.promises.specs.Highest.{EndsAt, HasEnd, CarriedOnly, Highest}
@@ -131,15 +131,15 @@ members set k n = go (lentSet set) refl
     go (form s) lent h = has-gno s k n (lent-is set s lent .formed) h
 
 -- a turn that leaves every set as it is can be left out
-left-out : (f : Offering) (t : Turn) → ((set : List ℕ) → kept f set t ≡ set) → (set : List ℕ) (before after : List Turn)
-    → keptAll f set (before ++ (t ∷ after)) ≡ keptAll f set (before ++ after)
-left-out f t same set [] after = ap (λ s. keptAll f s after) (same set)
-left-out f t same set (b ∷ before) after = left-out f t same (kept f set b) before after
+left-out : (f : Offering) (t : Turn) → ((set : List ℕ) → kept (comesTo f) set t ≡ set) → (set : List ℕ) (before after : List Turn)
+    → keptAll (comesTo f) set (before ++ (t ∷ after)) ≡ keptAll (comesTo f) set (before ++ after)
+left-out f t same set [] after = ap (λ s. keptAll (comesTo f) s after) (same set)
+left-out f t same set (b ∷ before) after = left-out f t same (kept (comesTo f) set b) before after
 
-stays : (t : Turn) (e : GtidEvent) → Names (t .type) (t .body) e → gnoTop ≤ e .gno → (set : List ℕ) → kept ours set t ≡ set
+stays : (t : Turn) (e : GtidEvent) → Names (t .type) (t .body) e → gnoTop ≤ e .gno → (set : List ℕ) → kept (comesTo ours) set t ≡ set
 stays t e named over set = go (lentSet set) refl
   where
-    go : (l : Lent) → lentSet set ≡ l → kept ours set t ≡ set
+    go : (l : Lent) → lentSet set ≡ l → kept (comesTo ours) set t ≡ set
     go unfit lent = rw lent
     go (form s) lent = rw (lent, event-named (t .type) (t .body) named, no-gno (e .gno) (inr over))
 

@@ -1,8 +1,9 @@
 -- The demands hold of what our functions promise. Demand 1: `integers-exact`, `events-exact`, `bodies-exact`, `reader-exact`, `sets-exact`,
--- `listing-exact`, `archive-exact`, `offers-exactly`, `asks-exactly`, `two-sets`, `heads`, `reports`, `sets-told`; `integers-told`, `events-told`, `bodies-told`,
--- `listing-told`; `presence`, `orders`, `zeros`, `outputs`, `rules` and `highest`. Demand 2: `records-mean`, `records-back`, `records-again`, `least-size`,
--- `entries-back`, `entries-mean`, `building`. Demand 3: `tells-history`, `counts-taken`, `replays`, `refusals-keep`. No two cases hold at once, and what is laid out
--- has no fault (`OneOutcome`). Wrong programs don't meet the demands (`ShutOut`, `Crowding`, `TwoShut`, `HeadsShut`, `ReportsShut`, `Absent`).
+-- `listing-exact`, `archive-exact`, `offers-exactly`, `asks-exactly`, `two-sets`, `heads`, `reports`, `files`, `sets-told`; `integers-told`,
+-- `events-told`, `bodies-told`, `listing-told`; `presence`, `orders`, `zeros`, `outputs`, `rules` and `highest`. Demand 2: `records-mean`,
+-- `records-back`, `records-again`, `least-size`, `entries-back`, `entries-mean`, `building`. Demand 3: `tells-history`, `counts-taken`, `replays`,
+-- `refusals-keep`, and of files `files`, too. No two cases hold at once, and what is laid out has no fault (`OneOutcome`). Wrong programs don't meet the
+-- demands (`ShutOut`, `Crowding`, `TwoShut`, `HeadsShut`, `ReportsShut`, `FilesShut`, `Absent`).
 pub mod EdgesAgree
 -- the language: what is refused has its case, and a case forces its number
 pub mod Gives
@@ -40,6 +41,11 @@ pub mod SetsTold
 pub mod TwoSetsHold
 pub mod HeadsHold
 pub mod ReportsHold
+pub mod FileJoins
+pub mod FileOffers
+pub mod FileEvents
+pub mod FileReads
+pub mod FilesHold
 pub mod BodiesExact
 pub mod ReaderExact
 pub mod ArchiveExact
@@ -55,4 +61,5 @@ pub mod Crowding
 pub mod TwoShut
 pub mod HeadsShut
 pub mod ReportsShut
+pub mod FilesShut
 pub mod Absent

@@ -21,7 +21,7 @@ use Rattle.resume_set.specs.Answers.{takeInAnswers, offerAnswers}
 use Rattle.resume_set.specs.declared.Offered.the-variants.{Refused}
 use Rattle.text.specs.Lines.{refusedText}
 use Rattle.listing.specs.EventText.{recordText, eventText}
-use Rattle.resume_set_laws.specs.History.{Turn, keptAll, member}
+use Rattle.resume_set_laws.specs.History.{keptAll, member, Turn, comesTo}
 use Rattle.resume_set_laws.specs.Ours.{ours}
 use Rattle.promises.specs.SetFaults.{SetFault, BodyIs, Names}
 
@@ -56,4 +56,4 @@ pub record Highest : Type 0 where
   pub members : (set : List ℕ) (k : Key) (n : ℕ) → member set k n ≡ true → isGno n ≡ true
   -- and an event whose number is the top or more, wherever it comes in a list of offers, leaves the run as it is without it
   pub passed-over : (set : List ℕ) (before after : List Turn) (t : Turn) (e : GtidEvent) → Names (t .type) (t .body) e → gnoTop ≤ e .gno
-      → keptAll ours set (before ++ (t ∷ after)) ≡ keptAll ours set (before ++ after)
+      → keptAll (comesTo ours) set (before ++ (t ∷ after)) ≡ keptAll (comesTo ours) set (before ++ after)

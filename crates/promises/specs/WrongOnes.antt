@@ -1,8 +1,8 @@
--- Wrong programs that the demands shut out: `ShutOut`, `Crowding`, `Absent`, `TwoShut`, `HeadsShut` and `ReportsShut` of proofs/.
-use Prim.Native.Nat.{ℕ, _+_}
+-- Wrong programs that the demands shut out: `ShutOut`, `Crowding`, `Absent`, `TwoShut`, `HeadsShut`, `ReportsShut` and `FilesShut` of proofs/.
+use Prim.Native.Nat.{ℕ, _+_, _-_}
 use mathlib.Core.Bool.{Bool, true, false, not, _&&_, _||_}
 use mathlib.Core.List.{List, [], _∷_, _++_}
-use lib.ListN.{length, set, replicate}
+use lib.ListN.{length, set, replicate, take}
 use lib.Dec.{eqb, ltb, leb}
 use Rattle.misc.specs.Pick.{pick}
 use Rattle.misc.specs.Refusal.{ended, notWritable}
@@ -24,7 +24,7 @@ use Rattle.gtid_event_write.specs.Write.{eventOutput}
 use Rattle.gtid_sets.specs.Run.{Event, anonymous, broken, names}
 use Rattle.gtid_sets.specs.Lent.{lentSet}
 use Rattle.gtid_sets.specs.Combine.{either, both, without}
-use Rattle.resume_set.specs.Answers.{setRead, says, eventOf, offered, output}
+use Rattle.resume_set.specs.Answers.{setRead, takenIn, says, eventOf, offered, output}
 use Rattle.two_sets.specs.Answers.{combineAnswers, withinAnswers}
 use Rattle.two_sets.specs.declared.AllWithin.{AllWithin}
 use Rattle.two_sets.specs.declared.Choice.{Choice}
@@ -42,8 +42,17 @@ use Rattle.report.specs.Report.{lineOf, linesOf, summed}
 use Rattle.report.specs.Built.{reportOver}
 use Rattle.report.specs.declared.Line.{Line}
 use Rattle.report.specs.declared.Counts.{Counts}
+use Rattle.binlog.specs.Format.{theOpening, trailer}
+use Rattle.binlog.specs.Run.{Done, did, Word, chunk, end, hear, spelled}
+use Rattle.binlog_reader.specs.Does as does-specs
+use Rattle.binlog_reader.specs.Does.{Judged, does}
+use Rattle.binlog_reader.specs.declared.Told.the-variants as told-as
+use Rattle.binlog_reader.specs.declared.Said.the-variants as said-as
+use Rattle.binlog_laws.specs.Files.{FileReading, readIn, startOf, ourFiles}
+use Rattle.binlog_laws.specs.Loop.{isRefusal}
 use Rattle.promises.specs.Heads.{Handing, ourHead}
 use Rattle.promises.specs.Reports.{noNumbers, Reporting, ourReport}
+use Rattle.promises.specs.Files.{refusalIn}
 
 -- refuses whatever comes
 abbrev pub refusesAll : EventReader
@@ -376,3 +385,98 @@ readsOn = answeredBy (λ before set. lineOf (lentSet set))
 -- answers whether it is a set, and zeros for its numbers
 abbrev pub tellsNoNumbers : Reporting
 tellsNoNumbers = answeredBy (λ before set. noNumbers (ourReport .answers before set .refusal))
+
+-- ---- files
+
+-- an event in a file: a header with this type and size, below 256, and the body
+abbrev pub inFile : ℕ → ℕ → List ℕ → List ℕ
+inFile type size body = (replicate 4 0 ++ (type ∷ replicate 4 0)) ++ (size ∷ replicate 9 0) ++ body
+
+-- a file of one event: of type 34, which has no id; of type 33, with gno 1 of the zero uuid; of type 35, with no entries
+abbrev pub fileNoId : List ℕ
+fileNoId = theOpening ++ inFile 34 44 (replicate 25 0)
+
+abbrev pub fileOne : List ℕ
+fileOne = theOpening ++ inFile 33 44 (replicate 17 0 ++ (1 ∷ replicate 7 0))
+
+abbrev pub filePrevious : List ℕ
+filePrevious = theOpening ++ inFile 35 27 (replicate 8 0)
+
+-- of type 42, with gno 1 of the zero uuid and the tag "a"
+abbrev pub fileTagged : List ℕ
+fileTagged = theOpening ++ inFile 42 44 ((2 ∷ 50 ∷ 0 ∷ 2 ∷ []) ++ replicate 16 0 ++ (4 ∷ 4 ∷ 6 ∷ 2 ∷ 97 ∷ []))
+
+-- gno 1, and behind it a header whose size is 0
+abbrev pub fileBroken : List ℕ
+fileBroken = fileOne ++ inFile 33 0 []
+
+-- reads the first chunk alone
+abbrev pub firstWord : List Word → List Word
+firstWord [] = []
+firstWord (w ∷ ws) = w ∷ []
+
+abbrev pub stopsEarly : ℕ → FileReading
+stopsEarly room set checksums ws = ourFiles room set checksums (firstWord ws)
+
+-- wants more when an empty chunk comes behind a refusal
+abbrev pub endsEmpty : List Word → Bool
+endsEmpty [] = false
+endsEmpty (end ∷ ws) = endsEmpty ws
+endsEmpty (chunk [] ∷ []) = true
+endsEmpty (chunk [] ∷ w ∷ ws) = endsEmpty (w ∷ ws)
+endsEmpty (chunk (b ∷ bs) ∷ ws) = endsEmpty ws
+
+abbrev pub forgetsRefusal : ℕ → FileReading
+forgetsRefusal room set checksums ws =
+    let x = ourFiles room set checksums ws in
+    record { judged = x .judged; said = pick (endsEmpty ws) said-as.MoreWanted (x .said); set = x .set }
+
+-- reads all that came but the last byte, where this one makes an event whole
+abbrev pub waitsForMore : ℕ → FileReading
+waitsForMore room set checksums ws =
+    let now = ourFiles room set checksums ws in
+    let before = ourFiles room set checksums (take (length (spelled ws) - 1) (spelled ws)) in
+    pick (ltb (length (before .judged)) (length (now .judged))) before now
+
+-- takes a Previous-GTIDs body in the set's place
+abbrev pub replaces : ℕ → List ℕ → ℕ → List ℕ → Done (List ℕ) Judged
+replaces room set type body =
+    pick (eqb type 35) (does-specs.tells type body (does-specs.joins room (takenIn (previous body)))) (does room set type body)
+
+abbrev pub replacesSet : ℕ → FileReading
+replacesSet room set checksums ws = readIn (hear (replaces room) (trailer checksums) (startOf set) ws)
+
+-- goes back to the set that it began with when it refuses
+abbrev pub undoesFirst : ℕ → FileReading
+undoesFirst room set checksums ws =
+    let x = ourFiles room set checksums ws in
+    record { judged = x .judged; said = x .said; set = pick (isRefusal (x .said)) set (x .set) }
+
+-- tells no answer for the events that it walks
+abbrev pub answersNothing : ℕ → FileReading
+answersNothing room set checksums ws =
+    let x = ourFiles room set checksums ws in
+    record { judged = []; said = x .said; set = x .set }
+
+-- skips tagged events: neither answers them nor takes them
+abbrev pub passes : ℕ → List ℕ → ℕ → List ℕ → Done (List ℕ) Judged
+passes room set type body = pick (eqb type 42) (did (record { type = type; body = body; told = told-as.NoId }) set) (does room set type body)
+
+abbrev pub untaggedOnly : List Judged → List Judged
+untaggedOnly [] = []
+untaggedOnly (j ∷ js) = pick (eqb (j .type) 42) (untaggedOnly js) (j ∷ untaggedOnly js)
+
+abbrev pub skipsTagged : ℕ → FileReading
+skipsTagged room set checksums ws =
+    let x = readIn (hear (passes room) (trailer checksums) (startOf set) ws) in
+    record { judged = untaggedOnly (x .judged); said = x .said; set = x .set }
+
+-- takes checksums for a part of the bodies
+abbrev pub ignoresTrailer : ℕ → FileReading
+ignoresTrailer room set checksums ws = ourFiles room set false ws
+
+-- takes a file that is cut off for a whole one
+abbrev pub takesCut : ℕ → FileReading
+takesCut room set checksums ws =
+    let x = ourFiles room set checksums ws in
+    record { judged = x .judged; said = pick (eqb (refusalIn (x .said)) 1) said-as.Ended (x .said); set = x .set }

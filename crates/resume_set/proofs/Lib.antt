@@ -10,3 +10,4 @@ pub mod EntryLaws
 pub mod LawfulLaws
 pub mod TakenLaws
 pub mod FoldLaws
+pub mod JoinInLaws

@@ -46,7 +46,7 @@ unlawful-taken (parsed es next) z h = rw h
 -- ---- a body that is a set already
 
 -- a body that begins with a set and is read to the set's end has no other entries
-set-read : (body : List ℕ) (used : ℕ) (es s : List Entry) → previous body ≡ parsed es used → lentSet (take used body) ≡ form s → es ≡ s
+pub set-read : (body : List ℕ) (used : ℕ) (es s : List Entry) → previous body ≡ parsed es used → lentSet (take used body) ≡ form s → es ≡ s
 set-read body used es s e l =
     let is = lent-is (take used body) s l in
     let (h, first, found, room, small) = previous-parts body es used e in
@@ -69,7 +69,7 @@ module _ (body out : List ℕ) (said : PreviousRead) (is : said ≡ previousRead
     pub can-be-read : refusalOf (previous body) ≡ 0
     can-be-read = sym (ap (λ (y : PreviousRead). y .refusal) is ∙ previous-says (previous body)) ∙ z
 
-    entries-read : (es : List Entry) × (previous body ≡ parsed es (said .used))
+    pub entries-read : (es : List Entry) × (previous body ≡ parsed es (said .used))
     entries-read =
         let (es, next, e, told) = was-read previousRead (λ y. y .refusal) previous-says (previous body) said is z in
         (es, e ∙ ap (parsed es) (sym (ap (λ (y : PreviousRead). y .used) told)))

@@ -1,6 +1,7 @@
 // The resume set: a set of transaction ids, kept as the bytes of a Previous-GTIDs body in set form. `check_set` tells whether bytes are
 // one, `contains` whether an id is a member, and `offer` gives a set an event and writes the set after it. What they answer is said by
-// `setRead`, `contained` and `offerAnswers` of specs/Answers.antt, and what is written by `offerLeaves`, on `lentSet` of gtid_sets.
+// `setRead`, `contained` and `offerAnswers` of specs/Answers.antt, and what is written by `offerLeaves`, on `lentSet` of gtid_sets. A set
+// begins with `take_in`, which writes that of a Previous-GTIDs body; `join_in` gives one all ids of such a body.
 use find::find;
 use gtid_event::ANONYMOUS_GTID_EVENT;
 use gtid_event_read::read_named;
@@ -24,6 +25,7 @@ ghost use Rattle.resume_set.specs.Find.{setOf, Fits};
 mod find;
 mod intervals;
 mod join;
+pub mod join_in;
 mod put;
 pub mod take_in;
 

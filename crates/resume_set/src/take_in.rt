@@ -4,6 +4,7 @@ use crate::Held;
 use crate::join::plan_join;
 use crate::join::put_joined;
 use crate::join::write_set;
+use misc::MAX_BODY;
 use misc::Wrote;
 use misc::bytes::write_bytes;
 use misc::refusal::BAD_GNO;
@@ -33,7 +34,7 @@ ghost use Rattle.resume_set.specs.TakeIn.{HeldIs, heldSet, keyIn, EntryI
 
 // A work buffer holds the set of any body: its entries take no more bytes there than in the body, but for one byte for the length of
 // a tag, and an entry of a body has 24 bytes at least.
-const WORK: usize = 65536 + 65536 / 24;
+pub(crate) const WORK: usize = MAX_BODY + MAX_BODY / 24;
 
 // ---- the gno rule
 
@@ -58,7 +59,7 @@ fn proper_at(body: &[u8], first: usize, count: u64) -> bool
 }
 
 // Whether all intervals of a body that can be read obey the gno rule.
-fn lawful_body(body: &[u8]) -> bool
+pub(crate) fn lawful_body(body: &[u8]) -> bool
     requires { ⌜ refusalOf (previous (now body)) ≡ 0 ⌝ }
     ensures { λ r. ⌜ r ≡ lawful (entriesOf (previous (now (body .entry)))) ⌝ }
 {
@@ -148,7 +149,7 @@ fn join_entry(body: &[u8], entry: EntryRead, held: &mut [u8], spare: &mut [u8], 
 }
 
 // Joins all ids of a body to the set in `held`.
-fn join_body(body: &[u8], held: &mut [u8], spare: &mut [u8], is: Held) -> Held
+pub(crate) fn join_body(body: &[u8], held: &mut [u8], spare: &mut [u8], is: Held) -> Held
     requires { ⌜ HeldIs (now held) is ⌝ }
     requires { ⌜ (refusalOf (previous (now body)) ≡ 0) × (lawful (entriesOf (previous (now body))) ≡ true) ⌝ }
     requires { ⌜ Room (now held) (now spare) (widest (heldSet (now held) is) + (length (now body) - 8 + length (now body) / 24)) ⌝ }

@@ -2,7 +2,7 @@
 -- "already there", one more than before if it was "taken"; and a refusal changes nothing.
 use Prim.Native.Nat.{ℕ, _+_}
 use mathlib.Core.Path.{_≡_, refl, sym, ap, _∙_}
-use mathlib.Core.Bool.{true, false, _&&_, _||_, or-false, or-true}
+use mathlib.Core.Bool.{Bool, true, false, _&&_, _||_, or-false, or-true}
 use mathlib.Core.List.{List}
 use mathlib.Core.Logic.{_⊎_, inl, inr}
 use native.Mathlib.Omega.{arith}
@@ -24,7 +24,7 @@ use Rattle.gtid_event_read.proofs.PresentLaws.{named-record}
 use Rattle.gtid_event_read.proofs.Ranges.{UntaggedRange, TaggedRange, gtid-range}
 use Rattle.gtid_sets.specs.Set.{has}
 use Rattle.gtid_sets.specs.Run as run
-use Rattle.gtid_sets.specs.Run.{Event, Answer, noId, already, taken, answer, isTaken, after, isMember, isOf}
+use Rattle.gtid_sets.specs.Run.{Event, anonymous, broken, names, Answer, noId, already, taken, answer, isTaken, after, isMember, isOf}
 use Rattle.gtid_sets.specs.Lent.{Lent, form, unfit, lentSet}
 use Rattle.gtid_sets.specs.Saved.{GoodEvent}
 use Rattle.gtid_sets.specs.Total.{total}
@@ -36,8 +36,10 @@ use Rattle.gtid_sets.proofs.TotalLaws.{bit, after-total}
 use Rattle.resume_set.specs.Answers.{says, eventOf, fitting, offeredAs, outputAs}
 use Rattle.resume_set.specs.declared.Offered.{Offered}
 use Rattle.resume_set.specs.declared.Offered.the-variants.{NoId, AlreadyThere, Taken, Refused}
-use Rattle.resume_set_laws.specs.History.{Turn, keptAs, kept, grants, takes, RefusalsKeep}
+use Rattle.resume_set_laws.specs.History.{Ids, none, among, Outcome, accepted, keptIn, idsIn, Turn, idOf, offeredIn, comesTo, takes, RefusalsKeep}
 use Rattle.resume_set_laws.specs.Ours.{ours}
+use Rattle.resume_set_laws.proofs.Starts.{front}
+use Rattle.resume_set_laws.proofs.AnyRun.{Keeps}
 
 -- ---- the event of a turn
 
@@ -66,12 +68,7 @@ good-said type body ok = go (recordIn (named type body)) refl
 
 -- ---- what is kept
 
--- the front of an output that has room
-pub front : (out bs : List ℕ) → leb (length bs) (length out) ≡ true → take (length bs) (outputOf out (bytes bs)) ≡ bs
-unfolding outputOf
-front out bs h = rw h (take-append-seam bs _)
-
--- an output that hasn't stays as it was
+-- an output that has no room stays as it was
 short : (out bs : List ℕ) → leb (length bs) (length out) ≡ false → outputOf out (bytes bs) ≡ out
 unfolding outputOf
 short out bs h = rw h
@@ -81,12 +78,16 @@ still : (out : List ℕ) (r : Refusal) → outputOf out (refused r) ≡ out
 unfolding outputOf
 still out r = refl
 
--- what is kept after an offer is a set, and its members are these
-pub record Keeps (set : List ℕ) (s : List Entry) (t : Turn) : Type 0 where
-  pub next : List Entry
-  pub lent : lentSet (kept ours set t) ≡ form next
-  pub members : (k : Key) (n : ℕ) → has next k n ≡ has s k n || (grants (ours .answers set t) && isOf (said t) k n)
-  pub counted : total next ≡ total s + takes (ours .answers set t)
+-- the ids of an event are the one that it names
+pub among-id : (e : Event) (k : Key) (n : ℕ) → isOf e k n ≡ among (idOf e) k n
+among-id anonymous k n = refl
+among-id (broken r) k n = refl
+among-id (names j m) k n = refl
+
+-- what is kept after an offer is a set with the members that the outcome says, and has so many
+pub record KeepsOne (set : List ℕ) (s : List Entry) (t : Turn) : Type 0 where
+  pub keeps : Keeps (comesTo ours) set s t
+  pub counted : total (keeps .next) ≡ total s + takes (ours .answers set t)
 
 module _ (set : List ℕ) (s : List Entry) (t : Turn) (lent : lentSet set ≡ form s) (good : GoodEvent (said t)) where
   abbrev grown : List ℕ
@@ -98,35 +99,47 @@ module _ (set : List ℕ) (s : List Entry) (t : Turn) (lent : lentSet set ≡ fo
       lent-back (after s (said t)) (form-after s (said t) (l .formed)) (good-after s (said t) good (l .keyed)) (limits-after s (said t) (l .limited))
 
   -- an answer that is no refusal: what is kept is the set after the event where that has room, and the set itself where it hasn't
-  went : (case : ℕ → Offered) (a : Answer) → answer s (said t) ≡ a
+  went : (case : ℕ → Offered) (ids : Ids) (a : Answer) → answer s (said t) ≡ a
       → ((size room : ℕ) → offeredAs a size room ≡ fitting case size room) → ((bs : List ℕ) → outputAs a bs ≡ bytes bs)
-      → ((out : List ℕ) (len : ℕ) → keptAs set out (case len) ≡ take len out) → ((len : ℕ) → grants (case len) ≡ isMember a)
-      → ((len : ℕ) → takes (case len) ≡ bit (isTaken a)) → Keeps set s t
-  went case a e told writes keeps member adds = split (leb (length grown) (length (t .out)))
+      → ((out : List ℕ) (len : ℕ) → offeredIn (said t) out (case len) ≡ accepted ids (take len out))
+      → ((k : Key) (n : ℕ) → isMember a && isOf (said t) k n ≡ among ids k n)
+      → ((len : ℕ) → takes (case len) ≡ bit (isTaken a)) → KeepsOne set s t
+  went case ids a e told writes comes those adds = split (leb (length grown) (length (t .out)))
       (λ h.
       let o : ours .answers set t ≡ case (length grown) = rw (lent, e, told, h) in
       let w : ours .leaves set t ≡ outputOf (t .out) (bytes grown) = rw (lent, e, writes) in
-      let k : kept ours set t ≡ grown = ap (keptAs set (ours .leaves set t)) o ∙ keeps (ours .leaves set t) (length grown) ∙ ap (take (length grown)) w ∙ front (t .out) grown h in
+      let c : comesTo ours set t ≡ accepted ids grown =
+      ap (offeredIn (said t) (ours .leaves set t)) o ∙ comes (ours .leaves set t) (length grown)
+      ∙ ap (λ (x : List ℕ). accepted ids (take (length grown) x)) w ∙ ap (accepted ids) (front (t .out) grown h) in
       record {
-        next = after s (said t);
-        lent = ap lentSet k ∙ grown-lent;
-        members = λ i n. has-after s (said t) i n ∙ rw (o, member, e);
+        keeps = record {
+          next = after s (said t);
+          lent = ap (λ (x : Outcome). lentSet (keptIn set x)) c ∙ grown-lent;
+          members = λ i n.
+              has-after s (said t) i n ∙ ap (λ (x : Answer). has s i n || (isMember x && isOf (said t) i n)) e ∙ ap (λ (x : Bool). has s i n || x) (those i n)
+              ∙ sym (ap (λ (x : Outcome). has s i n || among (idsIn x) i n) c);
+        };
         counted = after-total s (said t) (lent-is set s lent .formed) ∙ rw (o, adds, e);
       })
       (λ h.
       let o : ours .answers set t ≡ fitting case (length grown) (length (t .out)) = rw (lent, e, told) in
       let k : ours .answers set t ≡ Refused 13 (length grown) = o ∙ rw h in
-      record { next = s; lent = rw k lent; members = λ i n. rw k (sym (or-false (has s i n))); counted = rw k (omega arith) })
+      record {
+        keeps = record { next = s; lent = rw k lent; members = λ i n. rw k (sym (or-false (has s i n))) };
+        counted = rw k (omega arith);
+      })
 
-  pub one-offer : Keeps set s t
+  pub one-offer : KeepsOne set s t
   one-offer = go (answer s (said t)) refl
     where
-      go : (a : Answer) → answer s (said t) ≡ a → Keeps set s t
-      go noId e = went NoId noId e (λ n m. refl) (λ bs. refl) (λ o n. refl) (λ n. refl) (λ n. refl)
-      go already e = went AlreadyThere already e (λ n m. refl) (λ bs. refl) (λ o n. refl) (λ n. refl) (λ n. refl)
-      go taken e = went Taken taken e (λ n m. refl) (λ bs. refl) (λ o n. refl) (λ n. refl) (λ n. refl)
-      go (run.refused r) e =
-          record { next = s; lent = rw (lent, e) lent; members = λ i n. rw (lent, e) (sym (or-false (has s i n))); counted = rw (lent, e) (omega arith) }
+      go : (a : Answer) → answer s (said t) ≡ a → KeepsOne set s t
+      go noId e = went NoId none noId e (λ n m. refl) (λ bs. refl) (λ o n. refl) (λ k n. refl) (λ n. refl)
+      go already e = went AlreadyThere (idOf (said t)) already e (λ n m. refl) (λ bs. refl) (λ o n. refl) (among-id (said t)) (λ n. refl)
+      go taken e = went Taken (idOf (said t)) taken e (λ n m. refl) (λ bs. refl) (λ o n. refl) (among-id (said t)) (λ n. refl)
+      go (run.refused r) e = record {
+        keeps = record { next = s; lent = rw (lent, e) lent; members = λ i n. rw (lent, e) (sym (or-false (has s i n))) };
+        counted = rw (lent, e) (omega arith);
+      }
 
 -- ---- a refusal changes nothing
 

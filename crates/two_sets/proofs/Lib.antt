@@ -4,3 +4,4 @@ pub mod PairLaws
 pub mod WriteLaws
 pub mod AnswerLaws
 pub mod DifferLaws
+pub mod JoinLaws

@@ -1,7 +1,7 @@
 // Work with two sets: the ids in either, in both, and in the first without the second, each written as a set; whether all of the first
 // are in the second; and which of the two has all of the other. What they answer is said by `combineAnswers`, `withinAnswers` and
 // `whichAnswers` of specs/Answers.antt, and what is written by `combineLeaves`, on `lentSet` and `combined` of gtid_sets. Both sets are
-// only read, so that they may be the same bytes.
+// only read, so that they may be the same bytes. `join` gives a set all ids of a Previous-GTIDs body.
 use differ::own_ids;
 use misc::Wrote;
 use misc::refusal::DIVERGED;
@@ -15,6 +15,7 @@ ghost use Rattle.two_sets.specs.Marks.{saidBy};
 ghost use Rattle.two_sets.specs.Answers.{combineAnswers, combineLeaves, withinAnswers, whichAnswers, partOf, placeOf, begun, BeginningIs};
 
 mod differ;
+pub mod join;
 mod marks;
 mod pairs;
 mod write;

@@ -144,6 +144,29 @@ impl Binlog {
         }
         self.event(16, &[0; 8]);
     }
+
+    /// A format description, which says of what kind the checksums are: 0 for none, or 1.
+    pub fn describe(&mut self, kind: u8) {
+        self.event(15, &[&[4, 0][..], &[0; 55], &[kind, 9, 9, 9, 9]].concat());
+    }
+
+    /// The events of this one, each with a checksum, behind a format description that says so.
+    pub fn with_checksums(&self) -> Binlog {
+        let mut binlog = Binlog(b"\xfebin".to_vec());
+        binlog.describe(1);
+        let mut rest = &self.0[4..];
+        while let Some(size) = rest.get(9..13) {
+            let size = u32::from_le_bytes(size.try_into().unwrap()) as usize;
+            binlog.event(rest[4], &[&rest[19..size], &[0xc5; 4]].concat());
+            rest = &rest[size..];
+        }
+        binlog
+    }
+
+    /// The file without checksums, and with them.
+    pub fn both_forms(&self) -> [Vec<u8>; 2] {
+        [self.0.clone(), self.with_checksums().0]
+    }
 }
 
 /// The body of a Previous-GTIDs event: for each uuid of one repeated byte the transactions from 1 to a last one.

@@ -1,0 +1,16 @@
+pub mod RunLaws
+pub mod WalkLaws
+pub mod WalkRun
+pub mod HeaderLaws
+pub mod LayoutLaws
+pub mod ThroughLaws
+pub mod SaysLaws
+pub mod EndSaysLaws
+pub mod FillLaws
+pub mod PhaseLaws
+pub mod PlaceLaws
+pub mod FitLaws
+pub mod HeldLaws
+pub mod AnswerLaws
+pub mod EndLaws
+pub mod Examples

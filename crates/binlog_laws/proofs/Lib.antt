@@ -1,0 +1,12 @@
+pub mod DoesLaws
+pub mod StepRun
+pub mod Standing
+pub mod EndStands
+pub mod LoopLaws
+pub mod Onward
+pub mod OneEvent
+pub mod EventAgain
+pub mod Throughout
+pub mod Tells
+pub mod SameRun
+pub mod Again

@@ -1,0 +1,3 @@
+pub mod DoesLaws
+pub mod SettleLaws
+pub mod StepLaws

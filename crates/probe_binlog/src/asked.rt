@@ -1,0 +1,175 @@
+// A reader of the library's, or one of the archive's (crate abi), which is 48 bytes: both are asked alike.
+use binlog_reader::Answer;
+use binlog_reader::Reader;
+use binlog_reader::Said;
+use binlog_reader::Told;
+use misc::refusal::NOT_WRITABLE;
+use probe_lines::checks::dirty;
+use probe_lines::checks::fill;
+use probe_lines::parts::byte_at;
+use probe_lines::parts::u64_at;
+
+const READER_LEN: usize = 48;
+
+// The archive's kinds of answers; 0 is a refusal.
+pub(crate) const TAKEN: u8 = 1;
+
+pub(crate) const ALREADY_THERE: u8 = 2;
+
+pub(crate) const NO_ID: u8 = 3;
+
+pub(crate) const JOINED: u8 = 4;
+
+const MORE_WANTED: u8 = 5;
+
+pub(crate) const ENDED: u8 = 6;
+
+// What a call said: the refusal, 0 for none; the kind of the answer; the event's type; the length of its body, or the one that a refusal
+// names; how many bytes of the chunk were used; and the length of the set.
+pub(crate) struct Heard {
+    pub(crate) refusal: u8,
+    pub(crate) kind: u8,
+    pub(crate) event_type: u8,
+    pub(crate) len: usize,
+    pub(crate) used: usize,
+    pub(crate) set_len: usize,
+}
+
+// Which of the two is asked, both readers, of which only that one goes on, and what it said last.
+pub(crate) struct Asked {
+    archive: bool,
+    reader: Reader,
+    bytes: [u8; READER_LEN],
+    pub(crate) heard: Heard,
+}
+
+fn kind_of(told: Told) -> u8 {
+    match told {
+        Told::Taken => TAKEN,
+        Told::AlreadyThere => ALREADY_THERE,
+        Told::NoId => NO_ID,
+        Told::Joined => JOINED,
+    }
+}
+
+fn heard_of(step: Answer) -> Heard {
+    let said = step.said;
+    let used = step.used;
+    let reader = step.reader;
+    let set_len = reader.len;
+    match said {
+        Said::MoreWanted => Heard {
+            refusal: 0,
+            kind: MORE_WANTED,
+            event_type: 0,
+            len: 0,
+            used,
+            set_len,
+        },
+        Said::Ended => Heard {
+            refusal: 0,
+            kind: ENDED,
+            event_type: 0,
+            len: 0,
+            used,
+            set_len,
+        },
+        Said::Event(told, event_type, len) => Heard {
+            refusal: 0,
+            kind: kind_of(told),
+            event_type,
+            len,
+            used,
+            set_len,
+        },
+        Said::Refused(refusal, len) => Heard {
+            refusal,
+            kind: 0,
+            event_type: 0,
+            len,
+            used,
+            set_len,
+        },
+    }
+}
+
+fn heard_in(bytes: &[u8], refusal: u8) -> Heard {
+    Heard {
+        refusal,
+        kind: byte_at(bytes, 3),
+        event_type: byte_at(bytes, 4),
+        len: u64_at(bytes, 40) as usize,
+        used: u64_at(bytes, 32) as usize,
+        set_len: u64_at(bytes, 24) as usize,
+    }
+}
+
+fn by_library(step: Answer, bytes: [u8; READER_LEN]) -> Asked {
+    let reader = step.reader;
+    let heard = heard_of(step);
+    Asked {
+        archive: false,
+        reader,
+        bytes,
+        heard,
+    }
+}
+
+fn by_archive(reader: Reader, bytes: [u8; READER_LEN], refusal: u8) -> Asked {
+    let heard = heard_in(&bytes, refusal);
+    Asked {
+        archive: true,
+        reader,
+        bytes,
+        heard,
+    }
+}
+
+pub(crate) fn begin(archive: bool, set: &[u8], checksums: bool) -> Asked {
+    let step = binlog_reader::begin(set, checksums);
+    let mut bytes = [0u8; READER_LEN];
+    if archive {
+        let refusal = abi::gtid_binlog_begin(set, checksums as u8, &mut bytes);
+        return by_archive(step.reader, bytes, refusal);
+    }
+    by_library(step, bytes)
+}
+
+pub(crate) fn feed(
+    asked: Asked,
+    chunk: &[u8],
+    work: &mut [u8],
+    set: &mut [u8],
+    spare: &mut [u8],
+) -> Asked {
+    let mut bytes = asked.bytes;
+    if asked.archive {
+        let refusal = abi::gtid_binlog_step(&mut bytes, chunk, work, set, spare);
+        return by_archive(asked.reader, bytes, refusal);
+    }
+    by_library(
+        binlog_reader::step(asked.reader, chunk, work, set, spare),
+        bytes,
+    )
+}
+
+pub(crate) fn end(asked: Asked) -> Asked {
+    let mut bytes = asked.bytes;
+    if asked.archive {
+        let refusal = abi::gtid_binlog_end(&mut bytes);
+        return by_archive(asked.reader, bytes, refusal);
+    }
+    by_library(binlog_reader::end(asked.reader), bytes)
+}
+
+// Whether the archive says something else than 12 of bytes that are no reader, one too few, or changes a byte. The buffers are filled with
+// the mark.
+pub(crate) fn takes_short(chunk: &[u8], work: &mut [u8], set: &mut [u8], spare: &mut [u8]) -> bool {
+    let mut bytes = [0u8; READER_LEN - 1];
+    fill(&mut bytes);
+    let begun = abi::gtid_binlog_begin(chunk, 0, &mut bytes);
+    let stepped = abi::gtid_binlog_step(&mut bytes, chunk, work, set, spare);
+    let ended = abi::gtid_binlog_end(&mut bytes);
+    let answered = (begun == NOT_WRITABLE) & (stepped == NOT_WRITABLE) & (ended == NOT_WRITABLE);
+    !answered | dirty(&bytes, 0) | dirty(work, 0) | dirty(set, 0) | dirty(spare, 0)
+}

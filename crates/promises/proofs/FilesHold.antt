@@ -1,0 +1,47 @@
+-- The statements of `specs/Files.antt` together.
+use Prim.Native.Nat.{ℕ}
+use mathlib.Core.Path.{_≡_, refl, sym}
+use mathlib.Core.Bool.{Bool, or-false}
+use mathlib.Core.List.{List}
+use Rattle.gtid_sets.specs.Set.{has}
+use Rattle.resume_set_laws.proofs.AnyRun.{Keeps, EachKeeps, tells-from}
+use Rattle.binlog.specs.Run.{Done, did, fails}
+use Rattle.binlog_reader.specs.Does.{Judged, does}
+use Rattle.binlog_reader.specs.Step.{saidAt, beginsAt, beginAnswers}
+use Rattle.binlog_laws.specs.Files.{fileComes}
+use Rattle.binlog_laws.proofs.OneEvent.{event-grows}
+use Rattle.binlog_laws.proofs.LoopLaws.{drives-hears}
+use Rattle.binlog_laws.proofs.Onward as steps
+use Rattle.binlog_laws.proofs.Tells.{files-tell}
+use Rattle.binlog_laws.proofs.Again.{files-again}
+use Rattle.promises.specs.SetFaults.{SetFault}
+use Rattle.promises.specs.Exact.{RefusesExactly}
+use Rattle.promises.specs.Files.{TurnBytes, refusalIn, Files}
+use Rattle.promises.proofs.SetsExact.{set-exact}
+use Rattle.promises.proofs.FileEvents.{events-judged}
+use Rattle.promises.proofs.FileReads.{reads-files}
+
+-- demand 3, of events however they came
+each-keeps : (room : ℕ) → EachKeeps TurnBytes (fileComes room)
+each-keeps room set s t lent ok = go (does room set (t .type) (t .body)) refl
+  where
+    go : (d : Done (List ℕ) Judged) → does room set (t .type) (t .body) ≡ d → Keeps (fileComes room) set s t
+    go (did j next) h =
+        let g = event-grows room set s (t .type) (t .body) j next lent ok h in
+        record { next = g .grown; lent = rw h (g .lent); members = λ k n. rw h (g .members k n) }
+    go (fails r n) h = record { next = s; lent = rw h lent; members = λ k n. rw h (sym (or-false (has s k n))) }
+
+begin-exactly : (set : List ℕ) (checksums : Bool) → RefusesExactly (refusalIn (beginAnswers set checksums .said)) (SetFault set)
+begin-exactly set checksums = set-exact (λ l. refusalIn (saidAt (beginsAt l))) set refl (λ s. refl)
+
+pub files : Files
+files = record {
+  events = events-judged;
+  reads = reads-files;
+  tells = files-tell;
+  again = files-again;
+  events-tell = λ room. tells-from TurnBytes (fileComes room) (each-keeps room);
+  begin = begin-exactly;
+  loop = drives-hears;
+  onward = steps.onward;
+}
