@@ -89,7 +89,7 @@ id-most e (u, n, t) =
     let few = length-take-le (e .«tag_len») (e .tag) (omega arith) in
     rw (← id-named e u) (omega (arith, id-long (e .sid) tag (e .gno), decimal-most (e .gno), key-most (e .sid) tag u (omega arith)))
 
-gtid-text-long : (type : ℕ) (body : List ℕ) → Bytes body → length (gtidText (eventOf type body)) ≤ 96
+pub gtid-text-long : (type : ℕ) (body : List ℕ) → Bytes body → length (gtidText (eventOf type body)) ≤ 96
 unfolding eventOf
 gtid-text-long type body ok = go (recordIn (named type body)) refl
   where

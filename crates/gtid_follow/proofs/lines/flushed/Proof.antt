@@ -1,0 +1,18 @@
+-- `gtid_follow::lines::flushed` meets its contract: what is written lies within the text.
+use mathlib.Core.Path.{sym}
+use lib.Seq.{length-take-le}
+use borrow.Author.Needs.{needs}
+use Rattle.gtid_follow.proofs.lines.flushed.Statement.{statement}
+use Rattle.gtid_follow.proofs.lines.flushed.Tie as tie
+
+slice-aggregate-write-all : tie.Need-slice-aggregate-write-all
+slice-aggregate-write-all c = sym (length-take-le _ _ (search needs))
+
+write-all-requires : tie.Need-write-all-requires
+write-all-requires c κs = search needs
+
+returns : tie.Need-returns
+returns c = search needs
+
+pub flushed-spec : {M : Type 1} → statement M
+flushed-spec = tie.close (tie.spec slice-aggregate-write-all write-all-requires returns)
