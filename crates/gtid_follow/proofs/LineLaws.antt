@@ -96,5 +96,5 @@ pub lined-within : (said : Said) (work : List ℕ) (lines : Lines) (text : List 
     → Lined said work lines text lines′ text′ → lines .waiting ≤ length text → lines′ .waiting ≤ length text
 lined-within MoreWanted work lines text lines′ text′ (same, _) short = rw same short
 lined-within Ended work lines text lines′ text′ (same, _) short = rw same short
-lined-within (Event told type n) work lines text lines′ text′ added short = added .within
+lined-within (Event told type n) work lines text lines′ text′ (added, _) short = added .within
 lined-within (Refused r n) work lines text lines′ text′ (same, _) short = rw same short

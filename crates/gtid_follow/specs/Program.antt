@@ -61,6 +61,10 @@ pub record Added (before line after : List ℕ) (end : ℕ) : Type 0 where
   pub placed : Placed before start line after end
   pub within : end ≤ length before
 
+-- once a line could not be written, none is any more
+abbrev pub StaysUnheard : Lines → Lines → Type 0
+StaysUnheard before after = before .heard ≡ false → after .heard ≡ false
+
 -- what the reader said of an event fits: its body stands in work bytes of so many
 abbrev pub StandsIn : ℕ → Said → Type 0
 StandsIn work MoreWanted = Unit {0}
@@ -72,7 +76,8 @@ StandsIn work (Refused r n) = Unit {0}
 abbrev pub Lined : Said → List ℕ → Lines → List ℕ → Lines → List ℕ → Type 0
 Lined MoreWanted work lines text lines′ text′ = (lines′ ≡ lines) × (text′ ≡ text)
 Lined Ended work lines text lines′ text′ = (lines′ ≡ lines) × (text′ ≡ text)
-Lined (Event told type n) work lines text lines′ text′ = Added text (answerLine told type (take n work)) text′ (lines′ .waiting)
+Lined (Event told type n) work lines text lines′ text′ =
+    Added text (answerLine told type (take n work)) text′ (lines′ .waiting) × StaysUnheard lines lines′
 Lined (Refused r n) work lines text lines′ text′ = (lines′ ≡ lines) × (text′ ≡ text)
 
 -- ---- the walk

@@ -9,7 +9,7 @@ ghost use mathlib.Core.List.{_++_};
 ghost use Prim.Native.Nat.{_+_, _≤_};
 ghost use lib.ListN.{length};
 ghost use Rattle.misc.specs.Output.{WhereFits};
-ghost use Rattle.gtid_follow.specs.Program.{idLine, answerLine, Names, Added};
+ghost use Rattle.gtid_follow.specs.Program.{idLine, answerLine, Names, Added, StaysUnheard};
 
 // No line is longer.
 const LINE_ROOM: usize = 128;
@@ -17,7 +17,7 @@ const LINE_ROOM: usize = 128;
 // `gtid `, with which the listing begins the line of an id.
 const WORD: usize = 5;
 
-// How many bytes of lines wait to be written, and whether all before could be.
+// How many bytes of lines wait to be written, and whether all before could be. If not, nothing more is written.
 pub(crate) struct Lines {
     pub(crate) waiting: usize,
     pub(crate) heard: bool,
@@ -36,7 +36,14 @@ pub(crate) fn none() -> Lines
 pub(crate) fn flushed(lines: Lines, text: &[u8]) -> Lines
     requires { ⌜ lines .waiting ≤ length (now text) ⌝ }
     ensures { λ r. ⌜ r .waiting ≡ 0 ⌝ }
+    ensures { λ r. ⌜ StaysUnheard lines r ⌝ }
 {
+    if !lines.heard {
+        return Lines {
+            waiting: 0,
+            heard: false,
+        };
+    }
     let waiting = lines.waiting;
     let heard = io::write_all(1, &text[..waiting]);
     Lines { waiting: 0, heard }
@@ -46,6 +53,7 @@ pub(crate) fn flushed(lines: Lines, text: &[u8]) -> Lines
 fn with_room(lines: Lines, text: &[u8]) -> Lines
     requires { ⌜ (lines .waiting ≤ length (now text)) × (128 ≤ length (now text)) ⌝ }
     ensures { λ r. ⌜ r .waiting + 128 ≤ length (now (text .entry)) ⌝ }
+    ensures { λ r. ⌜ StaysUnheard lines r ⌝ }
 {
     if text.len() - lines.waiting < LINE_ROOM {
         return flushed(lines, text);
@@ -89,6 +97,7 @@ pub(crate) fn put_answer(
     requires { ⌜ (lines .waiting ≤ length (now text)) × (128 ≤ length (now text)) ⌝ }
     requires { ⌜ Names told «event_type» ⌝ }
     ensures { λ r. ⌜ Added (now (text .entry)) (answerLine told «event_type» (now (body .entry))) (now (text .exit)) (r .waiting) ⌝ }
+    ensures { λ r. ⌜ StaysUnheard lines r ⌝ }
 {
     let before = with_room(lines, text);
     let waiting = put_told(told, event_type, body, text, before.waiting);
@@ -101,6 +110,7 @@ pub(crate) fn put_answer(
 // The line of a refusal, if there is one; and all lines that wait are written.
 pub(crate) fn put_refusal(lines: Lines, refusal: u8, text: &mut [u8]) -> Lines
     requires { ⌜ (lines .waiting ≤ length (now text)) × (128 ≤ length (now text)) ⌝ }
+    ensures { λ r. ⌜ StaysUnheard lines r ⌝ }
 {
     if refusal == 0 {
         return flushed(lines, text);

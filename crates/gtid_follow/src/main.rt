@@ -1,7 +1,8 @@
-// The follow program: a binlog file on standard input as it arrives, behind a byte that says whether checksums end its events, and a set
-// to start from, behind its length in four bytes. On standard output there is a line for each event that is answered, as soon as nothing
-// more has come, a line for the refusal that stops the reader, and at last the set; on descriptor 3 the refusal's number, or 0, and the
-// set's bytes.
+// The follow program: a binlog file on standard input as it arrives, behind a byte that says whether checksums end its events (1), and a set
+// to start from, behind its length in four bytes. On standard output it writes a line for each event that is answered, before it waits for
+// more input; a line for the refusal that stops the reader; and at last the set. On descriptor 3 it writes the refusal's number, or 0, and
+// the set's bytes, unless standard output could not be written. That each line is put whole and says what the reader answered is proved
+// (`line_of`), that a chunk is used up unless the walk stops (`through`), and that there is room for the text of every set (`text_of`).
 mod lines;
 mod progress;
 mod start;

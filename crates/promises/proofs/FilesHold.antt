@@ -1,6 +1,6 @@
 -- The statements of `specs/Files.antt` together.
 use Prim.Native.Nat.{ℕ}
-use mathlib.Core.Path.{_≡_, refl, sym}
+use mathlib.Core.Path.{_≡_, refl, sym, _∙_}
 use mathlib.Core.Bool.{Bool, or-false}
 use mathlib.Core.List.{List}
 use Rattle.gtid_sets.specs.Set.{has}
@@ -8,15 +8,20 @@ use Rattle.resume_set_laws.proofs.AnyRun.{Keeps, EachKeeps, tells-from}
 use Rattle.binlog.specs.Run.{Done, did, fails}
 use Rattle.binlog_reader.specs.Does.{Judged, does}
 use Rattle.binlog_reader.specs.Step.{saidAt, beginsAt, beginAnswers}
+use Rattle.binlog_reader.specs.declared.Said.{Said}
+use Rattle.binlog_reader.specs.declared.Said.the-variants.{MoreWanted, Ended, Event, Refused}
 use Rattle.binlog_laws.specs.Files.{fileComes}
 use Rattle.binlog_laws.proofs.OneEvent.{event-grows}
 use Rattle.binlog_laws.proofs.LoopLaws.{drives-hears}
 use Rattle.binlog_laws.proofs.Onward as steps
 use Rattle.binlog_laws.proofs.Tells.{files-tell}
 use Rattle.binlog_laws.proofs.Again.{files-again}
+use Rattle.abi.specs.FlatBinlog.{saidNumbers, flatStep}
+use Rattle.abi.proofs.FlatBinlogLaws.{no-reader, kept-told}
+use Rattle.abi.proofs.FlatBinlogBack.{keeps-back}
 use Rattle.promises.specs.SetFaults.{SetFault}
 use Rattle.promises.specs.Exact.{RefusesExactly}
-use Rattle.promises.specs.Files.{TurnBytes, refusalIn, Files}
+use Rattle.promises.specs.Files.{TurnBytes, refusalIn, ArchiveReads, Files}
 use Rattle.promises.proofs.SetsExact.{set-exact}
 use Rattle.promises.proofs.FileEvents.{events-judged}
 use Rattle.promises.proofs.FileReads.{reads-files}
@@ -34,6 +39,21 @@ each-keeps room set s t lent ok = go (does room set (t .type) (t .body)) refl
 begin-exactly : (set : List ℕ) (checksums : Bool) → RefusesExactly (refusalIn (beginAnswers set checksums .said)) (SetFault set)
 begin-exactly set checksums = set-exact (λ l. refusalIn (saidAt (beginsAt l))) set refl (λ s. refl)
 
+-- the archive's reader
+
+refusal-said : (said : Said) → saidNumbers said .refusal ≡ refusalIn said
+refusal-said MoreWanted = refl
+refusal-said Ended = refl
+refusal-said (Event t type n) = refl
+refusal-said (Refused r n) = refl
+
+archive-reads : ArchiveReads
+archive-reads = record {
+  no-reader = λ bs a other. let (says, keeps) = no-reader bs other a in (sym says, sym keeps);
+  says = λ bs a long. sym (kept-told bs long a a (flatStep a) (saidNumbers (a .said) .refusal) refl (refl, refl) .0) ∙ refusal-said (a .said);
+  back = λ bs a long left have len. keeps-back a bs long (record { left-fits = left; have-fits = have; len-fits = len }) .1;
+}
+
 pub files : Files
 files = record {
   events = events-judged;
@@ -44,4 +64,5 @@ files = record {
   begin = begin-exactly;
   loop = drives-hears;
   onward = steps.onward;
+  archive = archive-reads;
 }

@@ -1,6 +1,6 @@
 -- The binlog file as it arrives (CR 2): what reading one comes to, of any way of reading, by the file's layout; the table of what an event of it is
--- refused for; demand 3 over files; and the caller's loop of steps.
-use Prim.Native.Nat.{ℕ, _<_, _≤_}
+-- refused for; demand 3 over files; the caller's loop of steps; and the archive's reader.
+use Prim.Native.Nat.{ℕ, _^_, _<_, _≤_}
 use mathlib.Core.Path.{_≡_}
 use mathlib.Core.Bool.{Bool, true, false}
 use mathlib.Core.List.{List, [], _∷_, _++_}
@@ -32,6 +32,7 @@ use Rattle.binlog_reader.specs.declared.Said.the-variants.{MoreWanted, Ended, E
 use Rattle.binlog_reader.specs.declared.Answer.{Answer}
 use Rattle.binlog_laws.specs.Files.{FileTurn, fileComes, FileReading, readIn, ourFiles, FilesTell, FilesAgain}
 use Rattle.binlog_laws.specs.Loop.{Lending, StepsTo, isRefusal, DrivesHears}
+use Rattle.abi.specs.FlatBinlog.{phaseNumbers, readerIn, flatSays, flatKeeps}
 use Rattle.promises.specs.BodyFaults.{BodyFault}
 use Rattle.promises.specs.PlainFaults.{ShortFault}
 use Rattle.promises.specs.SetFaults.{SetFault, BodyIs, Accepts, OfferFault}
@@ -137,6 +138,17 @@ refusalIn (Refused r n) = r
 abbrev pub TurnBytes : FileTurn → Type 0
 TurnBytes e = Bytes (e .body)
 
+-- ---- the archive's reader, which is 48 bytes
+
+-- its calls answer and leave what `begin`, `step` and `end` answer, here any answer a
+pub record ArchiveReads : Type 0 where
+  -- 12: bytes of another length are no reader, and stay as they are
+  pub no-reader : (bs : List ℕ) (a : Answer) → (length bs ≡ 48 → ⊥) → (flatSays bs a ≡ 12) × (flatKeeps bs a ≡ bs)
+  -- else the number is the one that is said, 0 for none, and the bytes are then the reader that was answered
+  pub says : (bs : List ℕ) (a : Answer) → length bs ≡ 48 → flatSays bs a ≡ refusalIn (a .said)
+  pub back : (bs : List ℕ) (a : Answer) → length bs ≡ 48 → phaseNumbers (a .reader .phase) .left < 2 ^ 64 → phaseNumbers (a .reader .phase) .have < 2 ^ 64
+      → a .reader .len < 2 ^ 64 → readerIn (flatKeeps bs a) ≡ a .reader
+
 -- ---- together
 
 pub record Files : Type 0 where
@@ -154,3 +166,4 @@ pub record Files : Type 0 where
   -- a step from where no event waits to be judged, as after any call, uses a byte at least, where there is one, or refuses
   pub onward : (m m′ : Lending) (bs : List ℕ) (r : Answer) → isWhole (placeOf (m .reader .phase) (m .work)) ≡ false → StepsTo m bs r m′
       → 0 < length bs → (0 < r .used) ⊎ (isRefusal (r .said) ≡ true)
+  pub archive : ArchiveReads

@@ -41,8 +41,9 @@ slice-aggregate-finish c =
 finish-requires : tie.Need-finish-requires
 finish-requires c κs =
     let last = c .before .before .before .before .before .before .before .before .before .before .before .before .before in
+    let enough = last .before .before .before .before .before .before .before .before .before .before .before .before .before .before .before .before .before .pre in
     let same = last .walked .kept .1 .1 .1 .1 .1 .0 in
-    (omega (arith, last .walked .ensures .lines, same), omega (arith, last .before .before .before .before .before .before .before .before .before .before .before .before .before .before .before .before .before .pre, same))
+    (omega (arith, last .walked .ensures .lines, same), omega (arith, enough, same))
 
 same-length : tie.Need-same-length
 same-length c = search needs

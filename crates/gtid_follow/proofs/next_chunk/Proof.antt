@@ -30,7 +30,7 @@ through-requires c κs =
     let written = c .before .before .before .before .before .before .before .before .before .before .before .before .before in
     let s = written .before .before .before .before .before .before .before .before in
     let before = s .pre .0 in
-    (record { kept = before .kept; lines = omega (arith, written .flushed .ensures); answered = before .answered }, (omega arith, s .pre .1))
+    (record { kept = before .kept; lines = omega (arith, written .flushed .ensures .0); answered = before .answered }, (omega arith, s .pre .1))
 
 same-length-2 : tie.Need-same-length-2
 same-length-2 c = search needs

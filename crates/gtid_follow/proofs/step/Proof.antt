@@ -11,7 +11,6 @@ use Rattle.gtid_follow.proofs.LineLaws.{lined-within}
 use Rattle.gtid_follow.proofs.step.Statement.{statement}
 use Rattle.gtid_follow.proofs.step.Tie as tie
 
--- what the reader's step leaves
 fed : (c : tie.After-step)
     → StepFits (length (now (c .before .before .before .before .before .before .before .before .before .before .args .chunk))
     - c .before .before .before .before .before .before .before .before .before .before .args .walk .used)

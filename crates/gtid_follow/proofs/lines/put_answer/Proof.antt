@@ -19,8 +19,11 @@ returns : tie.Need-returns
 returns c =
     let room = c .before .before .before .before in
     let s = room .before .before .before .before in
-    line-added (s .args .told) (s .args .event-type) (now (s .args .body)) _ _ _ _ (s .pre .1) (λ i. room .before .before .before .shared-slice-known .given i .fits)
-    (omega (arith, room .with-room .ensures)) (c .before .before .put-told .ensures)
+    let known = room .before .before .before .shared-slice-known in (
+      line-added (s .args .told) (s .args .event-type) (now (s .args .body)) _ _ _ _ (s .pre .1) (λ i. known .given i .fits)
+          (omega (arith, room .with-room .ensures .0)) (c .before .before .put-told .ensures),
+      room .with-room .ensures .1,
+    )
 
 pub put-answer-spec : {M : Type 1} → statement M
 put-answer-spec = tie.close (tie.spec with-room-requires put-told-requires same-length returns)

@@ -7,7 +7,6 @@ use Rattle.gtid_follow.proofs.LineLaws.{LineThere, line-there}
 use Rattle.gtid_follow.proofs.lines.put_id.Statement.{statement}
 use Rattle.gtid_follow.proofs.lines.put_id.Tie as tie
 
--- the line of the listing
 there : (c : tie.After-list)
     → LineThere (c .before .before .before .before .before .args .event-type) (now (c .before .before .before .before .before .args .body))
     (c .list .last .1 .1 .0) (c .list .result .len)

@@ -12,7 +12,7 @@ same-length : tie.Need-same-length
 same-length c = search needs
 
 returns : tie.Need-returns
-returns c = search needs
+returns c = c .flushed .ensures .1
 
 with-room-requires : tie.Need-with-room-requires
 with-room-requires c κs = search needs
@@ -23,13 +23,13 @@ put-refused-requires c κs = search needs
 flushed-requires-2 : tie.Need-flushed-requires-2
 flushed-requires-2 c κs =
     let room = c .before .before .before .before .before .with-room in
-    omega (arith, put-within _ _ _ _ (omega (arith, room .ensures)) (c .before .before .before .put-refused .ensures .0))
+    omega (arith, put-within _ _ _ _ (omega (arith, room .ensures .0)) (c .before .before .before .put-refused .ensures .0))
 
 same-length-2 : tie.Need-same-length-2
 same-length-2 c = search needs
 
 returns-2 : tie.Need-returns-2
-returns-2 c = search needs
+returns-2 c = λ h. c .flushed2 .ensures .1 (c .before .before .before .before .before .before .with-room .ensures .1 h)
 
 pub put-refusal-spec : {M : Type 1} → statement M
 put-refusal-spec =
