@@ -9,7 +9,6 @@ pub mod EndSaysLaws
 pub mod FillLaws
 pub mod PhaseLaws
 pub mod PlaceLaws
-pub mod FitLaws
 pub mod HeldLaws
 pub mod AnswerLaws
 pub mod EndLaws

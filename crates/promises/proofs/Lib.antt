@@ -45,6 +45,7 @@ pub mod FileJoins
 pub mod FileOffers
 pub mod FileEvents
 pub mod FileReads
+pub mod FileSteps
 pub mod FilesHold
 pub mod BodiesExact
 pub mod ReaderExact

@@ -1,6 +1,6 @@
 -- The binlog file as it arrives (CR 2): what reading one comes to, of any way of reading, by the file's layout; the table of what an event of it is
 -- refused for; demand 3 over files; the caller's loop of steps; and the archive's reader.
-use Prim.Native.Nat.{ℕ, _^_, _<_, _≤_}
+use Prim.Native.Nat.{ℕ, _^_, _<_, _≤_, min}
 use mathlib.Core.Path.{_≡_}
 use mathlib.Core.Bool.{Bool, true, false}
 use mathlib.Core.List.{List, [], _∷_, _++_}
@@ -22,17 +22,19 @@ use Rattle.binlog.specs.Format.{trailer}
 use Rattle.binlog.specs.Run.{did, fails, walking, Word, chunk, end, spelled}
 use Rattle.binlog.specs.Layout.{Says, EndSays}
 use Rattle.binlog.specs.Walk.{isWhole}
-use Rattle.binlog.specs.Held.{placeOf}
+use Rattle.binlog.specs.Held.{made, needs, placeOf, Front}
+use Rattle.binlog.specs.declared.Phase.the-variants as phase
 use Rattle.binlog_reader.specs.Does.{acts, does}
-use Rattle.binlog_reader.specs.Step.{SetRun, beginAnswers}
+use Rattle.binlog_reader.specs.Step.{SetRun, Stepped, runIn, stepOf, stepAnswers, stepLeaves, beginAnswers}
 use Rattle.binlog_reader.specs.declared.Told.{Told}
 use Rattle.binlog_reader.specs.declared.Told.the-variants as told
 use Rattle.binlog_reader.specs.declared.Said.{Said}
 use Rattle.binlog_reader.specs.declared.Said.the-variants.{MoreWanted, Ended, Event, Refused}
+use Rattle.binlog_reader.specs.declared.Reader.{Reader}
 use Rattle.binlog_reader.specs.declared.Answer.{Answer}
-use Rattle.binlog_laws.specs.Files.{FileTurn, fileComes, FileReading, readIn, ourFiles, FilesTell, FilesAgain}
-use Rattle.binlog_laws.specs.Loop.{Lending, StepsTo, isRefusal, DrivesHears}
-use Rattle.abi.specs.FlatBinlog.{phaseNumbers, readerIn, flatSays, flatKeeps}
+use Rattle.binlog_laws.specs.Files.{FileTurn, fileComes, FileReading, readIn, startOf, ourFiles, FilesTell, FilesAgain}
+use Rattle.binlog_laws.specs.Loop.{Lending, StepsTo, isRefusal, Stands, DrivesHears}
+use Rattle.abi.specs.FlatBinlog.{phaseNumbers, readerIn, flatSays, flatKeeps, flatBuffer}
 use Rattle.promises.specs.BodyFaults.{BodyFault}
 use Rattle.promises.specs.PlainFaults.{ShortFault}
 use Rattle.promises.specs.SetFaults.{SetFault, BodyIs, Accepts, OfferFault}
@@ -134,6 +136,21 @@ refusalIn Ended = 0
 refusalIn (Event t type n) = 0
 refusalIn (Refused r n) = r
 
+-- a step that refuses at once: it uses nothing, leaves the set's buffer and the room for the next one as they are, and its reader repeats the refusal
+pub record RefusesAtOnce (r : Reader) (s : Stepped) (n len : ℕ) : Type 0 where
+  pub answers : stepAnswers r s
+      ≡ record { said = Refused n len; used = 0; reader = record { phase = phase.Stopped n len; checksums = r .checksums; len = r .len } }
+  pub leaves : (buffer : List ℕ) → stepLeaves buffer (runIn s) ≡ buffer
+
+-- before any byte is looked at, and so wherever the file was cut: 12 for a phase that no call made; 13, with what is needed, for one that needs work bytes
+-- and has too few; and a refusal that came before
+pub record StepsRefuse : Type 0 where
+  pub forged : (r : Reader) (work set chunk : List ℕ) (spare : ℕ) → made (r .phase) ≡ false → RefusesAtOnce r (stepOf r work set spare chunk) 12 0
+  pub short : (r : Reader) (work set chunk : List ℕ) (spare : ℕ) → made (r .phase) ≡ true → needs (r .phase) ≡ 65540 → length work < 65540
+      → RefusesAtOnce r (stepOf r work set spare chunk) 13 65540
+  pub again : (r : Reader) (work set chunk : List ℕ) (spare n len : ℕ) → 0 < n → r .phase ≡ phase.Stopped n len
+      → RefusesAtOnce r (stepOf r work set spare chunk) n len
+
 -- an event whose body is bytes
 abbrev pub TurnBytes : FileTurn → Type 0
 TurnBytes e = Bytes (e .body)
@@ -144,6 +161,7 @@ TurnBytes e = Bytes (e .body)
 pub record ArchiveReads : Type 0 where
   -- 12: bytes of another length are no reader, and stay as they are
   pub no-reader : (bs : List ℕ) (a : Answer) → (length bs ≡ 48 → ⊥) → (flatSays bs a ≡ 12) × (flatKeeps bs a ≡ bs)
+  pub untouched : (bs buffer : List ℕ) (s : Stepped) → (length bs ≡ 48 → ⊥) → flatBuffer bs buffer s ≡ buffer
   -- else the number is the one that is said, 0 for none, and the bytes are then the reader that was answered
   pub says : (bs : List ℕ) (a : Answer) → length bs ≡ 48 → flatSays bs a ≡ refusalIn (a .said)
   pub back : (bs : List ℕ) (a : Answer) → length bs ≡ 48 → phaseNumbers (a .reader .phase) .left < 2 ^ 64 → phaseNumbers (a .reader .phase) .have < 2 ^ 64
@@ -161,8 +179,12 @@ pub record Files : Type 0 where
   pub events-tell : (room : ℕ) → Tells TurnBytes (fileComes room)
   -- `begin` refuses with 14 exactly what is no set
   pub begin : (set : List ℕ) (checksums : Bool) → RefusesExactly (refusalIn (beginAnswers set checksums .said)) (SetFault set)
-  -- the caller's loop of steps comes to what reading says
+  -- and what it makes stands for the beginning of reading, with the set at the front of its buffer; from there the caller's loop of steps comes to
+  -- what reading says
+  pub begins : (m : Lending) (set : List ℕ) (checksums : Bool) → m .reader ≡ beginAnswers set checksums .reader → Front set (m .set)
+      → 65540 ≤ length (m .work) → Stands (min (length (m .set)) (length (m .spare))) m (startOf set)
   pub loop : DrivesHears
+  pub refuses : StepsRefuse
   -- a step from where no event waits to be judged, as after any call, uses a byte at least, where there is one, or refuses
   pub onward : (m m′ : Lending) (bs : List ℕ) (r : Answer) → isWhole (placeOf (m .reader .phase) (m .work)) ≡ false → StepsTo m bs r m′
       → 0 < length bs → (0 < r .used) ⊎ (isRefusal (r .said) ≡ true)
