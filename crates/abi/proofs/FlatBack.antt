@@ -7,13 +7,12 @@ use borrow.Author.Tests.{eq-eqb, lt-ltb}
 use lib.ListN.{length, getD, drop}
 use lib.Dec.{ltb}
 use Rattle.misc.specs.Parse.{part, uintRead}
-use Rattle.misc.specs.Le.{leBytes, leAt}
+use Rattle.misc.specs.Le.{leBytes, leAt, numberAt}
 use Rattle.misc.proofs.LeLaws.{length-leBytes, leOf-leBytes, le-here}
 use Rattle.gtid_event.specs.declared.GtidEvent.{GtidEvent}
 use Rattle.gtid_event_write.specs.Write.{eventOutput}
 use Rattle.gtid_event.specs.Fits.{Fits}
-use Rattle.set_check.specs.Places.{numberAt}
-use Rattle.set_check.proofs.PlaceLaws.{part-there, after-there, left-there, byte-there}
+use Rattle.misc.proofs.Places.{part-there, after-there, left-there, byte-there}
 use Rattle.abi.specs.Answers.{bit}
 use Rattle.abi.specs.Flat.{flat, flatIdentity, flatClock, flatRest, fourAt, typecodeIf, flatRead, writeOutput}
 use Rattle.abi.proofs.FlatLaws.{length-flat}

@@ -6,8 +6,7 @@ use mathlib.Core.List.{List, [], _∷_, _++_, append-assoc, append-nil}
 use native.Mathlib.Omega.{arith}
 use lib.ListN.{length}
 use lib.Dec.{ltb}
-use Rattle.misc.specs.Le.{leBytes}
-use Rattle.set_check.specs.Places.{numberAt}
+use Rattle.misc.specs.Le.{leBytes, numberAt}
 use Rattle.binlog.specs.declared.Phase.{Phase}
 use Rattle.binlog.specs.declared.Phase.the-variants as phase
 use Rattle.binlog_reader.specs.declared.Answer.{Answer}

@@ -6,11 +6,10 @@ use native.Mathlib.Omega.{arith}
 use lib.ListN.{length, getD, drop, length-append, drop-of-length-le}
 use lib.Dec.{ltb}
 use borrow.Author.Tests.{eq-eqb, ne-eqb}
-use Rattle.misc.specs.Le.{leBytes}
+use Rattle.misc.specs.Le.{leBytes, numberAt}
 use Rattle.misc.specs.Output.{WhereFits}
 use Rattle.misc.proofs.LeLaws.{length-leBytes}
 use Rattle.misc.proofs.OutputLaws.{written-is, _also_}
-use Rattle.set_check.specs.Places.{numberAt}
 use Rattle.binlog.specs.Held.{Front}
 use Rattle.binlog.specs.declared.Phase.{Phase}
 use Rattle.binlog.specs.declared.Phase.the-variants as phase

@@ -7,14 +7,13 @@ use native.Mathlib.Omega.{arith}
 use lib.ListN.{length, take, drop, set, replicate}
 use lib.Seq.{length-take-le, take-add, take-set-le, drop-set-lt, drop-at}
 use Rattle.misc.specs.Parse.{part, bytesAt}
-use Rattle.misc.specs.Le.{leBytes, leAt, leOf}
+use Rattle.misc.specs.Le.{leBytes, leAt, leOf, numberAt}
 use Rattle.misc.specs.Output.{written}
 use Rattle.misc.proofs.ParseLaws.{split}
 use Rattle.misc.proofs.LeLaws.{length-leBytes}
 use Rattle.misc.proofs.OutputLaws.{length-written, written-is}
 use Rattle.gtid_sets.specs.Lent.{lentSet}
-use Rattle.set_check.specs.Places.{numberAt}
-use Rattle.set_check.proofs.PlaceLaws.{part-there}
+use Rattle.misc.proofs.Places.{part-there}
 use Rattle.report.specs.Report.{refusedLine, lineOf, withLine, added, newReport}
 use Rattle.report.specs.declared.Line.{Line}
 use Rattle.report.specs.declared.Added.{Added}

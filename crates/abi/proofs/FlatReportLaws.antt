@@ -11,13 +11,12 @@ use Rattle.misc.specs.Output.{answerOf, outputOf, putAt, putEnd, WhereFits, byt
 use Rattle.misc.specs.Refusal.{notWritable}
 use Rattle.misc.specs.declared.Wrote.{Wrote}
 use Rattle.misc.specs.Parse.{part}
-use Rattle.misc.specs.Le.{leBytes}
+use Rattle.misc.specs.Le.{leBytes, numberAt}
 use Rattle.misc.proofs.ParseLaws as parse-laws
 use Rattle.misc.proofs.LeLaws.{length-leBytes}
 use Rattle.misc.proofs.OutputLaws.{length-written, put-placed, output-refused}
 use Rattle.packets.proofs.Tests.{split}
 use Rattle.gtid_sets.specs.Lent.{lentSet}
-use Rattle.set_check.specs.Places.{numberAt}
 use Rattle.report.specs.Report.{refusedLine, lineOf, maxSets, linesOf, sumOf}
 use Rattle.report.specs.Text.{reportText}
 use Rattle.report.specs.declared.Line.{Line}

@@ -6,12 +6,11 @@ use lib.Dec.{leb, ltb, eqb}
 use Rattle.misc.specs.Pick.{pick}
 use Rattle.misc.specs.Refusal.{notWritable}
 use Rattle.misc.specs.Parse.{Parse, refuse, parsed, part, uintRead}
-use Rattle.misc.specs.Le.{leBytes, leAt}
+use Rattle.misc.specs.Le.{leBytes, leAt, numberAt}
 use Rattle.misc.specs.Output.{Output, refused, bytes}
 use Rattle.gtid_event.specs.declared.GtidEvent.{GtidEvent}
 use Rattle.gtid_event_read.specs.Seen.{Seen, bitsOf}
 use Rattle.gtid_event_write.specs.Write.{eventOutput}
-use Rattle.set_check.specs.Places.{numberAt}
 use Rattle.abi.specs.Answers.{bit}
 
 -- ---- the bytes of a record

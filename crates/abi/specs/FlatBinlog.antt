@@ -6,8 +6,7 @@ use lib.ListN.{length, getD}
 use lib.Dec.{eqb, ltb}
 use Rattle.misc.specs.Pick.{pick}
 use Rattle.misc.specs.Refusal.{number, notWritable}
-use Rattle.misc.specs.Le.{leBytes}
-use Rattle.set_check.specs.Places.{numberAt}
+use Rattle.misc.specs.Le.{leBytes, numberAt}
 use Rattle.binlog.specs.declared.Phase.{Phase}
 use Rattle.binlog.specs.declared.Phase.the-variants as phase
 use Rattle.binlog_reader.specs.Step.{Stepped, stepOf, runIn, stepLeaves, stepHolds}

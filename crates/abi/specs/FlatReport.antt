@@ -8,9 +8,8 @@ use lib.Dec.{eqb, ltb}
 use Rattle.misc.specs.Pick.{pick}
 use Rattle.misc.specs.Refusal.{number, tooLong, notWritable}
 use Rattle.misc.specs.Parse.{part}
-use Rattle.misc.specs.Le.{leBytes}
+use Rattle.misc.specs.Le.{leBytes, numberAt}
 use Rattle.misc.specs.Output.{Output, refused, bytes, written}
-use Rattle.set_check.specs.Places.{numberAt}
 use Rattle.report.specs.Report.{refusedLine, maxSets, linesOf, added, sumOf}
 use Rattle.report.specs.Text.{reportText}
 use Rattle.report.specs.declared.Line.{Line}

@@ -1,5 +1,6 @@
 // A GTID record as 116 bytes: written, field after field, and read again.
 use gtid_event::GtidEvent;
+use misc::le::number_at;
 use misc::le::read_u32_le;
 use misc::put::put_byte;
 use misc::put::put_bytes;
@@ -7,7 +8,6 @@ use misc::put::put_u32_le;
 use misc::put::put_u64_le;
 use packets::tag_bytes;
 use packets::uuid_bytes;
-use set_check::places::number_at;
 ghost use mathlib.Core.Path.{_≡_};
 ghost use lib.ListN.{length};
 ghost use Rattle.misc.specs.Output.{WhereFits};

@@ -1,5 +1,6 @@
 // A report as 1,352 bytes: how many sets it is over, and 21 bytes for each of its lines.
 use crate::flat::four_at;
+use misc::le::number_at;
 use misc::put::put_byte;
 use misc::put::put_u32_le;
 use misc::put::put_u64_le;
@@ -8,12 +9,11 @@ use misc::refusal::TOO_LONG;
 use report::Line;
 use report::MAX_SETS;
 use report::Report;
-use set_check::places::number_at;
 ghost use mathlib.Core.Path.{_≡_};
 ghost use Prim.Native.Nat.{_<_};
 ghost use lib.ListN.{length};
 ghost use Rattle.misc.specs.Output.{WhereFits};
-ghost use Rattle.set_check.specs.Places.{numberAt};
+ghost use Rattle.misc.specs.Le.{numberAt};
 ghost use Rattle.abi.specs.FlatReport.{flatLine, lineIn, reportIn, withLineIn, roomFor};
 
 // How many bytes a line has,

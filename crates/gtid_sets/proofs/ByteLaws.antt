@@ -11,9 +11,9 @@ use Rattle.misc.specs.Varlen.{varlenSize, sizeFrom, varlenBytes}
 use Rattle.misc.proofs.VarlenLaws.{length-varlenBytes}
 use Rattle.packets.specs.Gno.{Interval, interval}
 use Rattle.previous_gtids_event.specs.Entry.{Entry, entry, tagOf}
-use Rattle.previous_gtids_event.specs.Previous.{noneOrTag}
+use Rattle.packets.specs.Tag.{noneOrTag}
 use Rattle.previous_gtids_event.specs.Rewrite.{intervalsBytes, tagBytes, entriesBytes, anyTag, bodyBytes}
-use Rattle.previous_gtids_event.proofs.Reading.{none-or-tag-short}
+use Rattle.packets.proofs.TagLaws.{none-or-tag-short}
 use Rattle.previous_gtids_event.proofs.Writing.{length-header, entry-length}
 use Rattle.gtid_sets.specs.Limits.{intervals}
 use Rattle.gtid_sets.specs.Lent.{GoodKeys}

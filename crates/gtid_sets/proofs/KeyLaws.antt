@@ -10,7 +10,8 @@ use Rattle.misc.proofs.ParseLaws.{then-parsed, part-length}
 use Rattle.packets.specs.Gno.{Interval}
 use Rattle.packets.specs.Key.{Key}
 use Rattle.previous_gtids_event.specs.Entry.{Entry, entry, uuidOf}
-use Rattle.previous_gtids_event.specs.Previous.{noneOrTag, GoodKey, saysTagged, saysCount, entryAt, previous}
+use Rattle.packets.specs.Tag.{noneOrTag}
+use Rattle.previous_gtids_event.specs.Previous.{GoodKey, saysTagged, saysCount, entryAt, previous}
 use Rattle.previous_gtids_event.proofs.Reading.{uuid-of, tag-of, entry-there, previous-parts}
 use Rattle.gtid_sets.specs.Lent.{GoodKeys}
 

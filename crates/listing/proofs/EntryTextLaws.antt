@@ -25,7 +25,8 @@ use Rattle.gtid_sets.proofs.TakeInLaws.{form-lawful}
 use Rattle.gtid_sets.proofs.FormLaws.{lawful-tests}
 use Rattle.gtid_sets.proofs.LimitLaws.{maxEntries-is, limits-says}
 use Rattle.gtid_sets.proofs.LentLaws.{read-back, lent-is}
-use Rattle.set_check.specs.Places.{numberAt, intervalsAt}
+use Rattle.misc.specs.Le.{numberAt}
+use Rattle.set_check.specs.Places.{intervalsAt}
 use Rattle.previous_gtids_event.proofs.Writing.{headerNumber}
 use Rattle.previous_gtids_event.proofs.RoundTrip.{header-says}
 use Rattle.set_check.proofs.HeaderLaws.{header-there}

@@ -7,7 +7,7 @@ use lib.ListN.{length, getD, take, drop, length-append}
 use lib.Seq.{take-all}
 use borrow.Author.Tests.{eq-eqb, ne-eqb}
 use Rattle.misc.specs.Refusal.{number, ended}
-use Rattle.misc.specs.Parse.{Parse}
+use Rattle.misc.specs.Parse.{Parse, Bytes}
 use Rattle.misc.specs.Output.{Output, bytes, outputOf, answerOf, WhereFits}
 use Rattle.misc.specs.declared.Wrote.{Wrote}
 use Rattle.misc.proofs.OutputLaws.{_also_, output-fits}
@@ -17,7 +17,6 @@ use Rattle.gtid_event.specs.declared.GtidEvent.{GtidEvent}
 use Rattle.gtid_event_read.specs.Read.{named, gtidRead}
 use Rattle.gtid_event_read.specs.declared.GtidRead.{GtidRead}
 use Rattle.gtid_sets.specs.Run.{names}
-use Rattle.set_check.proofs.PlaceLaws.{Bytes}
 use Rattle.resume_set.specs.Answers.{takenIn, says, eventOf}
 use Rattle.resume_set.proofs.AnswerLaws.{named-stopped, named-told, named-parts}
 use Rattle.text.specs.Digits.{decimal}

@@ -5,7 +5,8 @@ use mathlib.Core.List.{List, [], _∷_, _++_}
 use native.Mathlib.Omega.{arith}
 use lib.ListN.{length, length-append}
 use Rattle.packets.specs.Gno.{interval}
-use Rattle.set_check.specs.Places.{numberAt, intervalsAt}
+use Rattle.misc.specs.Le.{numberAt}
+use Rattle.set_check.specs.Places.{intervalsAt}
 use Rattle.set_check.proofs.GappedWalk.{intervals-more}
 use Rattle.text.specs.Intervals.{intervalText}
 use Rattle.listing.specs.SetText.{intervalsText}

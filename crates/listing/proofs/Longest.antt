@@ -7,14 +7,14 @@ use lib.ListN.{length, take, length-append}
 use lib.Seq.{length-take-le}
 use lib.Dec.{eqb}
 use Rattle.misc.specs.Refusal.{number}
-use Rattle.misc.specs.Parse.{Parse, refuse, parsed}
+use Rattle.misc.specs.Parse.{Parse, refuse, parsed, Bytes}
 use Rattle.packets.specs.Gno.{gnoTop, Interval, interval}
 use Rattle.packets.proofs.Tests.{split}
 use Rattle.packets.proofs.GnoLaws.{gnoTop-is}
 use Rattle.previous_gtids_event.specs.Entry.{Entry, entry, uuidOf, tagOf}
 use Rattle.previous_gtids_event.specs.Previous.{previous}
 use Rattle.previous_gtids_event.specs.Rewrite.{bodyBytes}
-use Rattle.previous_gtids_event.proofs.Reading.{none-or-tag-short}
+use Rattle.packets.proofs.TagLaws.{none-or-tag-short}
 use Rattle.gtid_event.specs.declared.GtidEvent.{GtidEvent}
 use Rattle.gtid_event_read.specs.Read.{recordIn, named}
 use Rattle.gtid_event_read.proofs.PresentLaws.{named-record}
@@ -25,7 +25,6 @@ use Rattle.gtid_sets.specs.Run.{names}
 use Rattle.gtid_sets.specs.Lent.{GoodKeys}
 use Rattle.gtid_sets.proofs.LimitLaws.{maxEntries-is, maxIntervals-is, limits-says}
 use Rattle.gtid_sets.proofs.LentLaws.{lent-is}
-use Rattle.set_check.proofs.PlaceLaws.{Bytes}
 use Rattle.resume_set.specs.Answers.{takenIn, says, eventOf}
 use Rattle.resume_set.proofs.AnswerLaws.{KeyParts, key-parts}
 use Rattle.text.specs.Intervals.{lastText}

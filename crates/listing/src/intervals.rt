@@ -1,5 +1,5 @@
 // The intervals of an entry as text.
-use set_check::places::number_at;
+use misc::le::number_at;
 use text::intervals::interval_len;
 use text::intervals::put_interval;
 ghost use mathlib.Core.Path.{_≡_};

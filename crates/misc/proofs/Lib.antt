@@ -12,4 +12,5 @@ pub mod Bounds
 pub mod Places
 pub mod FormsRead
 pub mod Accepted
+pub mod NumberLaws
 pub mod Forward

@@ -5,7 +5,7 @@ use Prim.Native.Nat.{ℕ, _+_, _-_, _≤_, _<_}
 use native.Mathlib.Nat.{add-zero}
 use native.Mathlib.Omega.{arith}
 use lib.ListN.{length, drop, getD, length-append, length-drop, take-append-drop}
-use lib.Seq.{take-append-seam, drop-append-seam, drop-drop, drop-length, getD-drop}
+use lib.Seq.{take-append-seam, drop-append-seam, drop-drop, drop-length, take-at, drop-at, getD-drop}
 use Rattle.misc.specs.Parse.{part}
 
 -- ---- what stands from a place on
@@ -45,6 +45,21 @@ module _ (s : List ℕ) (at : ℕ) where
   -- the next n bytes, and what is behind them
   pub part-from : (n : ℕ) → drop at s ≡ part s at n ++ drop (at + n) s
   part-from n = sym (take-append-drop n (drop at s)) ∙ ap (λ (x : List ℕ). part s at n ++ x) (drop-drop n at s)
+
+-- bytes that begin at a place: the part there, what follows it, and how many there are
+pub part-there : (s : List ℕ) (at n : ℕ) (p q : List ℕ) → drop at s ≡ p ++ q → length p ≡ n → part s at n ≡ p
+part-there s at n p q e l = rw e (take-at p q n l)
+
+pub after-there : (s : List ℕ) (at n : ℕ) (p q : List ℕ) → drop at s ≡ p ++ q → length p ≡ n → drop (at + n) s ≡ q
+after-there s at n p q e l = sym (drop-drop n at s) ∙ rw e (drop-at p q n l)
+
+pub left-there : (s : List ℕ) (at : ℕ) (p q : List ℕ) → drop at s ≡ p ++ q → length s - at ≡ length p + length q
+left-there s at p q e = sym (length-drop at s) ∙ ap length e ∙ length-append p q
+
+pub byte-there : (s : List ℕ) (at b : ℕ) (q : List ℕ) → drop at s ≡ b ∷ q → getD s at 0 ≡ b
+byte-there s at b q e =
+    let z : at + 0 ≡ at = omega arith in
+    ap (λ (i : ℕ). getD s i 0) (sym z) ∙ sym (getD-drop at s 0 0) ∙ ap (λ (l : List ℕ). getD l 0 0) e
 
 -- ---- what was found: at a place stand bytes with a property, and next is the place behind them
 

@@ -1,6 +1,6 @@
 -- Laws of the variable-length integers (`specs/Varlen.antt`).
 use mathlib.Core.Path.{_≡_, refl, sym, ap, _∙_}
-use mathlib.Core.List.{List, _∷_}
+use mathlib.Core.List.{List, [], _∷_}
 use Prim.Native.Nat.{ℕ, zero, suc, _+_, _-_, _*_, _/_, _%_, _^_, _≤_, _<_}
 use native.Mathlib.Nat.{one-mul, div-lt-iff-lt-mul, div-eq-of-lt}
 use mathlib.Core.Bool.{Bool, true, false}
@@ -154,6 +154,14 @@ module _ (v n : ℕ) (some : 1 ≤ n) (most : n ≤ 8) (fits : v < 2 ^ (7 * n)) 
 pub bytes-short : (v n : ℕ) → n ≡ varlenSize v → n < 9 → varlenBytes v ≡ leBytes n (v * 2 ^ n + (2 ^ (n - 1) - 1))
 unfolding varlenBytes itemOf
 bytes-short v n e h = simp (← e, lt-ltb n 9 h)
+
+-- a small length is one byte, twice the length
+pub one-byte : (n : ℕ) → n < 128 → varlenBytes n ≡ 2 * n ∷ []
+unfolding varlenSize sizeFrom leBytes
+one-byte n h =
+    let size : 1 ≡ varlenSize n = rw (lt-ltb n (2 ^ 7) h) in
+    let low : (n * 2 + 0) % 256 ≡ 2 * n = omega arith in
+    bytes-short n 1 size (omega arith) ∙ rw low
 
 pub bytes-nine : (v : ℕ) → varlenSize v ≡ 9 → varlenBytes v ≡ 255 ∷ leBytes 8 v
 unfolding varlenBytes itemOf

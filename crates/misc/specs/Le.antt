@@ -1,7 +1,7 @@
 -- Little-endian numbers of a fixed width.
 use Prim.Native.Nat.{ℕ, zero, suc, _+_, _*_, _/_, _%_}
 use mathlib.Core.List.{List, [], _∷_}
-use Rattle.misc.specs.Parse.{Parse, mapped, bytesAt}
+use Rattle.misc.specs.Parse.{Parse, mapped, bytesAt, uintRead}
 
 -- the number that bytes spell, the lowest first
 unfoldable pub leOf : List ℕ → ℕ
@@ -16,3 +16,7 @@ leBytes (suc n) v = v % 256 ∷ leBytes n (v / 256)
 -- the next n bytes, as a number
 unfoldable pub leAt : ℕ → List ℕ → ℕ → Parse ℕ
 leAt n s at = mapped leOf (bytesAt n s at)
+
+-- the number in the eight bytes from a place on, 0 where they aren't all there
+unfoldable pub numberAt : List ℕ → ℕ → ℕ
+numberAt s at = uintRead (leAt 8 s at) .value

@@ -9,7 +9,7 @@ ghost use mathlib.Core.Path.{_≡_};
 ghost use Prim.Native.Nat.{_+_, _≤_, _<_, _^_};
 ghost use lib.ListN.{length};
 ghost use Rattle.misc.specs.Parse.{part, uintRead};
-ghost use Rattle.misc.specs.Le.{leOf, leBytes, leAt};
+ghost use Rattle.misc.specs.Le.{leOf, leBytes, leAt, numberAt};
 ghost use Rattle.misc.specs.Output.{bytes, outputOf, answerOf, written};
 
 pub(crate) fn wide(b: u8) -> u64
@@ -111,6 +111,13 @@ pub fn read_u64_le(s: &[u8], at: usize) -> ReadUint
     ensures { λ r. ⌜ r ≡ uintRead (leAt 8 (now (s .entry)) at) ⌝ }
 {
     read_le(s, at, 8)
+}
+
+// The number in the eight bytes from `at` on, 0 where they aren't all there.
+pub fn number_at(s: &[u8], at: usize) -> u64
+    ensures { λ r. ⌜ r ≡ numberAt (now (s .entry)) at ⌝ }
+{
+    read_u64_le(s, at).value
 }
 
 // Writes the `n` low bytes of `value`.

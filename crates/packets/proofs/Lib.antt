@@ -6,3 +6,4 @@ pub mod OrderWalk
 pub mod TagLaws
 pub mod GnoLaws
 pub mod KeptLaws
+pub mod OrderLaws

@@ -5,10 +5,11 @@ use mathlib.Core.List.{List, [], _∷_}
 use Prim.Native.Nat.{ℕ, _+_, _≤_, _<_}
 use native.Mathlib.Numerals.{add-one}
 use native.Mathlib.Omega.{arith}
-use lib.Dec.{leb}
+use lib.Dec.{leb, eqb}
+use borrow.Author.Tests.{eqb-true}
 use lib.ListN.{length, drop, getD}
 use lib.Seq.{drop-cons}
-use Rattle.packets.specs.Tag.{isDigit, isTagByte, allTagBytes, isTag}
+use Rattle.packets.specs.Tag.{isDigit, isTagByte, allTagBytes, isTag, noneOrTag}
 use Rattle.packets.proofs.Tests.{split, clash, tests}
 
 pub all-tag-bytes-next : (s : List ℕ) (i : ℕ) → i < length s
@@ -37,3 +38,8 @@ pub tag-at-most-32 : (t : List ℕ) → isTag t ≡ true → length t ≤ 32
 unfolding isTag
 tag-at-most-32 [] h = clash h refl
 tag-at-most-32 (b ∷ bs) h = split (leb (length (b ∷ bs)) 32) (λ k. omega tests) (λ k. clash h (rw k))
+
+pub none-or-tag-short : (t : List ℕ) → noneOrTag t ≡ true → length t ≤ 32
+none-or-tag-short t h = split (eqb (length t) 0)
+    (λ none. let z = eqb-true (length t) 0 none in omega arith)
+    (λ some. tag-at-most-32 t (rw some at h))

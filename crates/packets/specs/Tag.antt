@@ -20,3 +20,7 @@ allTagBytes (b ∷ bs) = isTagByte b && allTagBytes bs
 unfoldable pub isTag : List ℕ → Bool
 isTag [] = false
 isTag (b ∷ bs) = leb (length (b ∷ bs)) 32 && not (isDigit b) && allTagBytes (b ∷ bs)
+
+-- no tag, or one that obeys the tag rule
+abbrev pub noneOrTag : List ℕ → Bool
+noneOrTag tag = eqb (length tag) 0 || isTag tag

@@ -2,9 +2,9 @@
 // of keys, a key being the 16 bytes of a uuid followed by those of a tag, if there is one.
 ghost use mathlib.Core.Path.{_≡_};
 ghost use Prim.Native.Nat.{_+_, _≤_, min};
-ghost use Rattle.packets.specs.Tag.{isTagByte, allTagBytes, isTag};
+ghost use Rattle.packets.specs.Tag.{isTagByte, allTagBytes, isTag, noneOrTag};
 ghost use Rattle.packets.specs.Gno.{isGno, interval, isInterval};
-ghost use Rattle.packets.specs.Key.{order, orderRead};
+ghost use Rattle.packets.specs.Key.{order, orElse, orderRead};
 ghost use Rattle.packets.specs.Word.{bigEndian};
 ghost use Rattle.misc.specs.Parse.{part};
 ghost use lib.ListN.{length, take, drop};
@@ -50,6 +50,13 @@ pub fn is_tag(tag: &[u8]) -> bool
         return false;
     }
     all_tag_bytes(tag)
+}
+
+// No tag, or one that obeys the tag rule.
+pub fn none_or_tag(tag: &[u8]) -> bool
+    ensures { λ r. ⌜ r ≡ noneOrTag (now (tag .entry)) ⌝ }
+{
+    (tag.len() == 0) | is_tag(tag)
 }
 
 // Whether a number may be a gno.
@@ -141,6 +148,19 @@ pub fn key_order(a: &[u8], b: &[u8]) -> KeyOrder
         i += 8;
     }
     order_from(a, b, i)
+}
+
+// The order of two keys, each a uuid and a tag: by uuid, then by tag.
+pub fn parts_order(uuid: &[u8], tag: &[u8], other_uuid: &[u8], other_tag: &[u8]) -> KeyOrder
+    ensures { λ r. ⌜ r ≡ orderRead (orElse (order (now (uuid .entry)) (now («other_uuid» .entry)))
+        (order (now (tag .entry)) (now («other_tag» .entry)))) ⌝ }
+{
+    let first = key_order(uuid, other_uuid);
+    match first {
+        KeyOrder::Before => KeyOrder::Before,
+        KeyOrder::Same => key_order(tag, other_tag),
+        KeyOrder::After => KeyOrder::After,
+    }
 }
 
 // The first bytes of a slice, `most` of them or as many as there are.

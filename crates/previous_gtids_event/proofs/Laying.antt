@@ -18,7 +18,8 @@ use Rattle.misc.proofs.Places.{From, from-room, from-next, from-part}
 use Rattle.misc.proofs.FormsRead.{form-reads, number-reads}
 use Rattle.packets.specs.Gno.{Interval, interval}
 use Rattle.previous_gtids_event.specs.Entry.{Entry, entry}
-use Rattle.previous_gtids_event.specs.Previous.{noneOrTag, GoodKey, tagAt, keyAt, headAt, intervalAt, entryAt, saysTagged, saysCount}
+use Rattle.packets.specs.Tag.{noneOrTag}
+use Rattle.previous_gtids_event.specs.Previous.{GoodKey, tagAt, keyAt, headAt, intervalAt, entryAt, saysTagged, saysCount}
 use Rattle.previous_gtids_event.specs.Layout.{HeaderLaid, TagLaid, IntervalsLaid, EntryLaid, EntriesLaid}
 use Rattle.previous_gtids_event.proofs.Reading.{uuid-of, tag-of}
 

@@ -5,10 +5,10 @@ use mathlib.Core.Bool.{Bool, true, false}
 use mathlib.Core.List.{List, [], _∷_, _++_, append-nil}
 use Prim.Native.Nat.{ℕ, zero, suc, _+_, _-_, _*_, _≤_, _<_}
 use native.Mathlib.Omega.{arith}
-use lib.Dec.{leb, eqb}
+use lib.Dec.{leb}
 use lib.ListN.{length, take, drop, take-append-drop}
 use lib.Seq.{take-at, drop-at, take-all}
-use borrow.Author.Tests.{leb-true, eqb-true}
+use borrow.Author.Tests.{leb-true}
 use Rattle.misc.specs.Refusal.{Refusal, ended, badTag, tooLong, number}
 use Rattle.misc.specs.Parse.{Parse, refuse, parsed, andThen, many, part, bytesAt, refusalOf, uintRead}
 use Rattle.misc.specs.declared.ReadUint.{ReadUint}
@@ -22,10 +22,10 @@ use Rattle.misc.proofs.Forward.{le-forward, varlen-forward}
 use Rattle.packets.specs.Gno.{Interval, interval}
 use Rattle.packets.specs.Kept.{padded, kept}
 use Rattle.packets.specs.Key.{Key}
-use Rattle.packets.proofs.Tests.{split as either}
-use Rattle.packets.proofs.TagLaws.{tag-at-most-32}
+use Rattle.packets.proofs.TagLaws.{none-or-tag-short}
 use Rattle.previous_gtids_event.specs.Entry.{Entry, entry, uuidOf, tagOf}
-use Rattle.previous_gtids_event.specs.Previous.{noneOrTag, tagAt, keyAt, Head, head, headAt, intervalAt, intervalsAfter, entryAt, saysTagged, saysCount, entriesAfter, previous}
+use Rattle.packets.specs.Tag.{noneOrTag}
+use Rattle.previous_gtids_event.specs.Previous.{tagAt, keyAt, Head, head, headAt, intervalAt, intervalsAfter, entryAt, saysTagged, saysCount, entriesAfter, previous}
 use Rattle.previous_gtids_event.specs.Answers.{previousRead, headerRead, entryRead, intervalRead}
 use Rattle.previous_gtids_event.specs.Inside.{tagRead, headRead, entryPlace}
 use Rattle.previous_gtids_event.specs.declared.HeaderRead.{HeaderRead}
@@ -115,12 +115,6 @@ module _ (s : List ℕ) where
       (λ h. never (sym (intervals-gone n at i h) ∙ e))
 
 -- ---- tags
-pub none-or-tag-short : (t : List ℕ) → noneOrTag t ≡ true → length t ≤ 32
-none-or-tag-short t h =
-    either (eqb (length t) 0)
-    (λ none. let z = eqb-true (length t) 0 none in omega arith)
-    (λ some. tag-at-most-32 t (rw some at h))
-
 module _ (s : List ℕ) (at : ℕ) where
   pub untagged : tagAt false s at ≡ parsed [] at
   unfolding tagAt

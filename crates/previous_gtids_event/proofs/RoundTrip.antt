@@ -26,12 +26,14 @@ use Rattle.packets.specs.Gno.{Interval, interval}
 use Rattle.packets.specs.Key.{Key}
 use Rattle.packets.proofs.Tests.{clash}
 use Rattle.previous_gtids_event.specs.Entry.{Entry, entry, uuidOf, tagOf}
-use Rattle.previous_gtids_event.specs.Previous.{noneOrTag, saysTagged, saysCount, entriesIn, previous}
+use Rattle.packets.specs.Tag.{noneOrTag}
+use Rattle.previous_gtids_event.specs.Previous.{saysTagged, saysCount, entriesIn, previous}
 use Rattle.previous_gtids_event.specs.Answers.{headerRead}
 use Rattle.previous_gtids_event.specs.declared.HeaderRead.{HeaderRead}
 use Rattle.previous_gtids_event.specs.Layout.{HeaderLaid, TagLaid, IntervalsLaid, EntryLaid, EntriesLaid, BodyLaid}
 use Rattle.previous_gtids_event.specs.Rewrite.{tagBytes, intervalsBytes, entryBytes, entriesBytes, anyTag, headerBytes, bodyBytes, rewritten}
-use Rattle.previous_gtids_event.proofs.Reading.{none-or-tag-short, uuid-of, tag-of, key-whole, previous-parts, previous-inside}
+use Rattle.packets.proofs.TagLaws.{none-or-tag-short}
+use Rattle.previous_gtids_event.proofs.Reading.{uuid-of, tag-of, key-whole, previous-parts, previous-inside}
 use Rattle.previous_gtids_event.proofs.Writing.{headerNumber, header-number, length-header, entry-length}
 use Rattle.previous_gtids_event.proofs.Laying.{header-meant, header-reads, entries-read, GoodIntervals, WellFormed, laid-well-formed}
 use Rattle.previous_gtids_event.proofs.Accepting.{header-spelt, header-found, entries-found}

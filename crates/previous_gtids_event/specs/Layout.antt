@@ -7,7 +7,7 @@ use lib.ListN.{length}
 use Rattle.misc.specs.Forms.{Number, Form}
 use Rattle.packets.specs.Gno.{Interval, interval}
 use Rattle.previous_gtids_event.specs.Entry.{Entry, entry}
-use Rattle.previous_gtids_event.specs.Previous.{noneOrTag}
+use Rattle.packets.specs.Tag.{noneOrTag}
 
 -- the header's eight bytes: whether the entries have tags, and how many there are
 pub data HeaderLaid : Bool → ℕ → List ℕ → Type 0 where

@@ -1,7 +1,7 @@
 -- How the body of a Previous-GTIDs event (type 35) is read, from left to right.
 use Prim.Native.Nat.{ℕ, _/_, _%_, _^_}
 use mathlib.Core.Path.{_≡_}
-use mathlib.Core.Bool.{Bool, true, false, not, _||_}
+use mathlib.Core.Bool.{Bool, true, false, not}
 use mathlib.Core.List.{List, [], _++_}
 use lib.ListN.{length}
 use lib.Dec.{eqb}
@@ -13,12 +13,8 @@ use Rattle.misc.specs.Le.{leAt}
 use Rattle.misc.specs.Varlen.{varlenAt}
 use Rattle.packets.specs.Gno.{Interval, interval}
 use Rattle.packets.specs.Key.{Key}
-use Rattle.packets.specs.Tag.{isTag}
+use Rattle.packets.specs.Tag.{noneOrTag}
 use Rattle.previous_gtids_event.specs.Entry.{Entry, entry, uuidOf, tagOf}
-
--- no tag, or one that obeys the tag rule
-abbrev pub noneOrTag : List ℕ → Bool
-noneOrTag tag = eqb (length tag) 0 || isTag tag
 
 -- a key as it is read: 16 uuid bytes, and no tag or one that obeys the tag rule
 pub record GoodKey (k : Key) : Type 0 where

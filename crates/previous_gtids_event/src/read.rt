@@ -15,7 +15,7 @@ use misc::refusal::BAD_TAG;
 use misc::refusal::ENDED;
 use misc::refusal::TOO_LONG;
 use misc::varlen::read_varlen_uint;
-use packets::is_tag;
+use packets::none_or_tag;
 use packets::tag_bytes;
 use packets::uuid_bytes;
 ghost use denote.Ref.{ptr};
@@ -25,16 +25,9 @@ ghost use Prim.Native.Nat.{_+_, _*_};
 ghost use Rattle.misc.specs.Parse.{many};
 ghost use Rattle.misc.specs.Body.{ofBody, usedOf, unreadOf, onward};
 ghost use Rattle.misc.specs.Le.{leAt};
-ghost use Rattle.previous_gtids_event.specs.Previous.{noneOrTag, tagAt, headAt, intervalAt, entryAt, previous};
+ghost use Rattle.previous_gtids_event.specs.Previous.{tagAt, headAt, intervalAt, entryAt, previous};
 ghost use Rattle.previous_gtids_event.specs.Answers.{previousRead, refusedPrevious, headerRead, refusedHeader, entryRead, refusedEntry, intervalRead, refusedInterval};
 ghost use Rattle.previous_gtids_event.specs.Inside.{tagRead, refusedTag, headRead, refusedHead, entryPlace, refusedPlace};
-
-// No tag, or one that obeys the tag rule.
-pub fn none_or_tag(tag: &[u8]) -> bool
-    ensures { λ r. ⌜ r ≡ noneOrTag (now (tag .entry)) ⌝ }
-{
-    (tag.len() == 0) | is_tag(tag)
-}
 
 fn refused_tag(refusal: u8) -> TagRead
     ensures { λ r. ⌜ r ≡ refusedTag refusal ⌝ }

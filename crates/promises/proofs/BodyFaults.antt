@@ -17,7 +17,8 @@ use Rattle.misc.proofs.Places.{part-from}
 use Rattle.misc.proofs.Accepted.{form-read}
 use Rattle.packets.specs.Key.{Key}
 use Rattle.previous_gtids_event.specs.Entry.{Entry}
-use Rattle.previous_gtids_event.specs.Previous.{noneOrTag, tagAt, keyAt, Head, head, headAt, intervalAt, intervalsAfter, entryAt, saysTagged, saysCount, entriesAfter, entriesIn, previous}
+use Rattle.packets.specs.Tag.{noneOrTag}
+use Rattle.previous_gtids_event.specs.Previous.{tagAt, keyAt, Head, head, headAt, intervalAt, intervalsAfter, entryAt, saysTagged, saysCount, entriesAfter, entriesIn, previous}
 use Rattle.previous_gtids_event.proofs.Reading.{intervals-here, intervals-gone}
 use Rattle.previous_gtids_event.proofs.Accepting.{header-found, KeyFound, key-found, HeadFound, head-found, head-whole, entries-found}
 use Rattle.promises.specs.BodyFaults.{EntryFault, BodyFault}

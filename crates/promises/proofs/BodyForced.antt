@@ -16,7 +16,8 @@ use Rattle.misc.proofs.LeLaws.{le-gone}
 use Rattle.misc.proofs.Bounds.{front-bytes}
 use Rattle.misc.proofs.Places.{From, from-start, from-size, from-room, from-next, from-part}
 use Rattle.misc.proofs.FormsRead.{form-reads, number-reads}
-use Rattle.previous_gtids_event.specs.Previous.{noneOrTag, tagAt, keyAt, headAt, entryAt, previous}
+use Rattle.packets.specs.Tag.{noneOrTag}
+use Rattle.previous_gtids_event.specs.Previous.{tagAt, keyAt, headAt, entryAt, previous}
 use Rattle.previous_gtids_event.proofs.Reading.{intervals-gone}
 use Rattle.previous_gtids_event.proofs.Laying.{header-reads, tag-reads, uuid-there, entries-read}
 use Rattle.promises.specs.Faults.{CutForm}

@@ -2,7 +2,7 @@
 use mathlib.Core.Path.{refl}
 use Rattle.misc.specs.Parse.{many, bytesAt, byteAt}
 use Rattle.misc.specs.Body.{bodyLimit}
-use Rattle.misc.specs.Le.{leOf, leBytes, leAt}
+use Rattle.misc.specs.Le.{leOf, leBytes, leAt, numberAt}
 use Rattle.misc.specs.Lenenc.{lenencBytes}
 use Rattle.misc.specs.Varlen.{trailingOnes, itemValue, varlenAt, sizeFrom, varlenSize, itemOf, varlenBytes}
 use Rattle.misc.specs.Signed.{sentAs, meantBy, signedAt, naturalAt}
@@ -17,7 +17,6 @@ use Rattle.gtid_event_read.specs.Read.{seen}
 use Rattle.gtid_event_write.specs.Size.{sizeWith, payloadSize, sizeIn64}
 use Rattle.gtid_event_write.specs.Layout.{itemsBytes, identityBytes, clockBytes, restBytes, fieldBytes, taggedBytes, openingBytes, laterBytes, untaggedBytes}
 use Rattle.gtid_event_write.specs.Write.{eventBytes}
-use Rattle.set_check.specs.Places.{numberAt}
 use Rattle.text.specs.Digits.{decimalIn, decimal}
 use Rattle.text.specs.Lines.{refusedText}
 use Rattle.report.specs.Report.{highWord, lowWord}

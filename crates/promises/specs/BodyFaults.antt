@@ -7,7 +7,7 @@ use lib.ListN.{length}
 use Rattle.misc.specs.Body.{bodyLimit}
 use Rattle.misc.specs.Forms.{Number, Form}
 use Rattle.previous_gtids_event.specs.Entry.{Entry}
-use Rattle.previous_gtids_event.specs.Previous.{noneOrTag}
+use Rattle.packets.specs.Tag.{noneOrTag}
 use Rattle.previous_gtids_event.specs.Layout.{HeaderLaid, TagLaid, EntriesLaid}
 use Rattle.promises.specs.Faults.{CutForm}
 

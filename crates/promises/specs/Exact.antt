@@ -16,7 +16,8 @@ use Rattle.misc.specs.Signed.{sentAs, signedAt, naturalAt, intRead}
 use Rattle.misc.specs.Lenenc.{lenencAt, lenencBytes}
 use Rattle.misc.specs.Output.{bytes, answerOf}
 use Rattle.previous_gtids_event.specs.Entry.{Entry}
-use Rattle.previous_gtids_event.specs.Previous.{noneOrTag, intervalAt, entryAt, previous}
+use Rattle.packets.specs.Tag.{noneOrTag}
+use Rattle.previous_gtids_event.specs.Previous.{intervalAt, entryAt, previous}
 use Rattle.previous_gtids_event.specs.Rewrite.{rewritten}
 use Rattle.previous_gtids_event.specs.Answers.{previousRead, headerRead, entryRead, intervalRead}
 use Rattle.previous_gtids_reader.specs.declared.Cursor.{Cursor}

@@ -8,7 +8,7 @@ use Rattle.misc.specs.Pick.{pick}
 use Rattle.misc.specs.Parse.{Bytes}
 use Rattle.packets.specs.Key.{Key}
 use Rattle.previous_gtids_event.specs.Entry.{Entry}
-use Rattle.previous_gtids_event.specs.Previous.{noneOrTag}
+use Rattle.packets.specs.Tag.{noneOrTag}
 use Rattle.previous_gtids_event.specs.Rewrite.{bodyBytes}
 use Rattle.gtid_sets.specs.Set.{has}
 use Rattle.gtid_sets.specs.TakeIn.{lawful, takeIn}

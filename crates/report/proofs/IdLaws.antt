@@ -2,7 +2,7 @@
 use Prim.Native.Nat.{ℕ, zero, suc, _+_, _-_, _*_, _^_, _<_, _≤_}
 use mathlib.Core.Path.{_≡_, ap, _∙_}
 use mathlib.Core.Bool.{Bool, true}
-use mathlib.Core.List.{List, [], _∷_}
+use mathlib.Core.List.{List, _∷_}
 use native.Mathlib.Omega.{arith}
 use lib.ListN.{length}
 use Rattle.packets.specs.Gno.{interval}
@@ -12,7 +12,8 @@ use Rattle.gtid_sets.specs.Set.{SetForm}
 use Rattle.gtid_sets.specs.Total.{size, total}
 use Rattle.gtid_sets.proofs.FormLaws.{gapped-holds, gapped-tests}
 use Rattle.gtid_sets.proofs.TotalLaws.{size-most, total-most}
-use Rattle.set_check.specs.Places.{numberAt, intervalsAt, placeAt, placeIn, entriesAt, EntriesIn}
+use Rattle.misc.specs.Le.{numberAt}
+use Rattle.set_check.specs.Places.{intervalsAt, placeAt, placeIn, entriesAt, EntriesIn}
 use Rattle.set_check.specs.declared.EntryPlace.{EntryPlace}
 use Rattle.set_check.proofs.GappedWalk.{intervals-more}
 use Rattle.set_check.proofs.EntryPlaces.{lies, place-here}

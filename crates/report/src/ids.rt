@@ -1,6 +1,6 @@
 // How many ids a set has, in two words.
 use crate::Wide;
-use set_check::places::number_at;
+use misc::le::number_at;
 use set_check::places::place_at;
 ghost use mathlib.Core.Path.{_≡_};
 ghost use mathlib.Core.Bool.{true};

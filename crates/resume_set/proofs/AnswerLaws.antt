@@ -9,7 +9,7 @@ use borrow.Author.Tests.{eq-eqb, ne-eqb}
 use lib.Dec.{leb}
 use lib.ListN.{length, take, length-append, length-replicate}
 use Rattle.misc.specs.Refusal.{Refusal, refusal, number}
-use Rattle.misc.specs.Parse.{refuse, parsed}
+use Rattle.misc.specs.Parse.{refuse, parsed, Bytes}
 use Rattle.misc.specs.Output.{bytes, outputOf, answerOf, Placed, WhereFits}
 use Rattle.misc.specs.declared.Wrote.{Wrote}
 use Rattle.misc.proofs.ParseLaws.{no-zero}
@@ -20,7 +20,7 @@ use Rattle.packets.specs.Key.{Key}
 use Rattle.packets.proofs.Tests.{split}
 use Rattle.packets.proofs.TagLaws.{tag-at-most-32}
 use Rattle.previous_gtids_event.specs.Entry.{Entry}
-use Rattle.previous_gtids_event.specs.Previous.{noneOrTag}
+use Rattle.packets.specs.Tag.{noneOrTag}
 use Rattle.previous_gtids_event.specs.Rewrite.{bodyBytes}
 use Rattle.gtid_event.specs.declared.GtidEvent.{GtidEvent}
 use Rattle.gtid_event_read.specs.Read.{recordIn, gtid, named, gtidRead}
@@ -36,7 +36,6 @@ use Rattle.gtid_sets.proofs.LimitLaws.{limits-judged, limits-fair}
 use Rattle.gtid_sets.proofs.LentLaws.{lent-is}
 use Rattle.set_check.specs.Check.{checkedOf}
 use Rattle.set_check.specs.declared.Checked.{Checked}
-use Rattle.set_check.proofs.PlaceLaws.{Bytes}
 use Rattle.resume_set.specs.Answers.{setRead, contained, eventOf, fitting, offeredOf, outputFor, offered, output, saved, caseOf, acceptedAs}
 use Rattle.resume_set.specs.Find.{setOf, Counted, Fits}
 use Rattle.resume_set.specs.Join.{PlanIs}

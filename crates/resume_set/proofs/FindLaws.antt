@@ -28,7 +28,7 @@ use Rattle.previous_gtids_event.proofs.Reading.{key-whole}
 use Rattle.gtid_sets.proofs.ByteLaws.{entriesBytes-append}
 use Rattle.set_check.specs.Places.{intervalsAt, placeAt, placeIn}
 use Rattle.set_check.specs.declared.EntryPlace.{EntryPlace}
-use Rattle.set_check.proofs.OrderLaws.{says-before, says-same, says-after}
+use Rattle.packets.proofs.OrderLaws.{says-before, says-same, says-after}
 use Rattle.set_check.proofs.EntryPlaces.{EntryHere, place-here, untagged-parts, first-ok, first-here, first-intervals, first-next}
 use Rattle.resume_set.specs.Find.{setOf, IsSet, FoundIs}
 use Rattle.resume_set.specs.declared.Found.{Found}

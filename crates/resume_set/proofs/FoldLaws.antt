@@ -9,7 +9,7 @@ use lib.ListN.{length, take, drop, length-take}
 use lib.Seq.{take-at}
 use Rattle.misc.specs.Parse.{refusalOf, many}
 use Rattle.misc.specs.Body.{ofBody}
-use Rattle.misc.specs.Le.{leAt}
+use Rattle.misc.specs.Le.{leAt, numberAt}
 use Rattle.misc.specs.Output.{bytes, outputOf, WhereFits}
 use Rattle.misc.proofs.ParseLaws.{was-parsed}
 use Rattle.misc.proofs.Walk.{many-none}
@@ -19,7 +19,8 @@ use Rattle.packets.specs.Key.{Key}
 use Rattle.packets.proofs.GnoLaws.{interval-says}
 use Rattle.packets.proofs.Tests.{and-true}
 use Rattle.previous_gtids_event.specs.Entry.{Entry}
-use Rattle.previous_gtids_event.specs.Previous.{noneOrTag, GoodKey, entryAt, previous}
+use Rattle.packets.specs.Tag.{noneOrTag}
+use Rattle.previous_gtids_event.specs.Previous.{GoodKey, entryAt, previous}
 use Rattle.previous_gtids_event.specs.Answers.{entryRead, headerRead}
 use Rattle.previous_gtids_event.specs.Rewrite.{anyTag, bodyBytes}
 use Rattle.previous_gtids_event.specs.declared.EntryRead.{EntryRead}
@@ -33,7 +34,7 @@ use Rattle.gtid_sets.proofs.FormLaws.{proper-holds}
 use Rattle.gtid_sets.proofs.KeyLaws.{good-key}
 use Rattle.gtid_sets.proofs.SetLaws.{form-join}
 use Rattle.gtid_sets.proofs.LentLaws.{empty-bytes, good-join}
-use Rattle.set_check.specs.Places.{numberAt, intervalsAt}
+use Rattle.set_check.specs.Places.{intervalsAt}
 use Rattle.set_check.proofs.GappedWalk.{intervals-more}
 use Rattle.resume_set.specs.Find.{entriesOf, Counted}
 use Rattle.resume_set.specs.Join.{PlanIs, planRuns}

@@ -8,8 +8,8 @@ use borrow.Author.Tests.{le-ltb, ltb-false}
 use lib.Dec.{ltb}
 use lib.ListN.{length, take, drop, length-append, length-drop}
 use lib.Seq.{take-at, drop-at, drop-length}
-use Rattle.misc.specs.Parse.{part}
-use Rattle.misc.specs.Le.{leBytes}
+use Rattle.misc.specs.Parse.{part, Bytes}
+use Rattle.misc.specs.Le.{leBytes, numberAt}
 use Rattle.misc.specs.Varlen.{varlenBytes}
 use Rattle.misc.proofs.LeLaws.{length-leBytes}
 use Rattle.packets.specs.Gno.{Interval, interval}
@@ -29,9 +29,12 @@ use Rattle.gtid_sets.proofs.SetLaws.{join-before, join-into, join-after}
 use Rattle.gtid_sets.proofs.SpliceLaws.{insert-splice}
 use Rattle.previous_gtids_event.proofs.Writing.{length-header, length-intervals-bytes}
 use Rattle.gtid_sets.proofs.ByteLaws.{body-least, intervalsBytes-append, entriesBytes-append}
-use Rattle.set_check.specs.Places.{numberAt, intervalsAt}
+use Rattle.set_check.specs.Places.{intervalsAt}
 use Rattle.set_check.specs.Head.{headBytes}
-use Rattle.set_check.proofs.PlaceLaws.{Bytes, part-there, after-there, number-there, intervals-count, intervals-stand, one-byte}
+use Rattle.misc.proofs.Places.{part-there, after-there}
+use Rattle.misc.proofs.NumberLaws.{number-there}
+use Rattle.misc.proofs.VarlenLaws.{one-byte}
+use Rattle.set_check.proofs.PlaceLaws.{intervals-count, intervals-stand}
 use Rattle.set_check.proofs.RestLaws.{entries-head}
 use Rattle.resume_set.specs.Find.{setOf, IsSet, added, old, FoundIs}
 use Rattle.resume_set.specs.Put.{widerRun, widened, Untagged, entriesRun, EntriesThere}

@@ -7,7 +7,7 @@ use native.Mathlib.Omega.{arith}
 use lib.ListN.{length}
 use Rattle.misc.specs.Parse.{Parse, many, refusalOf}
 use Rattle.misc.specs.Body.{ofBody}
-use Rattle.misc.specs.Le.{leAt}
+use Rattle.misc.specs.Le.{leAt, numberAt}
 use Rattle.misc.proofs.Walk.{many-none}
 use Rattle.packets.specs.Gno.{interval, isInterval}
 use Rattle.previous_gtids_event.specs.Entry.{Entry}
@@ -16,7 +16,7 @@ use Rattle.previous_gtids_event.specs.Answers.{headerRead, entryRead}
 use Rattle.previous_gtids_event.specs.declared.HeaderRead.{HeaderRead}
 use Rattle.previous_gtids_event.specs.declared.EntryRead.{EntryRead}
 use Rattle.gtid_sets.specs.TakeIn.{proper, lawful}
-use Rattle.set_check.specs.Places.{numberAt, intervalsAt}
+use Rattle.set_check.specs.Places.{intervalsAt}
 use Rattle.set_check.proofs.GappedWalk.{intervals-more}
 use Rattle.resume_set.specs.Find.{entriesOf}
 use Rattle.resume_set.proofs.EntryLaws.{NextEntry, body-starts, entry-next}

@@ -7,7 +7,7 @@ use lib.ListN.{length}
 use Rattle.misc.specs.Parse.{part}
 use Rattle.misc.specs.Output.{WhereFits}
 use Rattle.misc.proofs.OutputLaws.{_also_, nothing-placed}
-use Rattle.set_check.specs.Places.{numberAt}
+use Rattle.misc.specs.Le.{numberAt}
 use Rattle.resume_set.specs.Put.{widerRun, widened, Untagged, entriesRun, EntriesThere}
 
 -- a part of some bytes, its length told in another way

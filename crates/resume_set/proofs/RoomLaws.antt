@@ -13,7 +13,7 @@ use Rattle.packets.proofs.Keys.{key-cases, same-self, before-not-same, after-no
 use Rattle.previous_gtids_event.specs.Entry.{Entry, entry, tagOf}
 use Rattle.previous_gtids_event.specs.Previous.{GoodKey}
 use Rattle.previous_gtids_event.specs.Rewrite.{entryBytes, entriesBytes, anyTag, bodyBytes}
-use Rattle.previous_gtids_event.proofs.Reading.{none-or-tag-short}
+use Rattle.packets.proofs.TagLaws.{none-or-tag-short}
 use Rattle.previous_gtids_event.proofs.RoundTrip.{plain-least}
 use Rattle.previous_gtids_event.proofs.Writing.{length-header, entry-length}
 use Rattle.gtid_sets.specs.Interval.{insert}

@@ -13,7 +13,8 @@ use Rattle.packets.proofs.Tests.{split, tests}
 use Rattle.gtid_sets.specs.Interval.{within, covers, Gapped}
 use Rattle.gtid_sets.specs.Splice.{earlier, takenUp, reach, from}
 use Rattle.gtid_sets.proofs.IntervalLaws.{outside, gapped-misses}
-use Rattle.set_check.specs.Places.{numberAt, intervalsAt}
+use Rattle.misc.specs.Le.{numberAt}
+use Rattle.set_check.specs.Places.{intervalsAt}
 use Rattle.set_check.proofs.GappedWalk.{intervals-more}
 
 -- ---- whether a number is held

@@ -11,7 +11,8 @@ use Rattle.misc.specs.Output.{Output, refused, bytes, outputOf, answerOf}
 use Rattle.misc.specs.declared.Wrote.{Wrote}
 use Rattle.packets.specs.Gno.{isGno}
 use Rattle.previous_gtids_event.specs.Entry.{Entry}
-use Rattle.previous_gtids_event.specs.Previous.{noneOrTag, previous}
+use Rattle.packets.specs.Tag.{noneOrTag}
+use Rattle.previous_gtids_event.specs.Previous.{previous}
 use Rattle.previous_gtids_event.specs.Rewrite.{bodyBytes}
 use Rattle.gtid_event.specs.declared.GtidEvent.{GtidEvent}
 use Rattle.gtid_event_read.specs.Read.{recordIn, named}

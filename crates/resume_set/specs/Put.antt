@@ -4,10 +4,9 @@ use mathlib.Core.Bool.{Bool, true, false}
 use mathlib.Core.List.{List, [], _++_}
 use lib.ListN.{length}
 use Rattle.misc.specs.Parse.{part}
-use Rattle.misc.specs.Le.{leBytes}
+use Rattle.misc.specs.Le.{leBytes, numberAt}
 use Rattle.misc.specs.Varlen.{varlenBytes}
 use Rattle.previous_gtids_event.specs.Rewrite.{tagBytes}
-use Rattle.set_check.specs.Places.{numberAt}
 
 -- uuid, tag and the number of intervals
 abbrev pub headRun : List ℕ → Bool → List ℕ → ℕ → List ℕ

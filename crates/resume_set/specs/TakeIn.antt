@@ -7,7 +7,7 @@ use lib.ListN.{length, take}
 use Rattle.misc.specs.Pick.{pick}
 use Rattle.packets.specs.Key.{Key, same}
 use Rattle.previous_gtids_event.specs.Entry.{Entry, entry, tagOf}
-use Rattle.previous_gtids_event.specs.Previous.{noneOrTag}
+use Rattle.packets.specs.Tag.{noneOrTag}
 use Rattle.previous_gtids_event.specs.Rewrite.{entriesBytes}
 use Rattle.previous_gtids_event.specs.declared.EntryRead.{EntryRead}
 use Rattle.gtid_sets.specs.TakeIn.{proper}

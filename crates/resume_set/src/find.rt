@@ -1,7 +1,7 @@
 // Where a key stands in a set. The set has been checked.
 use crate::Found;
 use packets::KeyOrder;
-use set_check::places::parts_order;
+use packets::parts_order;
 use set_check::places::place_at;
 ghost use mathlib.Core.Path.{_≡_};
 ghost use mathlib.Core.List.{_++_};

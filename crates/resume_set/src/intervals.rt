@@ -1,7 +1,7 @@
 // Walks over the intervals of an entry: whether they hold a number, and where a new interval goes.
 use crate::Reach;
 use crate::Splice;
-use set_check::places::number_at;
+use misc::le::number_at;
 ghost use mathlib.Core.Path.{_≡_};
 ghost use Prim.Native.Nat.{_+_, _*_, _≤_, _<_, max};
 ghost use lib.ListN.{length};

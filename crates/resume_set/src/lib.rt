@@ -9,7 +9,7 @@ use misc::Wrote;
 use misc::bytes::write_bytes;
 use misc::refusal::BAD_GNO;
 use packets::is_gno;
-use previous_gtids_event::read::none_or_tag;
+use packets::none_or_tag;
 use set_check::Checked;
 use set_check::check::check;
 ghost use mathlib.Core.Path.{_≡_};

@@ -1,10 +1,10 @@
 // Writing runs of a set's bytes. Each function writes from a place of the output on where there is room, and returns the place behind
 // what it wrote.
+use misc::le::number_at;
 use misc::put::put_bytes;
 use misc::put::put_u64_le;
 use misc::put::put_varlen_uint;
 use previous_gtids_event::rewrite::put_tag;
-use set_check::places::number_at;
 ghost use Prim.Native.Nat.{_+_, _-_, _*_, _≤_};
 ghost use lib.ListN.{length};
 ghost use Rattle.misc.specs.Output.{WhereFits};

@@ -7,6 +7,7 @@ use native.Mathlib.Omega.{arith}
 use lib.Dec.{ltb}
 use lib.ListN.{length, drop, length-drop}
 use lib.Seq.{drop-length, drop-at}
+use Rattle.misc.specs.Parse.{Bytes}
 use Rattle.packets.specs.Key.{Key}
 use Rattle.packets.proofs.Tests.{clash}
 use Rattle.previous_gtids_event.specs.Entry.{Entry, entry, uuidOf}
@@ -22,7 +23,6 @@ use Rattle.set_check.specs.declared.Head.{Head}
 use Rattle.set_check.specs.declared.Header.{Header}
 use Rattle.set_check.specs.declared.Entries.{Entries}
 use Rattle.set_check.specs.declared.Checked.{Checked}
-use Rattle.set_check.proofs.PlaceLaws.{Bytes}
 use Rattle.set_check.proofs.HeaderLaws.{header-there, headers-same}
 use Rattle.set_check.proofs.RestLaws.{rest-before, same-total, rest-not, rest-after}
 

@@ -8,23 +8,27 @@ use lib.Dec.{ltb}
 use borrow.Author.Tests.{ltb-false, le-leb, lt-leb}
 use lib.ListN.{length, drop, getD, length-append, length-drop}
 use Rattle.misc.specs.Parse.{part}
-use Rattle.misc.specs.Le.{leBytes}
+use Rattle.misc.specs.Le.{leBytes, numberAt}
 use Rattle.misc.proofs.LeLaws.{length-leBytes}
 use Rattle.packets.specs.Gno.{Interval}
 use Rattle.packets.specs.Key.{Key}
 use Rattle.previous_gtids_event.specs.Entry.{Entry, entry, uuidOf, tagOf}
 use Rattle.previous_gtids_event.specs.Rewrite.{intervalsBytes, tagBytes, entriesBytes, anyTag}
-use Rattle.previous_gtids_event.proofs.Reading.{none-or-tag-short, key-whole}
+use Rattle.packets.proofs.TagLaws.{none-or-tag-short}
+use Rattle.previous_gtids_event.proofs.Reading.{key-whole}
 use Rattle.previous_gtids_event.proofs.Writing.{length-intervals-bytes}
 use Rattle.gtid_sets.specs.Set.{SetForm}
 use Rattle.gtid_sets.specs.Lent.{GoodKeys}
 use Rattle.gtid_sets.proofs.Bools.{or-false-parts}
 use Rattle.gtid_sets.proofs.ByteLaws.{entries-least}
 use Rattle.gtid_sets.proofs.LentLaws.{gapped-wide}
-use Rattle.set_check.specs.Places.{numberAt, intervalsAt, placeFrom, placeAt, nowhere, orNowhere, placeIn, keyThere, entriesAt, EntriesIn}
+use Rattle.set_check.specs.Places.{intervalsAt, placeFrom, placeAt, nowhere, orNowhere, placeIn, keyThere, entriesAt, EntriesIn}
 use Rattle.set_check.specs.Head.{headBytes, KeyOk}
 use Rattle.set_check.specs.declared.EntryPlace.{EntryPlace}
-use Rattle.set_check.proofs.PlaceLaws.{part-there, after-there, left-there, byte-there, number-there, intervals-there, one-byte}
+use Rattle.misc.proofs.Places.{part-there, after-there, left-there, byte-there}
+use Rattle.misc.proofs.NumberLaws.{number-there}
+use Rattle.misc.proofs.VarlenLaws.{one-byte}
+use Rattle.set_check.proofs.PlaceLaws.{intervals-there}
 use Rattle.set_check.proofs.RestLaws.{entries-head}
 
 -- ---- the entry at a place

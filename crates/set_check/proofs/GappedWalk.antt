@@ -7,7 +7,8 @@ use native.Mathlib.Omega.{arith}
 use lib.Dec.{ltb}
 use Rattle.packets.specs.Gno.{interval, isInterval}
 use Rattle.gtid_sets.specs.Interval.{gapped}
-use Rattle.set_check.specs.Places.{numberAt, intervalsAt}
+use Rattle.misc.specs.Le.{numberAt}
+use Rattle.set_check.specs.Places.{intervalsAt}
 
 -- the first of some intervals, and the others
 pub intervals-more : (bs : List ℕ) (at n : ℕ) → 0 < n

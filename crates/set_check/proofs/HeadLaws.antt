@@ -7,22 +7,23 @@ use native.Mathlib.Numerals.{add-one}
 use native.Mathlib.Omega.{arith}
 use lib.ListN.{length, take, drop, getD, length-drop}
 use lib.Seq.{drop-cons, take-at, drop-at}
-use Rattle.misc.specs.Parse.{part}
-use Rattle.misc.specs.Le.{leBytes}
+use Rattle.misc.specs.Parse.{part, Bytes}
+use Rattle.misc.specs.Le.{leBytes, numberAt}
 use Rattle.misc.proofs.ParseLaws.{part-length}
 use Rattle.misc.proofs.LeLaws.{length-leBytes}
 use Rattle.packets.specs.Key.{Key}
 use Rattle.packets.proofs.Tests.{clash}
 use Rattle.previous_gtids_event.specs.Entry.{uuidOf, tagOf}
-use Rattle.previous_gtids_event.specs.Previous.{noneOrTag}
+use Rattle.packets.specs.Tag.{noneOrTag}
 use Rattle.previous_gtids_event.specs.Rewrite.{tagBytes}
-use Rattle.previous_gtids_event.proofs.Reading.{none-or-tag-short}
+use Rattle.packets.proofs.TagLaws.{none-or-tag-short}
 use Rattle.gtid_sets.proofs.KeyLaws.{good-key}
 use Rattle.gtid_sets.proofs.ByteLaws.{append-parts}
-use Rattle.set_check.specs.Places.{numberAt}
 use Rattle.set_check.specs.Head.{headBytes, TagIs, NoTag, KeyOk, HeadIs, NoHead}
 use Rattle.set_check.specs.declared.TagPlace.{TagPlace}
-use Rattle.set_check.proofs.PlaceLaws.{Bytes, part-there, after-there, left-there, cut-there, byte-there, number-stands, number-there, one-byte}
+use Rattle.misc.proofs.Places.{part-there, after-there, left-there, part-from, byte-there}
+use Rattle.misc.proofs.NumberLaws.{number-stands, number-there}
+use Rattle.misc.proofs.VarlenLaws.{one-byte}
 
 -- ---- a tag
 
@@ -74,7 +75,7 @@ module _ (bs : List ℕ) (w : Bool) (at : ℕ) (e : w ≡ true) where
         record {
           is =
               rw (e, one-byte (length t) (omega (arith, none-or-tag-short t r)), l)
-              (drop-cons bs at 0 (omega arith) ∙ rw (b, ← add-one at) (ap (λ (x : List ℕ). 2 * len ∷ x) (cut-there bs (at + 1) len)));
+              (drop-cons bs at 0 (omega arith) ∙ rw (b, ← add-one at) (ap (λ (x : List ℕ). 2 * len ∷ x) (part-from bs (at + 1) len)));
           rule = r;
           plain = λ f. clash e f;
           place = rw e;
@@ -157,7 +158,7 @@ module _ (bs : List ℕ) (w : Bool) (at : ℕ) where
           let c : leBytes 8 count ≡ part bs (t .at + t .len) 8 = rw counted (number-stands bs ok (t .at + t .len) (omega arith)) in
           record {
             key = u ++ g;
-            is = rw (front, back, c, ← cut-there bs (t .at + t .len) 8, ← is .is) (cut-there bs at 16);
+            is = rw (front, back, c, ← part-from bs (t .at + t .len) 8, ← is .is) (part-from bs at 16);
             ok = record {
               good = good-key u g l (is .rule);
               plain = λ f. rw back (part-length (t .len) bs (t .at) (is .inside) ∙ is .plain f);

@@ -8,7 +8,7 @@ use native.Mathlib.Omega.{arith}
 use lib.Dec.{ltb, leb}
 use borrow.Author.Tests.{ltb-false, leb-true}
 use lib.ListN.{length, drop, length-append}
-use Rattle.misc.specs.Parse.{part}
+use Rattle.misc.specs.Parse.{part, Bytes}
 use Rattle.misc.specs.Le.{leOf, leBytes}
 use Rattle.misc.proofs.ParseLaws.{part-length}
 use Rattle.misc.proofs.LeLaws.{length-leBytes, leOf-leBytes}
@@ -35,7 +35,8 @@ use Rattle.set_check.specs.Places.{intervalsAt}
 use Rattle.set_check.specs.Head.{headBytes, KeyOk, HeadIs, NoHead}
 use Rattle.set_check.specs.Check.{keyIn, LowKey, EntryIs, NoEntry, Rest}
 use Rattle.set_check.specs.declared.Head.{Head}
-use Rattle.set_check.proofs.PlaceLaws.{Bytes, after-there, intervals-there, intervals-count, intervals-stand}
+use Rattle.misc.proofs.Places.{after-there}
+use Rattle.set_check.proofs.PlaceLaws.{intervals-there, intervals-count, intervals-stand}
 use Rattle.set_check.proofs.HeadLaws.{tag-unique}
 
 -- the bytes of some entries begin with the head of the first

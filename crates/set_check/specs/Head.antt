@@ -8,7 +8,8 @@ use Rattle.misc.specs.Parse.{part}
 use Rattle.misc.specs.Le.{leBytes}
 use Rattle.packets.specs.Key.{Key}
 use Rattle.previous_gtids_event.specs.Entry.{uuidOf, tagOf}
-use Rattle.previous_gtids_event.specs.Previous.{noneOrTag, GoodKey}
+use Rattle.packets.specs.Tag.{noneOrTag}
+use Rattle.previous_gtids_event.specs.Previous.{GoodKey}
 use Rattle.previous_gtids_event.specs.Rewrite.{tagBytes}
 use Rattle.set_check.specs.declared.TagPlace.{TagPlace}
 use Rattle.set_check.specs.declared.Head.{Head}

@@ -1,20 +1,16 @@
--- Numbers, intervals and entries at a place of a set's bytes.
+-- Intervals and entries at a place of a set's bytes.
 use Prim.Native.Nat.{ℕ, zero, suc, _+_, _*_, _/_, _≤_}
 use mathlib.Core.Bool.{Bool, true, false}
 use mathlib.Core.List.{List, [], _∷_, _++_}
 use lib.ListN.{length, getD}
 use lib.Dec.{leb}
 use Rattle.misc.specs.Pick.{pick}
-use Rattle.misc.specs.Parse.{part, uintRead}
-use Rattle.misc.specs.Le.{leAt}
+use Rattle.misc.specs.Parse.{part}
+use Rattle.misc.specs.Le.{numberAt}
 use Rattle.packets.specs.Gno.{Interval, interval}
 use Rattle.packets.specs.Key.{Key}
 use Rattle.previous_gtids_event.specs.Entry.{Entry, entry}
 use Rattle.set_check.specs.declared.EntryPlace.{EntryPlace}
-
--- the number in the eight bytes from a place on, 0 where they aren't all there
-unfoldable pub numberAt : List ℕ → ℕ → ℕ
-numberAt bs at = uintRead (leAt 8 bs at) .value
 
 -- n intervals from a place on
 abbrev pub intervalsAt : ℕ → List ℕ → ℕ → List Interval

@@ -1,10 +1,10 @@
 // The head of an entry: its uuid, its tag and the number of its intervals.
 use crate::Head;
 use crate::TagPlace;
-use crate::places::number_at;
 use crate::places::wide;
 use misc::bytes::left_at;
-use previous_gtids_event::read::none_or_tag;
+use misc::le::number_at;
+use packets::none_or_tag;
 ghost use Prim.Native.Nat.{_≤_};
 ghost use lib.ListN.{length};
 ghost use Rattle.set_check.specs.Head.{Told, TagIs, NoTag, HeadIs, NoHead};

@@ -1,34 +1,11 @@
-// Numbers, keys and entries in the bytes of a set.
+// Entries in the bytes of a set.
 use crate::EntryPlace;
 use misc::bytes::left_at;
-use misc::le::read_u64_le;
-use packets::KeyOrder;
-use packets::key_order;
+use misc::le::number_at;
 ghost use mathlib.Core.Path.{_≡_};
 ghost use Prim.Native.Nat.{_+_, _≤_};
 ghost use lib.ListN.{length};
-ghost use Rattle.packets.specs.Key.{order, orElse, orderRead};
-ghost use Rattle.set_check.specs.Places.{numberAt, placeFrom, nowhere, orNowhere, placeIn};
-
-// The number in the eight bytes from `at` on, 0 where they aren't all there.
-pub fn number_at(s: &[u8], at: usize) -> u64
-    ensures { λ r. ⌜ r ≡ numberAt (now (s .entry)) at ⌝ }
-{
-    read_u64_le(s, at).value
-}
-
-// The order of two keys, each a uuid and a tag: by uuid, then by tag.
-pub fn parts_order(uuid: &[u8], tag: &[u8], other_uuid: &[u8], other_tag: &[u8]) -> KeyOrder
-    ensures { λ r. ⌜ r ≡ orderRead (orElse (order (now (uuid .entry)) (now («other_uuid» .entry)))
-        (order (now (tag .entry)) (now («other_tag» .entry)))) ⌝ }
-{
-    let first = key_order(uuid, other_uuid);
-    match first {
-        KeyOrder::Before => KeyOrder::Before,
-        KeyOrder::Same => key_order(tag, other_tag),
-        KeyOrder::After => KeyOrder::After,
-    }
-}
+ghost use Rattle.set_check.specs.Places.{placeFrom, nowhere, orNowhere, placeIn};
 
 pub(crate) fn wide(b: u8) -> usize
     ensures { λ r. ⌜ r ≡ b ⌝ }

@@ -27,7 +27,7 @@ use Rattle.gtid_sets.proofs.LentLaws.{lent-short}
 use Rattle.gtid_sets.proofs.CombineLaws.{combined-good, combined-swap}
 use Rattle.set_check.specs.Check.{checkedOf}
 use Rattle.set_check.specs.declared.Checked.{Checked}
-use Rattle.set_check.proofs.PlaceLaws.{one-byte}
+use Rattle.misc.proofs.VarlenLaws.{one-byte}
 use Rattle.resume_set.specs.Answers.{saved}
 use Rattle.resume_set.specs.Find.{setOf, Fits}
 use Rattle.resume_set.proofs.SetOfLaws.{set-bytes, set-stands}

@@ -8,8 +8,8 @@ use lib.ListN.{length, drop}
 use lib.Seq.{take-add, drop-drop}
 use lib.Dec.{ltb, leb, eqb}
 use borrow.Author.Tests.{ltb-true, ltb-false, le-leb, lt-leb, eq-eqb, ne-eqb}
-use Rattle.misc.specs.Parse.{part}
-use Rattle.misc.specs.Le.{leBytes}
+use Rattle.misc.specs.Parse.{part, Bytes}
+use Rattle.misc.specs.Le.{leBytes, numberAt}
 use Rattle.misc.specs.Output.{putAt, WhereFits}
 use Rattle.misc.proofs.ParseLaws.{part-length}
 use Rattle.misc.proofs.LeLaws.{length-leBytes}
@@ -22,8 +22,7 @@ use Rattle.packets.proofs.GnoLaws.{gnoTop-is}
 use Rattle.gtid_sets.specs.Combine.{isOpen, mark, keeps, sweep, Rising}
 use Rattle.gtid_sets.proofs.Bools.{or-false-parts}
 use Rattle.gtid_sets.proofs.SweepLaws.{lower, sweep-lt, sweep-eq, sweep-gt}
-use Rattle.set_check.specs.Places.{numberAt}
-use Rattle.set_check.proofs.PlaceLaws.{Bytes, number-stands}
+use Rattle.misc.proofs.NumberLaws.{number-stands}
 use Rattle.two_sets.specs.Marks.{saidBy, marksAt, marksOf, nextMark, passedSide, leftOf, going, allIf, flipped, oneIf, SideIs, SidesAre, keepsNow, StepIs, TurnIs, NextIs, marksBytes, MarksPut}
 use Rattle.two_sets.specs.declared.Operation.{Operation}
 use Rattle.two_sets.specs.declared.Operation.the-variants as operation

@@ -15,14 +15,16 @@ use Rattle.packets.specs.declared.KeyOrder.the-variants.{Before, Same, After}
 use Rattle.packets.proofs.Keys.{flip, order-eq, order-flip, order-append}
 use Rattle.previous_gtids_event.specs.Entry.{entry, tagOf}
 use Rattle.previous_gtids_event.specs.Previous.{GoodKey}
-use Rattle.previous_gtids_event.proofs.Reading.{tag-of, none-or-tag-short}
+use Rattle.packets.proofs.TagLaws.{none-or-tag-short}
+use Rattle.previous_gtids_event.proofs.Reading.{tag-of}
 use Rattle.gtid_sets.specs.Interval.{Gapped}
 use Rattle.gtid_sets.specs.Set.{SetForm}
 use Rattle.gtid_sets.specs.Lent.{GoodKeys}
 use Rattle.gtid_sets.specs.Combine.{marks, swept, keep, combined}
 use Rattle.gtid_sets.proofs.SweepLaws.{marks-rise, sweep-shut}
 use Rattle.gtid_sets.proofs.CombineLaws.{combined-lt, combined-eq, combined-gt}
-use Rattle.set_check.specs.Places.{numberAt, intervalsAt, placeAt, placeIn, keyThere, entriesAt, EntriesIn}
+use Rattle.misc.specs.Le.{numberAt}
+use Rattle.set_check.specs.Places.{intervalsAt, placeAt, placeIn, keyThere, entriesAt, EntriesIn}
 use Rattle.set_check.specs.declared.EntryPlace.{EntryPlace}
 use Rattle.set_check.proofs.EntryPlaces.{lies, place-here}
 use Rattle.two_sets.specs.Marks.{marksAt, marksOf, SideIs}

@@ -22,7 +22,7 @@ use Rattle.previous_gtids_event.specs.Rewrite.{intervalsBytes, entryBytes, entr
 use Rattle.previous_gtids_event.proofs.Reading.{uuid-of, tag-of}
 use Rattle.gtid_sets.specs.Limits.{maxOfEntry, intervals, over, crowds}
 use Rattle.gtid_sets.specs.Combine.{spans, isOpen, keep}
-use Rattle.set_check.proofs.PlaceLaws.{one-byte}
+use Rattle.misc.proofs.VarlenLaws.{one-byte}
 use Rattle.resume_set.specs.Put.{headRun}
 use Rattle.two_sets.specs.Marks.{leftOf, going, marksBytes}
 use Rattle.two_sets.specs.Pairs.{CursorsAre, placesOfBoth, combining, sourceOf, uuidIn, tagIn, KeyIs, PairIs}

@@ -1,7 +1,4 @@
 -- `report::text_lines::put_line` meets its contract.
-use mathlib.Core.Path.{sym, ap, _∙_}
-use mathlib.Core.List.{List}
-use Prim.Native.Nat.{ℕ}
 use native.Mathlib.Omega.{arith}
 use borrow.Author.Needs.{needs}
 use Rattle.misc.proofs.OutputLaws.{put-placed}

@@ -11,7 +11,7 @@ use Rattle.packets.specs.Key.{order, orderRead}
 use Rattle.set_check.specs.Check.{keyIn}
 use Rattle.set_check.specs.Head.{HeadIs}
 use Rattle.set_check.proofs.RestLaws.{order-found, entry-headless, entry-many, entry-ungapped, entry-low, entry-is}
-use Rattle.set_check.proofs.OrderLaws.{says-before}
+use Rattle.packets.proofs.OrderLaws.{says-before}
 use Rattle.set_check.proofs.PlaceLaws.{says-no}
 use Rattle.set_check.proofs.check.entry_above.Statement.{statement}
 use Rattle.set_check.proofs.check.entry_above.Tie as tie

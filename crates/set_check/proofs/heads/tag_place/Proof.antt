@@ -8,7 +8,7 @@ use denote.Ref.{now}
 use borrow.Author.Tests.{not-true, not-false}
 use borrow.Author.Needs.{needs}
 use Rattle.misc.specs.Parse.{part}
-use Rattle.previous_gtids_event.specs.Previous.{noneOrTag}
+use Rattle.packets.specs.Tag.{noneOrTag}
 use Rattle.set_check.proofs.HeadLaws.{tag-none, tag-gone, tag-odd, tag-cut, tag-bad, tag-is}
 use Rattle.set_check.proofs.PlaceLaws.{says-yes, says-no}
 use Rattle.set_check.proofs.heads.tag_place.Statement.{statement}

@@ -1,12 +1,12 @@
--- `previous_gtids_event::read::none_or_tag` meets its contract.
+-- `packets::none_or_tag` meets its contract.
 use denote.Ref.{now}
 use lib.ListN.{length}
 use lib.Dec.{eqb}
 use mathlib.Core.Bool.{Bool, _||_}
 use mathlib.Core.Path.{ap}
 use borrow.Author.Needs.{needs}
-use Rattle.previous_gtids_event.proofs.read.none_or_tag.Statement.{statement}
-use Rattle.previous_gtids_event.proofs.read.none_or_tag.Tie as tie
+use Rattle.packets.proofs.none_or_tag.Statement.{statement}
+use Rattle.packets.proofs.none_or_tag.Tie as tie
 
 is-tag-requires : tie.Need-is-tag-requires
 is-tag-requires c κs = search needs

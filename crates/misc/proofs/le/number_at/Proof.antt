@@ -1,10 +1,10 @@
--- `set_check::places::number_at` meets its contract.
+-- `misc::le::number_at` meets its contract.
 use mathlib.Core.Path.{ap}
 use borrow.Author.Needs.{needs}
 use Rattle.misc.specs.declared.ReadUint.{ReadUint}
-use Rattle.set_check.specs.Places.{numberAt}
-use Rattle.set_check.proofs.places.number_at.Statement.{statement}
-use Rattle.set_check.proofs.places.number_at.Tie as tie
+use Rattle.misc.specs.Le.{numberAt}
+use Rattle.misc.proofs.le.number_at.Statement.{statement}
+use Rattle.misc.proofs.le.number_at.Tie as tie
 
 read-u64-le-requires : tie.Need-read-u64-le-requires
 read-u64-le-requires c κs = search needs

@@ -1,11 +1,11 @@
--- `set_check::places::parts_order` meets its contract.
+-- `packets::parts_order` meets its contract.
 use mathlib.Core.Path.{sym, _∙_}
 use denote.Ref.{now}
 use borrow.Author.Needs.{needs}
 use Rattle.packets.specs.Key.{order}
-use Rattle.set_check.proofs.OrderLaws.{first-before, second-decides, first-after}
-use Rattle.set_check.proofs.places.parts_order.Statement.{statement}
-use Rattle.set_check.proofs.places.parts_order.Tie as tie
+use Rattle.packets.proofs.OrderLaws.{first-before, second-decides, first-after}
+use Rattle.packets.proofs.parts_order.Statement.{statement}
+use Rattle.packets.proofs.parts_order.Tie as tie
 
 key-order-requires : tie.Need-key-order-requires
 key-order-requires c κs = search needs
