@@ -30,7 +30,7 @@ use Rattle.set_check.specs.Places.{intervalsAt}
 use Rattle.previous_gtids_event.proofs.Writing.{headerNumber}
 use Rattle.previous_gtids_event.proofs.RoundTrip.{header-says}
 use Rattle.set_check.proofs.HeaderLaws.{header-there}
-use Rattle.resume_set.specs.Find.{entriesOf}
+use Rattle.set_check.specs.SetOf.{entriesOf}
 use Rattle.resume_set.proofs.EntryLaws.{NextEntry, entry-next}
 use Rattle.text.specs.Keys.{tagText, keyText}
 use Rattle.text.specs.Lines.{newline}

@@ -11,8 +11,8 @@ use Rattle.previous_gtids_event.specs.Rewrite.{anyTag}
 use Rattle.gtid_sets.specs.Lent.{form, lentSet}
 use Rattle.set_check.specs.Check.{checkedOf}
 use Rattle.set_check.specs.declared.Checked.{Checked}
-use Rattle.resume_set.specs.Find.{setOf}
-use Rattle.resume_set.proofs.AnswerLaws.{check-told, check-unfit}
+use Rattle.set_check.specs.SetOf.{setOf}
+use Rattle.set_check.proofs.SetOfLaws.{check-told, check-unfit}
 use Rattle.text.specs.Digits.{decimal}
 use Rattle.listing.specs.SetText.{entriesText, setText, listedSet}
 use Rattle.listing.specs.Inside.{SetOf, lentEntries, headText}

@@ -17,8 +17,8 @@ use Rattle.set_check.specs.Places.{intervalsAt, placeAt, placeIn, entriesAt, En
 use Rattle.set_check.specs.declared.EntryPlace.{EntryPlace}
 use Rattle.set_check.proofs.GappedWalk.{intervals-more}
 use Rattle.set_check.proofs.EntryPlaces.{lies, place-here}
-use Rattle.resume_set.specs.Find.{setOf, IsSet}
-use Rattle.resume_set.proofs.SetOfLaws.{set-stands}
+use Rattle.set_check.specs.SetOf.{setOf, IsSet}
+use Rattle.set_check.proofs.SetOfLaws.{set-stands}
 use Rattle.report.specs.Inside.{wideOf, valueOf}
 use Rattle.report.specs.declared.Wide.{Wide}
 use Rattle.report.proofs.WideLaws.{words, low-small, wide-is}

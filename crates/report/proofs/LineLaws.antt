@@ -10,8 +10,8 @@ use Rattle.gtid_sets.proofs.LimitLaws.{maxEntries-is, maxIntervals-is, limits-s
 use Rattle.gtid_sets.proofs.LentLaws.{lent-is}
 use Rattle.set_check.specs.Check.{checkedOf}
 use Rattle.set_check.specs.declared.Checked.{Checked}
-use Rattle.resume_set.specs.Find.{setOf, IsSet, Fits}
-use Rattle.resume_set.proofs.AnswerLaws.{check-told, check-unfit}
+use Rattle.set_check.specs.SetOf.{setOf, IsSet, Fits}
+use Rattle.set_check.proofs.SetOfLaws.{check-told, check-unfit}
 use Rattle.report.specs.Report.{refusedLine, lineOf, maxSets, withLine, added}
 use Rattle.report.specs.Inside.{wideOf}
 use Rattle.report.specs.declared.Line.{Line}

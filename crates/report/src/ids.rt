@@ -1,7 +1,7 @@
 // How many ids a set has, in two words.
 use crate::Wide;
 use misc::le::number_at;
-use set_check::places::place_at;
+use set_check::walk::place_at;
 ghost use mathlib.Core.Path.{_≡_};
 ghost use mathlib.Core.Bool.{true};
 ghost use Prim.Native.Nat.{_+_, _*_, _^_, _≤_, _<_};
@@ -9,7 +9,7 @@ ghost use lib.ListN.{length};
 ghost use Rattle.gtid_sets.specs.Interval.{gapped};
 ghost use Rattle.gtid_sets.specs.Total.{size, total};
 ghost use Rattle.set_check.specs.Places.{intervalsAt};
-ghost use Rattle.resume_set.specs.Find.{setOf, IsSet};
+ghost use Rattle.set_check.specs.SetOf.{setOf, IsSet};
 ghost use Rattle.report.specs.Inside.{wideOf, valueOf};
 
 // The sum of two numbers: what the low words pass 2^64 by is carried.

@@ -32,12 +32,12 @@ use Rattle.gtid_sets.specs.Set.{has, join, add}
 use Rattle.gtid_sets.specs.Limits.{Judged, fine, breaks, judgedAs, judged, limits, intervals, over, crowds}
 use Rattle.gtid_sets.specs.Run.{Event, names}
 use Rattle.gtid_sets.specs.Lent.{Lent, form, unfit, lentSet}
-use Rattle.gtid_sets.proofs.LimitLaws.{limits-judged, limits-fair}
-use Rattle.gtid_sets.proofs.LentLaws.{lent-is}
+use Rattle.gtid_sets.proofs.LimitLaws.{limits-judged}
 use Rattle.set_check.specs.Check.{checkedOf}
 use Rattle.set_check.specs.declared.Checked.{Checked}
 use Rattle.resume_set.specs.Answers.{setRead, contained, eventOf, fitting, offeredOf, outputFor, offered, output, saved, caseOf, acceptedAs}
-use Rattle.resume_set.specs.Find.{setOf, Counted, Fits}
+use Rattle.set_check.specs.SetOf.{setOf}
+use Rattle.resume_set.specs.Find.{Counted}
 use Rattle.resume_set.specs.Join.{PlanIs}
 use Rattle.resume_set.specs.declared.SetRead.{SetRead}
 use Rattle.resume_set.specs.declared.Contained.{Contained}
@@ -47,7 +47,6 @@ use Rattle.resume_set.specs.declared.Held.{Held}
 use Rattle.resume_set.specs.declared.Plan.{Plan}
 use Rattle.resume_set.specs.declared.Kind.{Kind}
 use Rattle.resume_set.specs.declared.Kind.the-variants as kind
-use Rattle.resume_set.proofs.SetOfLaws.{lent-set}
 
 -- ---- what the check told
 
@@ -55,31 +54,6 @@ pub set-read : (c : Checked) (x : Lent) → c ≡ checkedOf x
     → _≡_ {A = SetRead} (record { refusal = c .refusal; entries = c .entries; intervals = c .intervals }) (setRead x)
 set-read c unfit e = ap (λ (y : Checked). record { refusal = y .refusal; entries = y .entries; intervals = y .intervals }) e
 set-read c (form s) e = ap (λ (y : Checked). record { refusal = y .refusal; entries = y .entries; intervals = y .intervals }) e
-
-pub check-told : (bs : List ℕ) (c : Checked) → c ≡ checkedOf (lentSet bs) → c .refusal ≡ 0 → Fits bs c
-check-told bs c e z = go (lentSet bs) refl
-  where
-    go : (x : Lent) → lentSet bs ≡ x → Fits bs c
-    go unfit p = absurd (omega (arith, sym (ap (λ (y : Checked). y .refusal) (e ∙ ap checkedOf p)) ∙ z))
-    go (form s) p =
-        let t = e ∙ ap checkedOf p in
-        let (is, same) = lent-set bs s p in
-        record {
-          set = rw (ap (λ (y : Checked). y .tagged) t, ap (λ (y : Checked). y .entries) t) is;
-          total = ap intervals same ∙ sym (ap (λ (y : Checked). y .intervals) t);
-          lent = p ∙ ap form (sym same);
-        }
-
--- no entry of a set that was checked has too many intervals
-pub fits-fair : (bs : List ℕ) (c : Checked) → Fits bs c → crowds (setOf bs) ≡ 0
-fits-fair bs c f = limits-fair (setOf bs) (lent-is bs (setOf bs) (f .lent) .limited)
-
-pub check-unfit : (bs : List ℕ) (c : Checked) → c ≡ checkedOf (lentSet bs) → (c .refusal ≡ 0 → ⊥) → (lentSet bs ≡ unfit) × (c .refusal ≡ 14)
-check-unfit bs c e h = go (lentSet bs) refl
-  where
-    go : (x : Lent) → lentSet bs ≡ x → (lentSet bs ≡ unfit) × (c .refusal ≡ 14)
-    go unfit p = (p, ap (λ (y : Checked). y .refusal) (e ∙ ap checkedOf p))
-    go (form s) p = absurd (h (ap (λ (y : Checked). y .refusal) (e ∙ ap checkedOf p)))
 
 -- ---- `contains`
 

@@ -27,7 +27,7 @@ use Rattle.previous_gtids_event.proofs.Reading.{intervalOf, intervalsOf, key-wh
 use Rattle.gtid_sets.specs.TakeIn.{proper}
 use Rattle.set_check.specs.Places.{intervalsAt}
 use Rattle.misc.proofs.NumberLaws.{number-here}
-use Rattle.resume_set.specs.Find.{entriesOf}
+use Rattle.set_check.specs.SetOf.{entriesOf}
 use Rattle.resume_set.specs.TakeIn.{keyIn, EntryIs}
 
 -- intervals that are all there, read one after another or by their places

@@ -30,9 +30,10 @@ use Rattle.set_check.specs.Places.{intervalsAt, placeAt, placeIn}
 use Rattle.set_check.specs.declared.EntryPlace.{EntryPlace}
 use Rattle.packets.proofs.OrderLaws.{says-before, says-same, says-after}
 use Rattle.set_check.proofs.EntryPlaces.{EntryHere, place-here, untagged-parts, first-ok, first-here, first-intervals, first-next}
-use Rattle.resume_set.specs.Find.{setOf, IsSet, FoundIs}
+use Rattle.set_check.specs.SetOf.{setOf, IsSet}
+use Rattle.resume_set.specs.Find.{FoundIs}
 use Rattle.resume_set.specs.declared.Found.{Found}
-use Rattle.resume_set.proofs.SetOfLaws.{set-bytes}
+use Rattle.set_check.proofs.SetOfLaws.{set-bytes}
 
 -- ---- entries one after another
 

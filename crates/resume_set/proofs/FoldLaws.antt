@@ -36,12 +36,13 @@ use Rattle.gtid_sets.proofs.SetLaws.{form-join}
 use Rattle.gtid_sets.proofs.LentLaws.{empty-bytes, good-join}
 use Rattle.set_check.specs.Places.{intervalsAt}
 use Rattle.set_check.proofs.GappedWalk.{intervals-more}
-use Rattle.resume_set.specs.Find.{entriesOf, Counted}
+use Rattle.set_check.specs.SetOf.{entriesOf}
+use Rattle.resume_set.specs.Find.{Counted}
 use Rattle.resume_set.specs.Join.{PlanIs, planRuns}
 use Rattle.resume_set.specs.TakeIn.{heldSet, HeldIs, keyIn, EntryIs, widest, enough, Room}
 use Rattle.resume_set.specs.declared.Held.{Held}
 use Rattle.resume_set.specs.declared.Plan.{Plan}
-use Rattle.resume_set.proofs.SetOfLaws.{set-is}
+use Rattle.set_check.proofs.SetOfLaws.{set-is}
 use Rattle.resume_set.proofs.RoomLaws.{widest-empty, enough-now, enough-next, enough-all, enough-most}
 use Rattle.resume_set.proofs.EntryLaws.{ReadEntry, body-starts, NextEntry, entry-next}
 

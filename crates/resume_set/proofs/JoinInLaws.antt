@@ -27,11 +27,12 @@ use Rattle.gtid_sets.proofs.LimitLaws.{maxEntries-is, maxIntervals-is, longestS
 use Rattle.gtid_sets.proofs.LentLaws.{lent-is, lent-short}
 use Rattle.set_check.specs.declared.Checked.{Checked}
 use Rattle.resume_set.specs.Answers.{saved}
-use Rattle.resume_set.specs.Find.{setOf, entriesOf, Counted, Fits}
+use Rattle.set_check.specs.SetOf.{setOf, entriesOf, Fits}
+use Rattle.resume_set.specs.Find.{Counted}
 use Rattle.resume_set.specs.JoinIn.{joinedIn, joinAnswers, joinLeaves}
 use Rattle.resume_set.specs.TakeIn.{HeldIs, heldSet, widest, Room}
 use Rattle.resume_set.specs.declared.Held.{Held}
-use Rattle.resume_set.proofs.AnswerLaws.{fits-fair}
+use Rattle.set_check.proofs.SetOfLaws.{fits-fair}
 
 -- ---- a checked set at the front of a work buffer
 

@@ -36,7 +36,8 @@ use Rattle.misc.proofs.NumberLaws.{number-there}
 use Rattle.misc.proofs.VarlenLaws.{one-byte}
 use Rattle.set_check.proofs.PlaceLaws.{intervals-count, intervals-stand}
 use Rattle.set_check.proofs.RestLaws.{entries-head}
-use Rattle.resume_set.specs.Find.{setOf, IsSet, added, old, FoundIs}
+use Rattle.set_check.specs.SetOf.{setOf, IsSet}
+use Rattle.resume_set.specs.Find.{added, old, FoundIs}
 use Rattle.resume_set.specs.Put.{widerRun, widened, Untagged, entriesRun, EntriesThere}
 use Rattle.resume_set.specs.Join.{extra, SpliceIs, planRuns, PlanIs}
 use Rattle.resume_set.specs.declared.Found.{Found}

@@ -18,7 +18,7 @@ use Rattle.previous_gtids_event.specs.declared.EntryRead.{EntryRead}
 use Rattle.gtid_sets.specs.TakeIn.{proper, lawful}
 use Rattle.set_check.specs.Places.{intervalsAt}
 use Rattle.set_check.proofs.GappedWalk.{intervals-more}
-use Rattle.resume_set.specs.Find.{entriesOf}
+use Rattle.set_check.specs.SetOf.{entriesOf}
 use Rattle.resume_set.proofs.EntryLaws.{NextEntry, body-starts, entry-next}
 
 -- ---- intervals

@@ -1,6 +1,5 @@
 -- Laws that the functions of this crate cite.
 pub mod WalkLaws
-pub mod SetOfLaws
 pub mod FindLaws
 pub mod PutLaws
 pub mod JoinLaws

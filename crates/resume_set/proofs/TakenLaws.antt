@@ -26,7 +26,7 @@ use Rattle.gtid_sets.proofs.LimitLaws.{maxIntervals-is, limits-says}
 use Rattle.gtid_sets.proofs.LentLaws.{well-formed, lent-is}
 use Rattle.gtid_sets.proofs.TakeInLaws.{form-lawful, takeIn-self}
 use Rattle.resume_set.specs.Answers.{saved, takenIn}
-use Rattle.resume_set.specs.Find.{entriesOf}
+use Rattle.set_check.specs.SetOf.{entriesOf}
 use Rattle.resume_set.proofs.AnswerLaws.{saved-fine}
 
 -- ---- what was read, refused or by the gno rule

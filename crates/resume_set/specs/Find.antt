@@ -1,54 +1,26 @@
 -- Where a key stands in a lent set, or would stand.
-use Prim.Native.Nat.{ℕ, _+_, _*_, _^_, _≤_}
+use Prim.Native.Nat.{ℕ, _+_, _*_, _≤_}
 use mathlib.Core.Path.{_≡_}
 use mathlib.Core.Bool.{Bool, true, false}
-use mathlib.Core.List.{List, [], _∷_, _++_}
+use mathlib.Core.List.{List, _∷_, _++_}
 use lib.ListN.{length, drop}
-use Rattle.misc.specs.Parse.{Parse, refuse, parsed}
 use Rattle.packets.specs.Gno.{Interval}
 use Rattle.packets.specs.Key.{Key}
 use Rattle.previous_gtids_event.specs.Entry.{Entry, entry, tagOf}
-use Rattle.previous_gtids_event.specs.Previous.{entriesIn}
-use Rattle.previous_gtids_event.specs.Rewrite.{entriesBytes, anyTag, bodyBytes}
+use Rattle.previous_gtids_event.specs.Rewrite.{entriesBytes, anyTag}
 use Rattle.gtid_sets.specs.Interval.{covers, Gapped, insert}
-use Rattle.gtid_sets.specs.Set.{has, SetForm, join}
+use Rattle.gtid_sets.specs.Set.{has, join}
 use Rattle.gtid_sets.specs.Limits.{summed, intervals, crowds}
-use Rattle.gtid_sets.specs.Lent.{form, lentSet, GoodKeys}
+use Rattle.gtid_sets.specs.Lent.{GoodKeys}
 use Rattle.set_check.specs.Places.{intervalsAt}
-use Rattle.set_check.specs.declared.Checked.{Checked}
 use Rattle.resume_set.specs.declared.Found.{Found}
 use Rattle.resume_set.specs.declared.Held.{Held}
-
--- ---- the set that some bytes are, within the limits or not
-
-abbrev pub entriesOf : Parse (List Entry) → List Entry
-entriesOf (refuse r) = []
-entriesOf (parsed s next) = s
-
--- the entries that stand in them
-unfoldable pub setOf : List ℕ → List Entry
-setOf bs = entriesOf (entriesIn bs)
-
--- the bytes are those of a set in set form, with tags or not and with so many entries
-pub record IsSet (bs : List ℕ) (w : Bool) (n : ℕ) : Type 0 where
-  pub written : bs ≡ bodyBytes (setOf bs)
-  pub formed : SetForm (setOf bs)
-  pub keyed : GoodKeys (setOf bs)
-  pub tags : anyTag (setOf bs) ≡ w
-  pub count : length (setOf bs) ≡ n
-  pub small : length bs ≤ 2 ^ 40
 
 -- these are its counts
 pub record Counted (s : List Entry) (h : Held) : Type 0 where
   pub count : h .entries ≡ length s
   pub total : h .intervals ≡ intervals s
   pub crowd : h .crowded ≡ crowds s
-
--- what a check that found no fault says
-pub record Fits (bs : List ℕ) (c : Checked) : Type 0 where
-  pub set : IsSet bs (c .tagged) (c .entries)
-  pub total : intervals (setOf bs) ≡ c .intervals
-  pub lent : lentSet bs ≡ form (setOf bs)
 
 -- ---- what `find` tells
 

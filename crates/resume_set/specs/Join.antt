@@ -10,7 +10,8 @@ use Rattle.gtid_sets.specs.Set.{has, join}
 use Rattle.gtid_sets.specs.Splice.{earlier}
 use Rattle.gtid_sets.specs.Limits.{intervals, over, crowds}
 use Rattle.set_check.specs.Places.{intervalsAt}
-use Rattle.resume_set.specs.Find.{setOf, old}
+use Rattle.set_check.specs.SetOf.{setOf}
+use Rattle.resume_set.specs.Find.{old}
 use Rattle.resume_set.specs.Put.{headRun, splicedRun, entriesRun, EntriesThere}
 use Rattle.resume_set.specs.declared.Splice.{Splice}
 use Rattle.resume_set.specs.declared.Plan.{Plan}

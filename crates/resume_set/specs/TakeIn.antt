@@ -12,7 +12,8 @@ use Rattle.previous_gtids_event.specs.Rewrite.{entriesBytes}
 use Rattle.previous_gtids_event.specs.declared.EntryRead.{EntryRead}
 use Rattle.gtid_sets.specs.TakeIn.{proper}
 use Rattle.set_check.specs.Places.{intervalsAt}
-use Rattle.resume_set.specs.Find.{setOf, IsSet, Counted}
+use Rattle.set_check.specs.SetOf.{setOf, IsSet}
+use Rattle.resume_set.specs.Find.{Counted}
 use Rattle.resume_set.specs.declared.Held.{Held}
 
 -- ---- a set in a work buffer

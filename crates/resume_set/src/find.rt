@@ -2,11 +2,12 @@
 use crate::Found;
 use packets::KeyOrder;
 use packets::parts_order;
-use set_check::places::place_at;
+use set_check::walk::place_at;
 ghost use mathlib.Core.Path.{_≡_};
 ghost use mathlib.Core.List.{_++_};
 ghost use lib.ListN.{length};
-ghost use Rattle.resume_set.specs.Find.{setOf, IsSet, FoundIs};
+ghost use Rattle.set_check.specs.SetOf.{setOf, IsSet};
+ghost use Rattle.resume_set.specs.Find.{FoundIs};
 
 pub(crate) fn find(set: &[u8], tagged: bool, count: usize, uuid: &[u8], tag: &[u8]) -> Found
     requires { ⌜ IsSet (now set) tagged count ⌝ }

@@ -21,7 +21,8 @@ ghost use Rattle.previous_gtids_event.specs.Rewrite.{bodyBytes};
 ghost use Rattle.gtid_sets.specs.Set.{join};
 ghost use Rattle.gtid_sets.specs.Limits.{intervals, crowds};
 ghost use Rattle.resume_set.specs.Answers.{saved};
-ghost use Rattle.resume_set.specs.Find.{setOf, IsSet, Counted};
+ghost use Rattle.set_check.specs.SetOf.{setOf, IsSet};
+ghost use Rattle.resume_set.specs.Find.{Counted};
 ghost use Rattle.resume_set.specs.Join.{extra, PlanIs, Runs, planRuns};
 
 // So many, if they are wanted.

@@ -19,7 +19,7 @@ ghost use Rattle.misc.specs.Output.{outputOf, answerOf};
 ghost use Rattle.previous_gtids_event.specs.Previous.{previous};
 ghost use Rattle.gtid_sets.specs.TakeIn.{lawful, union};
 ghost use Rattle.resume_set.specs.Answers.{saved};
-ghost use Rattle.resume_set.specs.Find.{setOf, entriesOf, Fits};
+ghost use Rattle.set_check.specs.SetOf.{setOf, entriesOf, Fits};
 ghost use Rattle.resume_set.specs.JoinIn.{joinAnswers, joinLeaves};
 
 // Room for the longest set, and then for what any body may add to it.

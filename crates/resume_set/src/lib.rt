@@ -20,7 +20,7 @@ ghost use Rattle.misc.specs.Output.{outputOf};
 ghost use Rattle.gtid_sets.specs.Run.{names};
 ghost use Rattle.gtid_sets.specs.Lent.{lentSet};
 ghost use Rattle.resume_set.specs.Answers.{setRead, contained, offeredOf, outputFor, offerAnswers, offerLeaves, acceptedAs};
-ghost use Rattle.resume_set.specs.Find.{setOf, Fits};
+ghost use Rattle.set_check.specs.SetOf.{setOf, Fits};
 
 mod find;
 mod intervals;

@@ -30,7 +30,7 @@ ghost use Rattle.gtid_sets.specs.Set.{join};
 ghost use Rattle.gtid_sets.specs.TakeIn.{proper, lawful, joinAll, union, takeIn};
 ghost use Rattle.set_check.specs.Places.{intervalsAt};
 ghost use Rattle.resume_set.specs.Answers.{saved, takeInAnswers, takeInLeaves};
-ghost use Rattle.resume_set.specs.Find.{entriesOf};
+ghost use Rattle.set_check.specs.SetOf.{entriesOf};
 ghost use Rattle.resume_set.specs.TakeIn.{HeldIs, heldSet, keyIn, EntryIs, widest, enough, Room};
 
 // A work buffer holds the set of any body: its entries take no more bytes there than in the body, but for one byte for the length of

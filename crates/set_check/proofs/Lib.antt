@@ -6,3 +6,5 @@ pub mod HeaderLaws
 pub mod RestLaws
 pub mod EntryPlaces
 pub mod CheckLaws
+pub mod SetOfLaws
+pub mod CursorLaws

@@ -1,7 +1,7 @@
 // The head of an entry: its uuid, its tag and the number of its intervals.
 use crate::Head;
 use crate::TagPlace;
-use crate::places::wide;
+use crate::walk::wide;
 use misc::bytes::left_at;
 use misc::le::number_at;
 use packets::none_or_tag;

@@ -1,10 +1,13 @@
 // The check of a lent set: whether its bytes are a Previous-GTIDs body in set form and within the set limits, and if so, how many
-// entries and intervals it has. It promises `checkedOf (lentSet ..)`. Beside it stands what any walk over a set's bytes needs: the
-// number and the entry at a place, and the order of two keys in parts. `limits` judges the counts of a set that is to be written.
+// entries and intervals it has. It promises `checkedOf (lentSet ..)`. Beside it stands the one
+// walk over a set's entries, with a cursor. `limits` judges the counts of a set that is to be written.
 pub mod check;
 mod heads;
 pub mod limits;
-pub mod places;
+pub mod walk;
+
+// Before its entries a set has a header of so many bytes.
+pub const HEADER: usize = 8;
 
 // A set has so many entries at most,
 pub const MAX_ENTRIES: usize = 384;
@@ -16,7 +19,7 @@ pub const MAX_INTERVALS: usize = 2560;
 pub const MAX_OF_ENTRY: usize = 1024;
 
 // So the longest has 62,856 bytes (`longestSet`).
-pub const LONGEST_SET: usize = 8 + MAX_ENTRIES * (16 + 1 + 32 + 8) + MAX_INTERVALS * 16;
+pub const LONGEST_SET: usize = HEADER + MAX_ENTRIES * (16 + 1 + 32 + 8) + MAX_INTERVALS * 16;
 
 // What a lent set is: refused with 14, or in set form and within the limits.
 pub struct Checked {
@@ -24,6 +27,13 @@ pub struct Checked {
     pub tagged: bool,
     pub entries: usize,
     pub intervals: usize,
+}
+
+// The entries of a set that are left: whether they have tags, where they begin, and how many there are.
+pub struct Cursor {
+    pub tagged: bool,
+    pub at: usize,
+    pub left: usize,
 }
 
 // Where an entry stands: where its tag begins and how long it is, how many intervals it has, where they begin and where they end.

@@ -29,11 +29,12 @@ use Rattle.set_check.specs.Check.{checkedOf}
 use Rattle.set_check.specs.declared.Checked.{Checked}
 use Rattle.misc.proofs.VarlenLaws.{one-byte}
 use Rattle.resume_set.specs.Answers.{saved}
-use Rattle.resume_set.specs.Find.{setOf, Fits}
-use Rattle.resume_set.proofs.SetOfLaws.{set-bytes, set-stands}
-use Rattle.resume_set.proofs.AnswerLaws.{check-told, check-unfit, saved-refused, joined-short, joined-fits}
-use Rattle.two_sets.specs.Answers.{combinedOutput, combineAnswers, combineLeaves, withinRead, withinAnswers, headRead, whichAnswers, begun, OneUnfit, BeginningIs}
-use Rattle.two_sets.specs.Pairs.{entriesLeft, CursorIs, CursorsAre, combining}
+use Rattle.set_check.specs.SetOf.{setOf, Fits}
+use Rattle.set_check.proofs.SetOfLaws.{set-bytes, set-stands, check-told, check-unfit}
+use Rattle.resume_set.proofs.AnswerLaws.{saved-refused, joined-short, joined-fits}
+use Rattle.two_sets.specs.Answers.{combinedOutput, combineAnswers, combineLeaves, withinRead, withinAnswers, headRead, whichAnswers, OneUnfit, BeginningIs}
+use Rattle.set_check.specs.Cursor.{entriesLeft, CursorIs, begun}
+use Rattle.two_sets.specs.Pairs.{CursorsAre, combining}
 use Rattle.two_sets.specs.Write.{MadeIs, madeLength}
 use Rattle.two_sets.specs.declared.Cursors.{Cursors}
 use Rattle.two_sets.specs.Differ.{ownIds}

@@ -18,7 +18,8 @@ use Rattle.gtid_sets.proofs.SweepLaws.{sweep-open}
 use Rattle.gtid_sets.proofs.CombineLaws.{is-combined, combined-swap}
 use Rattle.set_check.specs.Places.{entriesAt}
 use Rattle.two_sets.specs.Marks.{marksAt, marksOf, going, anyMark, allIf, Shut, SidesAre, keepsNow, StepIs}
-use Rattle.two_sets.specs.Pairs.{entriesLeft, CursorsAre, combining, keyIn, PairIs}
+use Rattle.set_check.specs.Cursor.{entriesLeft}
+use Rattle.two_sets.specs.Pairs.{CursorsAre, combining, keyIn, PairIs}
 use Rattle.two_sets.specs.Differ.{back, found, ownMarks, ownIds}
 use Rattle.two_sets.specs.declared.Sides.{Sides}
 use Rattle.two_sets.specs.declared.Step.{Step}

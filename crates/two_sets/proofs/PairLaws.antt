@@ -28,7 +28,8 @@ use Rattle.set_check.specs.Places.{intervalsAt, placeAt, placeIn, keyThere, ent
 use Rattle.set_check.specs.declared.EntryPlace.{EntryPlace}
 use Rattle.set_check.proofs.EntryPlaces.{lies, place-here}
 use Rattle.two_sets.specs.Marks.{marksAt, marksOf, SideIs}
-use Rattle.two_sets.specs.Pairs.{entriesLeft, CursorIs, CursorsAre, combining, uuidsOrder, tagsOrder, UuidNext, sideOf, noSide, keyPlace, beyondOf, ofFirst, ofSecond, ofBoth, Moves, keyIn, PairIs}
+use Rattle.set_check.specs.Cursor.{entriesLeft, CursorIs, beyondOf}
+use Rattle.two_sets.specs.Pairs.{CursorsAre, combining, uuidsOrder, tagsOrder, UuidNext, sideOf, noSide, keyPlace, ofFirst, ofSecond, ofBoth, Moves, keyIn, PairIs}
 use Rattle.two_sets.specs.declared.Cursor.{Cursor}
 use Rattle.two_sets.specs.declared.Cursors.{Cursors}
 use Rattle.two_sets.specs.declared.Pair.{Pair}

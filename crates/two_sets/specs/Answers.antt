@@ -19,7 +19,8 @@ use Rattle.two_sets.specs.declared.Choice.the-variants.{First, Second, R
 use Rattle.two_sets.specs.declared.Cursor.{Cursor}
 use Rattle.two_sets.specs.declared.Cursors.{Cursors}
 use Rattle.two_sets.specs.declared.Beginning.{Beginning}
-use Rattle.two_sets.specs.Pairs.{entriesLeft, CursorsAre, placesOfBoth}
+use Rattle.set_check.specs.Cursor.{entriesLeft}
+use Rattle.two_sets.specs.Pairs.{CursorsAre, placesOfBoth}
 
 -- ---- `either`, `both`, `without`
 

@@ -12,7 +12,8 @@ ghost use denote.Ref.{ptr};
 ghost use mathlib.Core.Path.{_≡_};
 ghost use Rattle.gtid_sets.specs.Combine.{either, both, without};
 ghost use Rattle.two_sets.specs.Marks.{saidBy};
-ghost use Rattle.two_sets.specs.Answers.{combineAnswers, combineLeaves, withinAnswers, whichAnswers, partOf, placeOf, begun, BeginningIs};
+ghost use Rattle.set_check.specs.Cursor.{begun};
+ghost use Rattle.two_sets.specs.Answers.{combineAnswers, combineLeaves, withinAnswers, whichAnswers, partOf, placeOf, BeginningIs};
 
 mod differ;
 pub mod join;

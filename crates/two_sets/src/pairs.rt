@@ -8,13 +8,14 @@ use crate::Sides;
 use packets::KeyOrder;
 use packets::key_order;
 use set_check::EntryPlace;
-use set_check::places::place_at;
+use set_check::walk::place_at;
 ghost use mathlib.Core.Path.{_≡_};
 ghost use Prim.Native.Nat.{_+_, _≤_, _<_};
 ghost use lib.ListN.{length};
 ghost use Rattle.packets.specs.Key.{orderRead};
 ghost use Rattle.packets.specs.declared.KeyOrder.the-variants.{Same};
-ghost use Rattle.two_sets.specs.Pairs.{CursorsAre, entriesOfBoth, sideOf, noSide, keyPlace, beyondOf, Moves, ofFirst, ofSecond, ofBoth, tagsOrder, UuidNext, PairIs};
+ghost use Rattle.set_check.specs.Cursor.{beyondOf};
+ghost use Rattle.two_sets.specs.Pairs.{CursorsAre, entriesOfBoth, sideOf, noSide, keyPlace, Moves, ofFirst, ofSecond, ofBoth, tagsOrder, UuidNext, PairIs};
 
 // The marks of an entry.
 fn side_of(place: EntryPlace) -> Side

@@ -4,8 +4,9 @@ use native.Mathlib.Omega.{arith}
 use denote.Ref.{now}
 use borrow.Author.Tests.{not-true, not-false}
 use borrow.Author.Needs.{needs}
-use Rattle.resume_set.specs.Find.{Fits}
-use Rattle.resume_set.proofs.AnswerLaws.{check-told, check-unfit, contained-unfit, no-uuid, no-id, is-asked}
+use Rattle.set_check.specs.SetOf.{Fits}
+use Rattle.set_check.proofs.SetOfLaws.{check-told, check-unfit}
+use Rattle.resume_set.proofs.AnswerLaws.{contained-unfit, no-uuid, no-id, is-asked}
 use Rattle.resume_set.proofs.contains.Statement.{statement}
 use Rattle.resume_set.proofs.contains.Tie as tie
 

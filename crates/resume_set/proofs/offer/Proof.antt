@@ -4,9 +4,10 @@ use native.Mathlib.Omega.{arith}
 use lib.Seq.{length-take-le}
 use denote.Ref.{now}
 use borrow.Author.Needs.{needs}
-use Rattle.resume_set.specs.Find.{Fits}
+use Rattle.set_check.specs.SetOf.{Fits}
 use Rattle.resume_set.specs.Answers.{eventOf}
-use Rattle.resume_set.proofs.AnswerLaws.{check-told, check-unfit, KeyParts, named-parts, offer-broken, offer-none, offer-some, offer-unfit}
+use Rattle.set_check.proofs.SetOfLaws.{check-told, check-unfit}
+use Rattle.resume_set.proofs.AnswerLaws.{KeyParts, named-parts, offer-broken, offer-none, offer-some, offer-unfit}
 use Rattle.resume_set.proofs.offer.Statement.{statement}
 use Rattle.resume_set.proofs.offer.Tie as tie
 

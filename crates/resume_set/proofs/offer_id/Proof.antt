@@ -6,8 +6,9 @@ use denote.Ref.{now}
 use borrow.Author.Tests.{not-true, not-false}
 use borrow.Author.Needs.{needs}
 use Rattle.packets.proofs.GnoLaws.{gnoTop-is, gno-says}
-use Rattle.resume_set.specs.Find.{setOf}
-use Rattle.resume_set.proofs.AnswerLaws.{fits-fair, id-unlawful, id-already, id-new}
+use Rattle.set_check.specs.SetOf.{setOf}
+use Rattle.set_check.proofs.SetOfLaws.{fits-fair}
+use Rattle.resume_set.proofs.AnswerLaws.{id-unlawful, id-already, id-new}
 use Rattle.resume_set.proofs.offer_id.Statement.{statement}
 use Rattle.resume_set.proofs.offer_id.Tie as tie
 

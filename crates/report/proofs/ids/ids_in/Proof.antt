@@ -3,7 +3,7 @@ use native.Mathlib.Omega.{arith}
 use denote.Ref.{now}
 use borrow.Author.Needs.{needs}
 use Rattle.gtid_sets.specs.Total.{total}
-use Rattle.resume_set.specs.Find.{setOf}
+use Rattle.set_check.specs.SetOf.{setOf}
 use Rattle.report.proofs.IdLaws.{Totalling, totalling-none, totalling-all, totalling-high, next-ids}
 use Rattle.report.proofs.ids.ids_in.Statement.{statement}
 use Rattle.report.proofs.ids.ids_in.Tie as tie

@@ -10,7 +10,7 @@ use Rattle.misc.specs.Parse.{part}
 use Rattle.packets.specs.Key.{order, orElse, orderRead}
 use Rattle.previous_gtids_event.specs.Rewrite.{entriesBytes}
 use Rattle.set_check.proofs.EntryPlaces.{EntryHere}
-use Rattle.resume_set.specs.Find.{setOf}
+use Rattle.set_check.specs.SetOf.{setOf}
 use Rattle.resume_set.proofs.FindLaws.{Passed, passed-none, Ahead, ahead, passed-all, stands, passed-next, found-here, found-absent}
 use Rattle.resume_set.proofs.find.find.Statement.{statement}
 use Rattle.resume_set.proofs.find.find.Tie as tie

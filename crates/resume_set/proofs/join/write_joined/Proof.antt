@@ -5,7 +5,7 @@ use denote.Ref.{now}
 use borrow.Author.Needs.{needs}
 use Rattle.gtid_sets.specs.Set.{join}
 use Rattle.gtid_sets.specs.Limits.{judgedAs, limits}
-use Rattle.resume_set.specs.Find.{setOf}
+use Rattle.set_check.specs.SetOf.{setOf}
 use Rattle.resume_set.proofs.AnswerLaws.{plan-judged, saved-refused, joined-short, joined-fits}
 use Rattle.resume_set.proofs.join.write_joined.Statement.{statement}
 use Rattle.resume_set.proofs.join.write_joined.Tie as tie

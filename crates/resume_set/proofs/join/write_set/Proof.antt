@@ -3,7 +3,7 @@ use mathlib.Core.Path.{_≡_, ap, _∙_}
 use denote.Ref.{now}
 use borrow.Author.Needs.{needs}
 use Rattle.gtid_sets.specs.Limits.{judgedAs, limits}
-use Rattle.resume_set.specs.Find.{setOf}
+use Rattle.set_check.specs.SetOf.{setOf}
 use Rattle.resume_set.proofs.AnswerLaws.{counts-judged, saved-fine, saved-refused, within}
 use Rattle.resume_set.proofs.join.write_set.Statement.{statement}
 use Rattle.resume_set.proofs.join.write_set.Tie as tie

@@ -6,8 +6,8 @@ use borrow.Author.Needs.{needs}
 use Rattle.misc.specs.Parse.{refusalOf}
 use Rattle.previous_gtids_event.specs.Previous.{previous}
 use Rattle.gtid_sets.specs.TakeIn.{lawful}
-use Rattle.resume_set.specs.Find.{entriesOf, Fits}
-use Rattle.resume_set.proofs.AnswerLaws.{check-told, check-unfit}
+use Rattle.set_check.specs.SetOf.{entriesOf, Fits}
+use Rattle.set_check.proofs.SetOfLaws.{check-told, check-unfit}
 use Rattle.resume_set.proofs.TakenLaws.{can-be-read}
 use Rattle.resume_set.proofs.JoinInLaws.{join-unfit, join-refused, join-unlawful, join-merged}
 use Rattle.resume_set.proofs.join_in.join_in.Statement.{statement}

@@ -12,7 +12,7 @@ use Rattle.previous_gtids_event.specs.Previous.{previous}
 use Rattle.gtid_sets.specs.Limits.{longestSet}
 use Rattle.gtid_sets.specs.TakeIn.{union}
 use Rattle.gtid_sets.proofs.LimitLaws.{longestSet-is}
-use Rattle.resume_set.specs.Find.{entriesOf}
+use Rattle.set_check.specs.SetOf.{entriesOf}
 use Rattle.resume_set.specs.Answers.{saved}
 use Rattle.resume_set.proofs.JoinInLaws.{anyBody, into-starts, into-set}
 use Rattle.resume_set.proofs.join_in.merge_into.Statement.{statement}

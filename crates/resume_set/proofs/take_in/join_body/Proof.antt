@@ -6,7 +6,7 @@ use borrow.Author.Needs.{needs}
 use lib.ListN.{length}
 use Rattle.previous_gtids_event.specs.Previous.{previous}
 use Rattle.gtid_sets.specs.TakeIn.{union}
-use Rattle.resume_set.specs.Find.{entriesOf}
+use Rattle.set_check.specs.SetOf.{entriesOf}
 use Rattle.resume_set.specs.TakeIn.{heldSet, widest}
 use Rattle.resume_set.proofs.FoldLaws.{Folding, folding-none, folding-all, folding-next, folding-room, folding-turn}
 use Rattle.resume_set.proofs.take_in.join_body.Statement.{statement}

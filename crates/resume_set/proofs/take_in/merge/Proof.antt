@@ -9,7 +9,7 @@ use lib.Seq.{length-take-le}
 use Rattle.misc.specs.Output.{outputOf, answerOf}
 use Rattle.previous_gtids_event.specs.Entry.{Entry}
 use Rattle.previous_gtids_event.specs.Previous.{previous}
-use Rattle.resume_set.specs.Find.{entriesOf}
+use Rattle.set_check.specs.SetOf.{entriesOf}
 use Rattle.resume_set.specs.Answers.{saved}
 use Rattle.resume_set.proofs.FoldLaws.{merge-starts, merge-ends}
 use Rattle.resume_set.proofs.take_in.merge.Statement.{statement}

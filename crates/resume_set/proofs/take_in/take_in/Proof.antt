@@ -5,8 +5,8 @@ use lib.ListN.{length, take}
 use lib.Seq.{length-take-le}
 use denote.Ref.{now}
 use borrow.Author.Tests.{not-true, not-false}
-use Rattle.resume_set.specs.Find.{setOf}
-use Rattle.resume_set.proofs.AnswerLaws.{check-told}
+use Rattle.set_check.specs.SetOf.{setOf}
+use Rattle.set_check.proofs.SetOfLaws.{check-told}
 use Rattle.resume_set.proofs.TakenLaws.{taken-refused, can-be-read, used-inside, taken-copied, taken-unlawful, taken-merged}
 use borrow.Author.Needs.{needs}
 use Rattle.resume_set.proofs.take_in.take_in.Statement.{statement}

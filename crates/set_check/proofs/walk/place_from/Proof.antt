@@ -1,12 +1,12 @@
--- `set_check::places::place_from` meets its contract.
+-- `set_check::walk::place_from` meets its contract.
 use mathlib.Core.Path.{_∙_}
 use native.Mathlib.Omega.{arith}
 use denote.Ref.{now}
 use borrow.Author.Needs.{needs}
 use Rattle.set_check.specs.Places.{placeFrom}
 use Rattle.set_check.proofs.EntryPlaces.{cut, place-made}
-use Rattle.set_check.proofs.places.place_from.Statement.{statement}
-use Rattle.set_check.proofs.places.place_from.Tie as tie
+use Rattle.set_check.proofs.walk.place_from.Statement.{statement}
+use Rattle.set_check.proofs.walk.place_from.Tie as tie
 
 add-counted : tie.Need-add-counted
 add-counted c = search needs

@@ -1,4 +1,4 @@
--- `set_check::places::place_at` meets its contract.
+-- `set_check::walk::place_at` meets its contract.
 use Prim.Native.Nat.{_+_, _/_}
 use mathlib.Core.Path.{_∙_}
 use native.Mathlib.Omega.{arith}
@@ -6,8 +6,8 @@ use denote.Ref.{now}
 use borrow.Author.Needs.{needs}
 use Rattle.set_check.specs.Places.{placeFrom}
 use Rattle.set_check.proofs.EntryPlaces.{cut, place-gone, place-tagged, place-plain}
-use Rattle.set_check.proofs.places.place_at.Statement.{statement}
-use Rattle.set_check.proofs.places.place_at.Tie as tie
+use Rattle.set_check.proofs.walk.place_at.Statement.{statement}
+use Rattle.set_check.proofs.walk.place_at.Tie as tie
 
 left-at-requires : tie.Need-left-at-requires
 left-at-requires c κs = search needs

@@ -1,11 +1,15 @@
-// Entries in the bytes of a set.
+// The one walk over a set's entries: a cursor tells which are left, and each step where the next one stands and what is left behind it.
+use crate::Checked;
+use crate::Cursor;
 use crate::EntryPlace;
+use crate::HEADER;
 use misc::bytes::left_at;
 use misc::le::number_at;
 ghost use mathlib.Core.Path.{_≡_};
 ghost use Prim.Native.Nat.{_+_, _≤_};
 ghost use lib.ListN.{length};
 ghost use Rattle.set_check.specs.Places.{placeFrom, nowhere, orNowhere, placeIn};
+ghost use Rattle.set_check.specs.Cursor.{begun, beyondOf};
 
 pub(crate) fn wide(b: u8) -> usize
     ensures { λ r. ⌜ r ≡ b ⌝ }
@@ -45,8 +49,17 @@ fn place_from(set: &[u8], tag_at: usize, tag_len: usize) -> EntryPlace
     }
 }
 
-// Where the entry at a place of a set stands: its tag, how many intervals it has, where they begin and where they end. All zero where
-// not all of it is there.
+// Where a walk over the entries of a set that has been checked begins.
+pub fn entries_of(checked: Checked) -> Cursor
+    ensures { λ r. ⌜ r ≡ begun checked ⌝ }
+{
+    Cursor {
+        tagged: checked.tagged,
+        at: HEADER,
+        left: checked.entries,
+    }
+}
+
 pub fn place_at(set: &[u8], at: usize, tagged: bool) -> EntryPlace
     ensures { λ r. ⌜ r ≡ placeIn tagged (now (set .entry)) at ⌝ }
 {
@@ -62,4 +75,30 @@ pub fn place_at(set: &[u8], at: usize, tagged: bool) -> EntryPlace
         return place_from(set, at + 17, tag_len);
     }
     place_from(set, at + 16, 0)
+}
+
+// Where the entry at a cursor stands: its tag, how many intervals it has, where they begin and where they end. All zero where not all of it
+// is there.
+pub fn entry_here(set: &[u8], from: Cursor) -> EntryPlace
+    ensures { λ r. ⌜ r ≡ placeIn (from .tagged) (now (set .entry)) (from .at) ⌝ }
+{
+    place_at(set, from.at, from.tagged)
+}
+
+// The entries behind that one.
+pub fn beyond(from: Cursor, entry: EntryPlace) -> Cursor
+    ensures { λ r. ⌜ r ≡ beyondOf from entry ⌝ }
+{
+    if from.left == 0 {
+        return Cursor {
+            tagged: from.tagged,
+            at: entry.next,
+            left: 0,
+        };
+    }
+    Cursor {
+        tagged: from.tagged,
+        at: entry.next,
+        left: from.left - 1,
+    }
 }
