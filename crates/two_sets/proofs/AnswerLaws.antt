@@ -22,18 +22,17 @@ use Rattle.gtid_sets.specs.Lent.{Lent, form, unfit, lentSet, GoodKeys}
 use Rattle.gtid_sets.specs.Combine.{without, isEmpty, subset}
 use Rattle.gtid_sets.proofs.Bools.{or-false-parts}
 use Rattle.gtid_sets.proofs.ByteLaws.{entries-least}
-use Rattle.gtid_sets.proofs.LimitLaws.{longestSet-is, limits-judged}
-use Rattle.gtid_sets.proofs.LentLaws.{lent-short}
+use Rattle.gtid_sets.proofs.LimitLaws.{limits-judged}
 use Rattle.gtid_sets.proofs.CombineLaws.{combined-good, combined-swap}
 use Rattle.set_check.specs.Check.{checkedOf}
 use Rattle.set_check.specs.declared.Checked.{Checked}
 use Rattle.misc.proofs.VarlenLaws.{one-byte}
 use Rattle.resume_set.specs.Answers.{saved}
-use Rattle.set_check.specs.SetOf.{setOf, Fits}
-use Rattle.set_check.proofs.SetOfLaws.{set-bytes, set-stands, check-told, check-unfit}
+use Rattle.set_check.proofs.CursorLaws.{cursor-begins}
+use Rattle.set_check.proofs.SetOfLaws.{check-told, check-unfit}
 use Rattle.resume_set.proofs.AnswerLaws.{saved-refused, joined-short, joined-fits}
 use Rattle.two_sets.specs.Answers.{combinedOutput, combineAnswers, combineLeaves, withinRead, withinAnswers, headRead, whichAnswers, OneUnfit, BeginningIs}
-use Rattle.set_check.specs.Cursor.{entriesLeft, CursorIs, begun}
+use Rattle.set_check.specs.Cursor.{entriesLeft, begun}
 use Rattle.two_sets.specs.Pairs.{CursorsAre, combining}
 use Rattle.two_sets.specs.Write.{MadeIs, madeLength}
 use Rattle.two_sets.specs.declared.Cursors.{Cursors}
@@ -45,20 +44,6 @@ use Rattle.two_sets.specs.declared.Beginning.{Beginning}
 use Rattle.two_sets.specs.declared.Made.{Made}
 
 -- ---- where the walk begins
-
--- a set that was checked: its entries, from place 8 on
-starts : (bs : List ℕ) (c : Checked) → Fits bs c → CursorIs bs (begun c) × (lentSet bs ≡ form (entriesLeft bs (begun c)))
-starts bs c f =
-    let (are, there) = set-stands bs (c .tagged) (c .entries) (f .set) in (
-      record {
-        there = there;
-        formed = rw are (f .set .formed);
-        keyed = rw are (f .set .keyed);
-        small = omega (arith, lent-short bs (setOf bs) (f .lent), longestSet-is);
-        inside = set-bytes bs (c .tagged) (c .entries) (f .set) .0;
-      },
-      f .lent ∙ ap form (sym are),
-    )
 
 module _ (bs cs : List ℕ) (c : Checked) (p : c ≡ checkedOf (lentSet bs)) (from : Cursors) where
   -- the first bytes are none
@@ -72,9 +57,9 @@ module _ (bs cs : List ℕ) (c : Checked) (p : c ≡ checkedOf (lentSet bs)) (fr
       → BeginningIs bs cs (record { refusal = d .refusal; from = from })
   second-decides fine d q one two =
       let f = check-told bs c p fine in
-      let (first, here) = starts bs c f in
+      let (first, here) = cursor-begins bs c f in
       record {
-        lent = λ z. let (second, there) = starts cs d (check-told cs d q z) in record {
+        lent = λ z. let (second, there) = cursor-begins cs d (check-told cs d q z) in record {
           first = rw one here;
           second = rw two there;
           cursors = record { first = rw one first; second = rw two second };

@@ -3,34 +3,27 @@ use Prim.Native.Nat.{ℕ, zero, suc, _+_, _-_, _*_, _<_, _≤_, Ordering, Orderi
 use mathlib.Core.Path.{_≡_, refl, sym, ap, _∙_}
 use mathlib.Core.Logic.{inl, inr}
 use mathlib.Core.Bool.{Bool, true, false}
-use mathlib.Core.List.{List, [], _∷_, _++_}
+use mathlib.Core.List.{List, [], _∷_}
 use native.Mathlib.Omega.{arith}
 use lib.ListN.{length}
 use Rattle.misc.specs.Parse.{part}
-use Rattle.misc.proofs.ParseLaws.{part-length}
 use Rattle.packets.specs.Gno.{Interval}
 use Rattle.packets.specs.Key.{Key, order, orElse, orderRead}
 use Rattle.packets.specs.declared.KeyOrder.{KeyOrder}
 use Rattle.packets.specs.declared.KeyOrder.the-variants.{Before, Same, After}
 use Rattle.packets.proofs.Keys.{flip, order-eq, order-flip, order-append}
-use Rattle.previous_gtids_event.specs.Entry.{entry, tagOf}
-use Rattle.previous_gtids_event.specs.Previous.{GoodKey}
-use Rattle.packets.proofs.TagLaws.{none-or-tag-short}
-use Rattle.previous_gtids_event.proofs.Reading.{tag-of}
-use Rattle.gtid_sets.specs.Interval.{Gapped}
-use Rattle.gtid_sets.specs.Set.{SetForm}
-use Rattle.gtid_sets.specs.Lent.{GoodKeys}
+use Rattle.previous_gtids_event.specs.Entry.{entry}
 use Rattle.gtid_sets.specs.Combine.{marks, swept, keep, combined}
 use Rattle.gtid_sets.proofs.SweepLaws.{marks-rise, sweep-shut}
 use Rattle.gtid_sets.proofs.CombineLaws.{combined-lt, combined-eq, combined-gt}
 use Rattle.misc.specs.Le.{numberAt}
-use Rattle.set_check.specs.Places.{intervalsAt, placeAt, placeIn, keyThere, entriesAt, EntriesIn}
+use Rattle.set_check.specs.Places.{intervalsAt, placeIn}
 use Rattle.set_check.specs.declared.EntryPlace.{EntryPlace}
-use Rattle.set_check.proofs.EntryPlaces.{lies, place-here}
+use Rattle.set_check.proofs.CursorLaws.{Ahead, ahead, none-ahead}
 use Rattle.two_sets.specs.Marks.{marksAt, marksOf, SideIs}
 use Rattle.set_check.specs.Cursor.{entriesLeft, CursorIs, beyondOf}
 use Rattle.two_sets.specs.Pairs.{CursorsAre, combining, uuidsOrder, tagsOrder, UuidNext, sideOf, noSide, keyPlace, ofFirst, ofSecond, ofBoth, Moves, keyIn, PairIs}
-use Rattle.two_sets.specs.declared.Cursor.{Cursor}
+use Rattle.set_check.specs.declared.Cursor.{Cursor}
 use Rattle.two_sets.specs.declared.Cursors.{Cursors}
 use Rattle.two_sets.specs.declared.Pair.{Pair}
 
@@ -44,63 +37,19 @@ marks-at (suc n) bs at =
 
 -- ---- the next entry of a set
 
-pub record Ahead (bs : List ℕ) (c : Cursor) (p : EntryPlace) : Type 0 where
-  pub list : List Interval
-  pub is : entriesLeft bs c ≡ entry (part bs (c .at) 16 ++ part bs (p .«tag_at») (p .«tag_len»)) list ∷ entriesLeft bs (beyondOf c p)
-  pub marked : marksOf bs (sideOf p) ≡ marks list
-  pub gapped : Gapped 0 list
-  pub side : SideIs bs (sideOf p)
-  pub next : CursorIs bs (beyondOf c p)
-  pub good : GoodKey (part bs (c .at) 16 ++ part bs (p .«tag_at») (p .«tag_len»))
-  pub uuid : length (part bs (c .at) 16) ≡ 16
-  pub uuid-inside : c .at + 16 ≤ length bs
-  pub tag-inside : p .«tag_at» + p .«tag_len» ≤ length bs
-  pub short : p .«tag_len» ≤ 32
-  pub few : p .count ≤ 65536
-  pub grows : c .at + (24 + p .«tag_len» + 16 * p .count) ≤ p .next
+module _ (bs : List ℕ) (c : Cursor) (p : EntryPlace) (x : Ahead bs c p) where
+  -- its marks rise
+  side-of : SideIs bs (sideOf p)
+  side-of = record {
+    there = omega (arith, x .next-is, x .inside);
+    rises = rw (marks-at (p .count) bs (p .first)) (marks-rise 0 (intervalsAt (p .count) bs (p .first)) (x .gapped));
+  }
 
-ahead-at : (bs : List ℕ) (w : Bool) (at n : ℕ) → EntriesIn (suc n) w bs at → SetForm (entriesAt (suc n) w bs at) → GoodKeys (entriesAt (suc n) w bs at)
-    → length bs ≤ 65536 → Ahead bs (record { tagged = w; at = at; left = suc n }) (placeAt w bs at)
-ahead-at bs w at n there f g small =
-    let p : EntryPlace = placeAt w bs at in
-    let l = lies w bs at in
-    let less : suc n - 1 ≡ n = omega arith in
-    let is : List Interval = intervalsAt (p .count) bs (p .first) in
-    let marked : marksOf bs (sideOf p) ≡ marks is = marks-at (p .count) bs (p .first) in
-    let uuid : length (part bs at 16) ≡ 16 = part-length 16 bs at (omega (arith, l .tag-after, l .first-is, l .next-is, there .0)) in
-    let inside : p .«tag_at» + p .«tag_len» ≤ length bs = omega (arith, l .first-is, l .next-is, there .0) in
-    let tag : length (tagOf (keyThere w bs at)) ≡ p .«tag_len» =
-    ap length (tag-of (part bs at 16) (part bs (p .«tag_at») (p .«tag_len»)) uuid) ∙ part-length (p .«tag_len») bs (p .«tag_at») inside in
-    record {
-      list = is;
-      is = rw less;
-      marked = marked;
-      gapped = f .1;
-      side = record { there = omega (arith, l .next-is, there .0); rises = rw marked (marks-rise 0 is (f .1)) };
-      next = record { there = rw less (there .1); formed = rw less (f .3); keyed = rw less (g .1); small = small; inside = there .0 };
-      good = g .0;
-      uuid = uuid;
-      uuid-inside = omega (arith, l .tag-after, l .first-is, l .next-is, there .0);
-      tag-inside = inside;
-      short = omega (arith, tag, none-or-tag-short (tagOf (keyThere w bs at)) (g .0 .rule));
-      few = omega (arith, l .next-is, there .0);
-      grows = omega (arith, l .tag-after, l .first-is, l .next-is);
-    }
-
-pub ahead : (bs : List ℕ) (c : Cursor) (p : EntryPlace) → CursorIs bs c → 0 < c .left → p ≡ placeIn (c .tagged) bs (c .at) → Ahead bs c p
-ahead bs c p i some told = go (c .left) (omega arith) (i .there) (i .formed) (i .keyed) some
-  where
-    go : (n : ℕ) → n ≡ c .left → EntriesIn n (c .tagged) bs (c .at) → SetForm (entriesAt n (c .tagged) bs (c .at))
-        → GoodKeys (entriesAt n (c .tagged) bs (c .at)) → 0 < n → Ahead bs c p
-    go zero e t f g h = absurd (omega arith)
-    go (suc n) e t f g h = rw (told ∙ place-here bs (c .tagged) (c .at) (t .0)) (rw e at (ahead-at bs (c .tagged) (c .at) n t f g (i .small)))
+  few : Moves p
+  few = omega (arith, x .next-is, x .inside, x .next .small)
 
 pub uuid-fits : (bs : List ℕ) (c : Cursor) → CursorIs bs c → 0 < c .left → c .at + 16 ≤ length bs
 uuid-fits bs c i some = ahead bs c (placeIn (c .tagged) bs (c .at)) i some refl .uuid-inside
-
--- no entry is left
-none-ahead : (bs : List ℕ) (c : Cursor) → c .left ≡ 0 → entriesLeft bs c ≡ []
-none-ahead bs c e = rw e
 
 pub none-combined : (op : Bool → Bool → Bool) (bs cs : List ℕ) (c : Cursors) → c .first .left ≡ 0 → c .second .left ≡ 0 → combining op bs cs c ≡ []
 none-combined op bs cs c p q = rw (p, q)
@@ -118,6 +67,18 @@ module _ (bs cs : List ℕ) (c : Cursors) (i : CursorsAre bs cs c) (p q : EntryP
   abbrev secondKey : Key
   secondKey = keyIn bs cs (keyPlace false (c .second) q)
 
+  abbrev firstList : List Interval
+  firstList = intervalsAt (p .count) bs (p .first)
+
+  abbrev secondList : List Interval
+  secondList = intervalsAt (q .count) cs (q .first)
+
+  first-marked : marksOf bs (sideOf p) ≡ marks firstList
+  first-marked = marks-at (p .count) bs (p .first)
+
+  second-marked : marksOf cs (sideOf q) ≡ marks secondList
+  second-marked = marks-at (q .count) cs (q .first)
+
   -- what is made of the next entries, by the order of their keys
   abbrev pairOf : KeyOrder → Pair
   pairOf Before = ofFirst c p
@@ -131,16 +92,15 @@ module _ (bs cs : List ℕ) (c : Cursors) (i : CursorsAre bs cs c) (p q : EntryP
   inSecond some = ahead cs (c .second) q (i .second) some tq
 
   alone-first : (some : 0 < c .first .left)
-      → let x : Ahead bs (c .first) p = inFirst some in
-      ((op : Bool → Bool → Bool) → combined op (entry firstKey (x .list) ∷ entriesLeft bs (beyondOf (c .first) p)) (entriesLeft cs (c .second))
-      ≡ keep firstKey (swept op (x .list) []) (combined op (entriesLeft bs (beyondOf (c .first) p)) (entriesLeft cs (c .second))))
+      → ((op : Bool → Bool → Bool) → combined op (entry firstKey firstList ∷ entriesLeft bs (beyondOf (c .first) p)) (entriesLeft cs (c .second))
+      ≡ keep firstKey (swept op firstList []) (combined op (entriesLeft bs (beyondOf (c .first) p)) (entriesLeft cs (c .second))))
       → PairIs bs cs c (ofFirst c p)
   alone-first some goes =
       let x = inFirst some in
       record {
-        goes = λ op. ap (λ s. combined op s (entriesLeft cs (c .second))) (x .is) ∙ goes op ∙ rw (x .marked);
-        shut = λ op h. rw (x .marked) (sweep-shut op h (x .list) [] (x .gapped) tt);
-        sides = record { first = x .side; second = no-side cs };
+        goes = λ op. ap (λ s. combined op s (entriesLeft cs (c .second))) (x .is) ∙ goes op ∙ rw (first-marked);
+        shut = λ op h. rw (first-marked) (sweep-shut op h firstList [] (x .gapped) tt);
+        sides = record { first = side-of bs (c .first) p x; second = no-side cs };
         after = record { first = x .next; second = i .second };
         key = record { uuid-inside = x .uuid-inside; tag-inside = x .tag-inside; short = x .short; good = x .good };
         less = omega arith;
@@ -148,16 +108,15 @@ module _ (bs cs : List ℕ) (c : Cursors) (i : CursorsAre bs cs c) (p q : EntryP
       }
 
   alone-second : (some : 0 < c .second .left)
-      → let y : Ahead cs (c .second) q = inSecond some in
-      ((op : Bool → Bool → Bool) → combined op (entriesLeft bs (c .first)) (entry secondKey (y .list) ∷ entriesLeft cs (beyondOf (c .second) q))
-      ≡ keep secondKey (swept op [] (y .list)) (combined op (entriesLeft bs (c .first)) (entriesLeft cs (beyondOf (c .second) q))))
+      → ((op : Bool → Bool → Bool) → combined op (entriesLeft bs (c .first)) (entry secondKey secondList ∷ entriesLeft cs (beyondOf (c .second) q))
+      ≡ keep secondKey (swept op [] secondList) (combined op (entriesLeft bs (c .first)) (entriesLeft cs (beyondOf (c .second) q))))
       → PairIs bs cs c (ofSecond c q)
   alone-second some goes =
       let y = inSecond some in
       record {
-        goes = λ op. ap (λ t. combined op (entriesLeft bs (c .first)) t) (y .is) ∙ goes op ∙ rw (y .marked);
-        shut = λ op h. rw (y .marked) (sweep-shut op h [] (y .list) tt (y .gapped));
-        sides = record { first = no-side bs; second = y .side };
+        goes = λ op. ap (λ t. combined op (entriesLeft bs (c .first)) t) (y .is) ∙ goes op ∙ rw (second-marked);
+        shut = λ op h. rw (second-marked) (sweep-shut op h [] secondList tt (y .gapped));
+        sides = record { first = no-side bs; second = side-of cs (c .second) q y };
         after = record { first = i .first; second = y .next };
         key = record { uuid-inside = y .uuid-inside; tag-inside = y .tag-inside; short = y .short; good = y .good };
         less = omega arith;
@@ -170,10 +129,10 @@ module _ (bs cs : List ℕ) (c : Cursors) (i : CursorsAre bs cs c) (p q : EntryP
       let x = inFirst some in
       let y = inSecond more in
       record {
-        goes = λ op. rw (x .is, y .is) (combined-eq op firstKey secondKey (x .list) (y .list)
-            (entriesLeft bs (beyondOf (c .first) p)) (entriesLeft cs (beyondOf (c .second) q)) k ∙ rw (x .marked, y .marked));
-        shut = λ op h. rw (x .marked, y .marked) (sweep-shut op h (x .list) (y .list) (x .gapped) (y .gapped));
-        sides = record { first = x .side; second = y .side };
+        goes = λ op. rw (x .is, y .is) (combined-eq op firstKey secondKey firstList secondList
+            (entriesLeft bs (beyondOf (c .first) p)) (entriesLeft cs (beyondOf (c .second) q)) k ∙ rw (first-marked, second-marked));
+        shut = λ op h. rw (first-marked, second-marked) (sweep-shut op h firstList secondList (x .gapped) (y .gapped));
+        sides = record { first = side-of bs (c .first) p x; second = side-of cs (c .second) q y };
         after = record { first = x .next; second = y .next };
         key = record { uuid-inside = x .uuid-inside; tag-inside = x .tag-inside; short = x .short; good = x .good };
         less = omega arith;
@@ -190,31 +149,31 @@ module _ (bs cs : List ℕ) (c : Cursors) (i : CursorsAre bs cs c) (p q : EntryP
       let x = inFirst some in
       let y = inSecond more in
       alone-first some (λ op. rw (y .is) (combined-lt op firstKey secondKey
-      (x .list) (y .list) (entriesLeft bs (beyondOf (c .first) p)) (entriesLeft cs (beyondOf (c .second) q)) e))
+      firstList secondList (entriesLeft bs (beyondOf (c .first) p)) (entriesLeft cs (beyondOf (c .second) q)) e))
 
   after : (some : 0 < c .first .left) (more : 0 < c .second .left) → order firstKey secondKey ≡ Ordering·gt → PairIs bs cs c (ofSecond c q)
   after some more e =
       let x = inFirst some in
       let y = inSecond more in
       alone-second more (λ op. rw (x .is) (combined-gt op firstKey secondKey
-      (x .list) (y .list) (entriesLeft bs (beyondOf (c .first) p)) (entriesLeft cs (beyondOf (c .second) q)) (order-flip firstKey secondKey ∙ ap flip e)))
+      firstList secondList (entriesLeft bs (beyondOf (c .first) p)) (entriesLeft cs (beyondOf (c .second) q)) (order-flip firstKey secondKey ∙ ap flip e)))
 
   -- the first set has the next uuid alone, or the second
-  pub first-next : UuidNext bs cs c Before → Moves (c .first) p × PairIs bs cs c (ofFirst c p)
-  first-next (some, inl gone) = ((some, inFirst some .few), alone-first some (λ op. rw (none-ahead cs (c .second) gone)))
-  first-next (some, inr (more, e)) = ((some, inFirst some .few), before some more (keys-order some more ∙ rw e))
+  pub first-next : UuidNext bs cs c Before → Moves p × PairIs bs cs c (ofFirst c p)
+  first-next (some, inl gone) = (few bs (c .first) p (inFirst some), alone-first some (λ op. rw (none-ahead cs (c .second) gone)))
+  first-next (some, inr (more, e)) = (few bs (c .first) p (inFirst some), before some more (keys-order some more ∙ rw e))
 
-  pub second-next : UuidNext bs cs c After → Moves (c .second) q × PairIs bs cs c (ofSecond c q)
-  second-next (more, inl gone) = ((more, inSecond more .few), alone-second more (λ op. rw (none-ahead bs (c .first) gone)))
-  second-next (more, inr (some, e)) = ((more, inSecond more .few), after some more (keys-order some more ∙ rw e))
+  pub second-next : UuidNext bs cs c After → Moves q × PairIs bs cs c (ofSecond c q)
+  second-next (more, inl gone) = (few cs (c .second) q (inSecond more), alone-second more (λ op. rw (none-ahead bs (c .first) gone)))
+  second-next (more, inr (some, e)) = (few cs (c .second) q (inSecond more), after some more (keys-order some more ∙ rw e))
 
   -- both have it
   module _ (n : UuidNext bs cs c Same) where
     pub tags-inside : (p .«tag_at» + p .«tag_len» ≤ length bs) × (q .«tag_at» + q .«tag_len» ≤ length cs)
     tags-inside = (inFirst (n .0) .tag-inside, inSecond (n .1) .tag-inside)
 
-    pub both-move : Moves (c .first) p × Moves (c .second) q
-    both-move = ((n .0, inFirst (n .0) .few), (n .1, inSecond (n .1) .few))
+    pub both-move : Moves p × Moves q
+    both-move = (few bs (c .first) p (inFirst (n .0)), few cs (c .second) q (inSecond (n .1)))
 
     by-tags : (o : Ordering) → tagsOrder bs cs p q ≡ o → PairIs bs cs c (pairOf (orderRead o))
     by-tags Ordering·lt e = before (n .0) (n .1) (keys-order (n .0) (n .1) ∙ rw (n .2, e))

@@ -4,7 +4,7 @@ use mathlib.Core.Path.{_≡_, refl, sym, ap, _∙_}
 use mathlib.Core.Bool.{Bool, true, false, _||_, or-assoc, or-false, Bool·not-not}
 use mathlib.Core.List.{List, [], _∷_, _++_, append-assoc}
 use native.Mathlib.Omega.{arith}
-use lib.Dec.{ltb, leb, eqb}
+use lib.Dec.{ltb, eqb}
 use lib.ListN.{length, take, drop, length-append}
 use lib.Seq.{length-take-le, take-append-le, take-take, drop-at}
 use borrow.Author.Tests.{ne-eqb}
@@ -20,7 +20,8 @@ use Rattle.packets.proofs.Tests.{split, clash}
 use Rattle.previous_gtids_event.specs.Entry.{Entry, entry}
 use Rattle.previous_gtids_event.specs.Rewrite.{intervalsBytes, entryBytes, entriesBytes, anyTag}
 use Rattle.previous_gtids_event.proofs.Reading.{uuid-of, tag-of}
-use Rattle.gtid_sets.specs.Limits.{maxOfEntry, intervals, over, crowds}
+use Rattle.gtid_sets.proofs.LimitLaws.{over-most}
+use Rattle.gtid_sets.specs.Limits.{intervals, crowds}
 use Rattle.gtid_sets.specs.Combine.{spans, isOpen, keep}
 use Rattle.misc.proofs.VarlenLaws.{one-byte}
 use Rattle.resume_set.specs.Put.{headRun}
@@ -210,11 +211,8 @@ pub record Making (op : Bool → Bool → Bool) (bs cs : List ℕ) (w : Bool) (a
   pub goes-on : (l : List ℕ) (r : ℕ) → WhereFits out (made .end) (entriesBytes w (combining op bs cs left)) l r → WhereFits l₀ 8 (entriesBytes w all) l r
   pub few : (made .entries ≤ placesOfBoth left) × (made .intervals ≤ placesOfBoth left) × (made .crowded ≤ made .entries) × (made .end ≤ 2 * placesOfBoth left)
 
-places-low : (bs cs : List ℕ) (c : Cursors) → CursorsAre bs cs c → placesOfBoth c ≤ 131072
+places-low : (bs cs : List ℕ) (c : Cursors) → CursorsAre bs cs c → placesOfBoth c ≤ 2 ^ 41
 places-low bs cs c i = omega (arith, i .first .inside, i .first .small, i .second .inside, i .second .small)
-
-over-one : (n : ℕ) → over n ≤ 1
-over-one n = split (leb n maxOfEntry) (λ h. rw h (omega arith)) (λ h. rw h (omega arith))
 
 pub head-short : (w : Bool) (len : ℕ) → headLength w len ≤ 25 + len
 head-short true len = omega arith
@@ -225,7 +223,7 @@ grown-few : (z : Made) (w : Bool) (len n p q : ℕ) → p + (24 + len + 8 * n) �
     → let y : Made = grownBy z w len n in (y .entries ≤ q) × (y .intervals ≤ q) × (y .crowded ≤ y .entries) × (y .end ≤ 2 * q)
 grown-few z w len n p q h f = split (eqb n 0)
     (λ e. rw e (omega arith, omega arith, omega arith, omega arith))
-    (λ e. rw e (omega arith, omega arith, omega (arith, over-one (n / 2)), omega (arith, head-short w len)))
+    (λ e. rw e (omega arith, omega arith, omega (arith, over-most (n / 2)), omega (arith, head-short w len)))
 
 module _ (op : Bool → Bool → Bool) (bs cs : List ℕ) (w : Bool) (l₀ : List ℕ) where
   pub making-none : (from : Cursors) → CursorsAre bs cs from → 8 ≤ placesOfBoth from

@@ -12,11 +12,9 @@ use Rattle.previous_gtids_event.specs.Entry.{Entry}
 use Rattle.gtid_sets.specs.Combine.{combined, subset}
 use Rattle.gtid_sets.specs.Lent.{Lent, form, unfit, lentSet}
 use Rattle.resume_set.specs.Answers.{saved}
-use Rattle.set_check.specs.declared.Checked.{Checked}
 use Rattle.two_sets.specs.declared.AllWithin.{AllWithin}
 use Rattle.two_sets.specs.declared.Choice.{Choice}
 use Rattle.two_sets.specs.declared.Choice.the-variants.{First, Second, Refused}
-use Rattle.two_sets.specs.declared.Cursor.{Cursor}
 use Rattle.two_sets.specs.declared.Cursors.{Cursors}
 use Rattle.two_sets.specs.declared.Beginning.{Beginning}
 use Rattle.set_check.specs.Cursor.{entriesLeft}
@@ -71,10 +69,6 @@ placeOf Second first second = second
 placeOf (Refused r) first second = first
 
 -- ---- inside
-
--- the entries of a set that was checked
-abbrev pub begun : Checked → Cursor
-begun c = record { tagged = c .tagged; at = 8; left = c .entries }
 
 -- the first bytes are no set, or they are one and the second are none
 abbrev pub OneUnfit : List ℕ → List ℕ → Type 0

@@ -1,5 +1,5 @@
 -- The entries of two sets, one key after another, as they stand in the bytes.
-use Prim.Native.Nat.{ℕ, _+_, _-_, _*_, _<_, _≤_, Ordering, Ordering·lt, Ordering·eq, Ordering·gt}
+use Prim.Native.Nat.{ℕ, _+_, _-_, _*_, _^_, _<_, _≤_, Ordering, Ordering·lt, Ordering·eq, Ordering·gt}
 use mathlib.Core.Path.{_≡_}
 use mathlib.Core.Logic.{_⊎_}
 use mathlib.Core.Bool.{Bool, true, false}
@@ -12,29 +12,15 @@ use Rattle.packets.specs.declared.KeyOrder.{KeyOrder}
 use Rattle.packets.specs.declared.KeyOrder.the-variants.{Before, Same, After}
 use Rattle.previous_gtids_event.specs.Entry.{Entry}
 use Rattle.previous_gtids_event.specs.Previous.{GoodKey}
-use Rattle.gtid_sets.specs.Set.{SetForm}
-use Rattle.gtid_sets.specs.Lent.{GoodKeys}
 use Rattle.gtid_sets.specs.Combine.{spans, keep, combined}
-use Rattle.set_check.specs.Places.{entriesAt, EntriesIn}
+use Rattle.set_check.specs.Cursor.{entriesLeft, beyondOf, CursorIs}
 use Rattle.set_check.specs.declared.EntryPlace.{EntryPlace}
 use Rattle.two_sets.specs.Marks.{going, leftOf, Shut, SidesAre}
 use Rattle.two_sets.specs.declared.Side.{Side}
-use Rattle.two_sets.specs.declared.Cursor.{Cursor}
+use Rattle.set_check.specs.declared.Cursor.{Cursor}
 use Rattle.two_sets.specs.declared.Cursors.{Cursors}
 use Rattle.two_sets.specs.declared.KeyPlace.{KeyPlace}
 use Rattle.two_sets.specs.declared.Pair.{Pair}
-
--- the entries that are left
-abbrev pub entriesLeft : List ℕ → Cursor → List Entry
-entriesLeft bs c = entriesAt (c .left) (c .tagged) bs (c .at)
-
--- they are all there, and in set form
-pub record CursorIs (bs : List ℕ) (c : Cursor) : Type 0 where
-  pub there : EntriesIn (c .left) (c .tagged) bs (c .at)
-  pub formed : SetForm (entriesLeft bs c)
-  pub keyed : GoodKeys (entriesLeft bs c)
-  pub small : length bs ≤ 65536
-  pub inside : c .at ≤ length bs
 
 pub record CursorsAre (bs cs : List ℕ) (c : Cursors) : Type 0 where
   pub first : CursorIs bs (c .first)
@@ -76,9 +62,6 @@ noSide = record { at = 0; left = 0 }
 abbrev pub keyPlace : Bool → Cursor → EntryPlace → KeyPlace
 keyPlace first c p = record { «of_first» = first; at = c .at; «tag_at» = p .«tag_at»; «tag_len» = p .«tag_len» }
 
-abbrev pub beyondOf : Cursor → EntryPlace → Cursor
-beyondOf c p = record { tagged = c .tagged; at = p .next; left = c .left - 1 }
-
 -- the next key is in the first set alone, in the second alone, or in both
 abbrev pub ofFirst : Cursors → EntryPlace → Pair
 ofFirst c p =
@@ -104,9 +87,9 @@ ofBoth c p q =
       after = record { first = beyondOf (c .first) p; second = beyondOf (c .second) q };
     }
 
--- there is an entry to pass, and its intervals aren't many
-abbrev pub Moves : Cursor → EntryPlace → Type 0
-Moves c p = (0 < c .left) × (p .count ≤ 65536)
+-- its intervals aren't many
+abbrev pub Moves : EntryPlace → Type 0
+Moves p = p .count ≤ 2 ^ 40
 
 -- ---- what `next_pair` tells
 

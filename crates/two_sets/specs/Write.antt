@@ -47,7 +47,7 @@ grownBy z w len marks =
 -- numbers that don't come near the end of their range
 abbrev pub Below : Made → ℕ → ℕ → Type 0
 Below z len marks =
-    (z .entries < 2 ^ 40) × (z .intervals < 2 ^ 40) × (z .crowded < 2 ^ 40) × (z .end < 2 ^ 40) × (len ≤ 32) × (marks < 2 ^ 40)
+    (z .entries < 2 ^ 48) × (z .intervals < 2 ^ 48) × (z .crowded < 2 ^ 48) × (z .end < 2 ^ 48) × (len ≤ 32) × (marks < 2 ^ 48)
 
 -- these are the counts of a result, and the place behind its entries, written from place 8 on with tags or without
 pub record MadeIs (s : List Entry) (w : Bool) (r : Made) : Type 0 where

@@ -5,14 +5,14 @@
 use differ::own_ids;
 use misc::Wrote;
 use misc::refusal::DIVERGED;
-use set_check::Checked;
+use set_check::Cursor;
 use set_check::check::check;
+use set_check::walk::entries_of;
 use write::write_combined;
 ghost use denote.Ref.{ptr};
 ghost use mathlib.Core.Path.{_≡_};
 ghost use Rattle.gtid_sets.specs.Combine.{either, both, without};
 ghost use Rattle.two_sets.specs.Marks.{saidBy};
-ghost use Rattle.set_check.specs.Cursor.{begun};
 ghost use Rattle.two_sets.specs.Answers.{combineAnswers, combineLeaves, withinAnswers, whichAnswers, partOf, placeOf, BeginningIs};
 
 mod differ;
@@ -75,14 +75,7 @@ pub(crate) struct Turn {
     pub(crate) mark: u64,
 }
 
-// The entries of a set that are left: whether they have tags, where they begin, and how many there are.
-pub(crate) struct Cursor {
-    pub(crate) tagged: bool,
-    pub(crate) at: usize,
-    pub(crate) left: usize,
-}
-
-// Those of the first set, and of the second.
+// The entries that are left of the first set, and of the second.
 pub(crate) struct Cursors {
     pub(crate) first: Cursor,
     pub(crate) second: Cursor,
@@ -125,23 +118,12 @@ pub(crate) struct Made {
     pub(crate) end: usize,
 }
 
-// The entries of a set that has been checked.
-fn cursor_of(checked: Checked) -> Cursor
-    ensures { λ r. ⌜ r ≡ begun checked ⌝ }
-{
-    Cursor {
-        tagged: checked.tagged,
-        at: 8,
-        left: checked.entries,
-    }
-}
-
 // Judges the first bytes, and then the second.
 fn begin(first: &[u8], second: &[u8]) -> Beginning
     ensures { λ r. ⌜ BeginningIs (now (first .entry)) (now (second .entry)) r ⌝ }
 {
     let one = check(first);
-    let first_cursor = cursor_of(one);
+    let first_cursor = entries_of(one);
     let unfit = one.refusal;
     if unfit != 0 {
         return Beginning {
@@ -157,7 +139,7 @@ fn begin(first: &[u8], second: &[u8]) -> Beginning
         refusal: two.refusal,
         from: Cursors {
             first: first_cursor,
-            second: cursor_of(two),
+            second: entries_of(two),
         },
     }
 }

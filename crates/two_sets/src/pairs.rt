@@ -1,5 +1,4 @@
 // The entries of two sets, one key after another.
-use crate::Cursor;
 use crate::Cursors;
 use crate::KeyPlace;
 use crate::Pair;
@@ -7,19 +6,20 @@ use crate::Side;
 use crate::Sides;
 use packets::KeyOrder;
 use packets::key_order;
+use set_check::Cursor;
 use set_check::EntryPlace;
-use set_check::walk::place_at;
+use set_check::walk::beyond;
+use set_check::walk::entry_here;
 ghost use mathlib.Core.Path.{_≡_};
-ghost use Prim.Native.Nat.{_+_, _≤_, _<_};
+ghost use Prim.Native.Nat.{_+_, _^_, _≤_, _<_};
 ghost use lib.ListN.{length};
 ghost use Rattle.packets.specs.Key.{orderRead};
 ghost use Rattle.packets.specs.declared.KeyOrder.the-variants.{Same};
-ghost use Rattle.set_check.specs.Cursor.{beyondOf};
 ghost use Rattle.two_sets.specs.Pairs.{CursorsAre, entriesOfBoth, sideOf, noSide, keyPlace, Moves, ofFirst, ofSecond, ofBoth, tagsOrder, UuidNext, PairIs};
 
 // The marks of an entry.
 fn side_of(place: EntryPlace) -> Side
-    requires { ⌜ place .count ≤ 65536 ⌝ }
+    requires { ⌜ place .count ≤ 2 ^ 40 ⌝ }
     ensures { λ r. ⌜ r ≡ sideOf place ⌝ }
 {
     Side {
@@ -46,21 +46,9 @@ fn key_of(of_first: bool, from: Cursor, place: EntryPlace) -> KeyPlace
     }
 }
 
-// The entries after the next.
-fn beyond(from: Cursor, place: EntryPlace) -> Cursor
-    requires { ⌜ 0 < from .left ⌝ }
-    ensures { λ r. ⌜ r ≡ beyondOf from place ⌝ }
-{
-    Cursor {
-        tagged: from.tagged,
-        at: place.next,
-        left: from.left - 1,
-    }
-}
-
 // The next key is one of the first set alone.
 fn of_first(from: Cursors, one: EntryPlace) -> Pair
-    requires { ⌜ Moves (from .first) one ⌝ }
+    requires { ⌜ Moves one ⌝ }
     ensures { λ r. ⌜ r ≡ ofFirst from one ⌝ }
 {
     let first = from.first;
@@ -80,7 +68,7 @@ fn of_first(from: Cursors, one: EntryPlace) -> Pair
 
 // One of the second set alone.
 fn of_second(from: Cursors, two: EntryPlace) -> Pair
-    requires { ⌜ Moves (from .second) two ⌝ }
+    requires { ⌜ Moves two ⌝ }
     ensures { λ r. ⌜ r ≡ ofSecond from two ⌝ }
 {
     let first = from.first;
@@ -100,7 +88,7 @@ fn of_second(from: Cursors, two: EntryPlace) -> Pair
 
 // One of both.
 fn of_both(from: Cursors, one: EntryPlace, two: EntryPlace) -> Pair
-    requires { ⌜ Moves (from .first) one × Moves (from .second) two ⌝ }
+    requires { ⌜ Moves one × Moves two ⌝ }
     ensures { λ r. ⌜ r ≡ ofBoth from one two ⌝ }
 {
     let first = from.first;
@@ -153,8 +141,8 @@ fn same_uuid(first: &[u8], second: &[u8], from: Cursors) -> Pair
     requires { ⌜ UuidNext (now first) (now second) from Same ⌝ }
     ensures { λ r. ⌜ PairIs (now (first .entry)) (now (second .entry)) from r ⌝ }
 {
-    let one = place_at(first, from.first.at, from.first.tagged);
-    let two = place_at(second, from.second.at, from.second.tagged);
+    let one = entry_here(first, from.first);
+    let two = entry_here(second, from.second);
     let order = tag_order(first, second, one, two);
     match order {
         KeyOrder::Before => of_first(from, one),
@@ -171,8 +159,8 @@ pub(crate) fn next_pair(first: &[u8], second: &[u8], from: Cursors) -> Pair
 {
     let order = uuid_order(first, second, from);
     match order {
-        KeyOrder::Before => of_first(from, place_at(first, from.first.at, from.first.tagged)),
+        KeyOrder::Before => of_first(from, entry_here(first, from.first)),
         KeyOrder::Same => same_uuid(first, second, from),
-        KeyOrder::After => of_second(from, place_at(second, from.second.at, from.second.tagged)),
+        KeyOrder::After => of_second(from, entry_here(second, from.second)),
     }
 }

@@ -8,8 +8,8 @@ use Rattle.two_sets.proofs.begin.Tie as tie
 check-requires : tie.Need-check-requires
 check-requires c κs = search needs
 
-cursor-of-requires : tie.Need-cursor-of-requires
-cursor-of-requires c κs = search needs
+entries-of-requires : tie.Need-entries-of-requires
+entries-of-requires c κs = search needs
 
 returns : tie.Need-returns
 returns c =
@@ -19,21 +19,21 @@ returns c =
 check-requires-2 : tie.Need-check-requires-2
 check-requires-2 c κs = search needs
 
-cursor-of-requires-2 : tie.Need-cursor-of-requires-2
-cursor-of-requires-2 c κs = search needs
+entries-of-requires-2 : tie.Need-entries-of-requires-2
+entries-of-requires-2 c κs = search needs
 
 returns-2 : tie.Need-returns-2
 returns-2 c =
     let s = c .before .before .before .before .before .before .before in
-    second-decides (now (s .args .first)) (now (s .args .second)) _ (c .before .before .before .before .check .ensures) _ (c .before .before .if1 .left) _ (c .before .check2 .ensures) (c .before .before .before .cursor-of .ensures) (c .cursor-of2 .ensures)
+    second-decides (now (s .args .first)) (now (s .args .second)) _ (c .before .before .before .before .check .ensures) _ (c .before .before .if1 .left) _ (c .before .check2 .ensures) (c .before .before .before .entries-of .ensures) (c .entries-of2 .ensures)
 
 pub begin-spec : {M : Type 1} → statement M
 begin-spec =
     tie.close
     (tie.spec
     check-requires
-    cursor-of-requires
+    entries-of-requires
     returns
     check-requires-2
-    cursor-of-requires-2
+    entries-of-requires-2
     returns-2)

@@ -12,13 +12,13 @@ uuid-order-requires c κs = search needs
 enum-told : tie.Need-enum-told
 enum-told c = search needs
 
-place-at-requires : tie.Need-place-at-requires
-place-at-requires c κs = search needs
+entry-here-requires : tie.Need-entry-here-requires
+entry-here-requires c κs = search needs
 
 of-first-requires : tie.Need-of-first-requires
 of-first-requires c κs =
     let s = c .before .before .before .before .before .before in
-    first-next (now (s .args .first)) (now (s .args .second)) (s .args .from) (s .pre .0) _ _ (c .place-at .ensures) refl
+    first-next (now (s .args .first)) (now (s .args .second)) (s .args .from) (s .pre .0) _ _ (c .entry-here .ensures) refl
     (rw (c .before .enum-told .given .1) at (c .before .before .before .uuid-order .ensures)) .0
 
 enum-told-2 : tie.Need-enum-told-2
@@ -32,20 +32,20 @@ same-uuid-requires c κs =
 enum-told-3 : tie.Need-enum-told-3
 enum-told-3 c = search needs
 
-place-at-requires-2 : tie.Need-place-at-requires-2
-place-at-requires-2 c κs = search needs
+entry-here-requires-2 : tie.Need-entry-here-requires-2
+entry-here-requires-2 c κs = search needs
 
 of-second-requires : tie.Need-of-second-requires
 of-second-requires c κs =
     let s = c .before .before .before .before .before .before in
-    second-next (now (s .args .first)) (now (s .args .second)) (s .args .from) (s .pre .0) _ _ refl (c .place-at2 .ensures)
+    second-next (now (s .args .first)) (now (s .args .second)) (s .args .from) (s .pre .0) _ _ refl (c .entry-here2 .ensures)
     (rw (c .before .enum-told3 .given .1) at (c .before .before .before .uuid-order .ensures)) .0
 
 returns : tie.Need-returns
 returns c =
     let s = c .before .before .before .before .before .before .before in
     rw (c .of-first .ensures)
-    (first-next (now (s .args .first)) (now (s .args .second)) (s .args .from) (s .pre .0) _ _ (c .before .place-at .ensures) refl
+    (first-next (now (s .args .first)) (now (s .args .second)) (s .args .from) (s .pre .0) _ _ (c .before .entry-here .ensures) refl
     (rw (c .before .before .enum-told .given .1) at (c .before .before .before .before .uuid-order .ensures)) .1)
 
 returns-2 : tie.Need-returns-2
@@ -55,7 +55,7 @@ returns-3 : tie.Need-returns-3
 returns-3 c =
     let s = c .before .before .before .before .before .before .before in
     rw (c .of-second .ensures)
-    (second-next (now (s .args .first)) (now (s .args .second)) (s .args .from) (s .pre .0) _ _ refl (c .before .place-at2 .ensures)
+    (second-next (now (s .args .first)) (now (s .args .second)) (s .args .from) (s .pre .0) _ _ refl (c .before .entry-here2 .ensures)
     (rw (c .before .before .enum-told3 .given .1) at (c .before .before .before .before .uuid-order .ensures)) .1)
 
 pub next-pair-spec : {M : Type 1} → statement M
@@ -64,12 +64,12 @@ next-pair-spec =
     (tie.spec
     uuid-order-requires
     enum-told
-    place-at-requires
+    entry-here-requires
     of-first-requires
     enum-told-2
     same-uuid-requires
     enum-told-3
-    place-at-requires-2
+    entry-here-requires-2
     of-second-requires
     returns
     returns-2

@@ -5,17 +5,17 @@ use Rattle.two_sets.proofs.PairLaws.{tags-inside, both-move, tags-say}
 use Rattle.two_sets.proofs.pairs.same_uuid.Statement.{statement}
 use Rattle.two_sets.proofs.pairs.same_uuid.Tie as tie
 
-place-at-requires : tie.Need-place-at-requires
-place-at-requires c κs = search needs
+entry-here-requires : tie.Need-entry-here-requires
+entry-here-requires c κs = search needs
 
-place-at-requires-2 : tie.Need-place-at-requires-2
-place-at-requires-2 c κs = search needs
+entry-here-requires-2 : tie.Need-entry-here-requires-2
+entry-here-requires-2 c κs = search needs
 
 tag-order-requires : tie.Need-tag-order-requires
 tag-order-requires c κs =
     let s = c .before .before .before .before in
     tags-inside (now (s .args .first)) (now (s .args .second)) (s .args .from) (s .pre .0) _ _
-    (c .before .place-at .ensures) (c .place-at2 .ensures) (s .pre .1)
+    (c .before .entry-here .ensures) (c .entry-here2 .ensures) (s .pre .1)
 
 enum-told : tie.Need-enum-told
 enum-told c = search needs
@@ -24,7 +24,7 @@ of-first-requires : tie.Need-of-first-requires
 of-first-requires c κs =
     let s = c .before .before .before .before .before .before .before in
     both-move (now (s .args .first)) (now (s .args .second)) (s .args .from) (s .pre .0) _ _
-    (c .before .before .before .before .place-at .ensures) (c .before .before .before .place-at2 .ensures) (s .pre .1) .0
+    (c .before .before .before .before .entry-here .ensures) (c .before .before .before .entry-here2 .ensures) (s .pre .1) .0
 
 enum-told-2 : tie.Need-enum-told-2
 enum-told-2 c = search needs
@@ -33,7 +33,7 @@ of-both-requires : tie.Need-of-both-requires
 of-both-requires c κs =
     let s = c .before .before .before .before .before .before .before in
     both-move (now (s .args .first)) (now (s .args .second)) (s .args .from) (s .pre .0) _ _
-    (c .before .before .before .before .place-at .ensures) (c .before .before .before .place-at2 .ensures) (s .pre .1)
+    (c .before .before .before .before .entry-here .ensures) (c .before .before .before .entry-here2 .ensures) (s .pre .1)
 
 enum-told-3 : tie.Need-enum-told-3
 enum-told-3 c = search needs
@@ -42,13 +42,13 @@ of-second-requires : tie.Need-of-second-requires
 of-second-requires c κs =
     let s = c .before .before .before .before .before .before .before in
     both-move (now (s .args .first)) (now (s .args .second)) (s .args .from) (s .pre .0) _ _
-    (c .before .before .before .before .place-at .ensures) (c .before .before .before .place-at2 .ensures) (s .pre .1) .1
+    (c .before .before .before .before .entry-here .ensures) (c .before .before .before .entry-here2 .ensures) (s .pre .1) .1
 
 returns : tie.Need-returns
 returns c =
     let s = c .before .before .before .before .before .before .before .before in
     let is = tags-say (now (s .args .first)) (now (s .args .second)) (s .args .from) (s .pre .0) _ _
-    (c .before .before .before .before .before .place-at .ensures) (c .before .before .before .before .place-at2 .ensures) (s .pre .1)
+    (c .before .before .before .before .before .entry-here .ensures) (c .before .before .before .before .entry-here2 .ensures) (s .pre .1)
     _ (c .before .before .before .tag-order .ensures) in
     rw (c .of-first .ensures) (rw (c .before .enum-told .given .1) at is)
 
@@ -56,7 +56,7 @@ returns-2 : tie.Need-returns-2
 returns-2 c =
     let s = c .before .before .before .before .before .before .before .before in
     let is = tags-say (now (s .args .first)) (now (s .args .second)) (s .args .from) (s .pre .0) _ _
-    (c .before .before .before .before .before .place-at .ensures) (c .before .before .before .before .place-at2 .ensures) (s .pre .1)
+    (c .before .before .before .before .before .entry-here .ensures) (c .before .before .before .before .entry-here2 .ensures) (s .pre .1)
     _ (c .before .before .before .tag-order .ensures) in
     rw (c .of-both .ensures) (rw (c .before .enum-told2 .given .1) at is)
 
@@ -64,7 +64,7 @@ returns-3 : tie.Need-returns-3
 returns-3 c =
     let s = c .before .before .before .before .before .before .before .before in
     let is = tags-say (now (s .args .first)) (now (s .args .second)) (s .args .from) (s .pre .0) _ _
-    (c .before .before .before .before .before .place-at .ensures) (c .before .before .before .before .place-at2 .ensures) (s .pre .1)
+    (c .before .before .before .before .before .entry-here .ensures) (c .before .before .before .before .entry-here2 .ensures) (s .pre .1)
     _ (c .before .before .before .tag-order .ensures) in
     rw (c .of-second .ensures) (rw (c .before .enum-told3 .given .1) at is)
 
@@ -72,8 +72,8 @@ pub same-uuid-spec : {M : Type 1} → statement M
 same-uuid-spec =
     tie.close
     (tie.spec
-    place-at-requires
-    place-at-requires-2
+    entry-here-requires
+    entry-here-requires-2
     tag-order-requires
     enum-told
     of-first-requires
