@@ -1,17 +1,21 @@
 -- The line of a lent set, or of bytes that are none.
 use Prim.Native.Nat.{ℕ, _<_, _≤_}
-use mathlib.Core.Path.{_≡_}
+use mathlib.Core.Path.{_≡_, ap, _∙_}
 use mathlib.Core.List.{List}
-use native.Mathlib.Omega.{arith}
+use lib.ListN.{length}
 use borrow.Author.Tests.{lt-ltb, le-ltb}
 use Rattle.gtid_sets.specs.Lent.{lentSet}
 use Rattle.gtid_sets.specs.Total.{total}
-use Rattle.gtid_sets.proofs.LimitLaws.{maxEntries-is, maxIntervals-is, limits-says}
+use Rattle.gtid_sets.proofs.LimitLaws.{limits-says}
 use Rattle.gtid_sets.proofs.LentLaws.{lent-is}
 use Rattle.set_check.specs.Check.{checkedOf}
 use Rattle.set_check.specs.declared.Checked.{Checked}
-use Rattle.set_check.specs.SetOf.{setOf, IsSet, Fits}
+use Rattle.set_check.specs.SetOf.{setOf, Fits}
+use Rattle.set_check.specs.Cursor.{begun, entriesLeft, CursorIs}
 use Rattle.set_check.proofs.SetOfLaws.{check-told, check-unfit}
+use Rattle.set_check.proofs.CursorLaws.{cursor-starts, cursor-begins}
+use Rattle.previous_gtids_event.specs.Entry.{Entry}
+use Rattle.gtid_sets.specs.Limits.{maxEntries, maxIntervals, intervals}
 use Rattle.report.specs.Report.{refusedLine, lineOf, maxSets, withLine, added}
 use Rattle.report.specs.Inside.{wideOf}
 use Rattle.report.specs.declared.Line.{Line}
@@ -27,23 +31,23 @@ module _ (bs : List ℕ) (c : Checked) (told : c ≡ checkedOf (lentSet bs)) whe
     fits : Fits bs c
     fits = check-told bs c told fine
 
-    pub line-set : IsSet bs (c .tagged) (c .entries)
-    line-set = fits .set
+    pub line-set : CursorIs bs (begun c)
+    line-set = cursor-begins bs c fits .0
 
-    few : (c .entries ≤ 384) × (c .intervals ≤ 2560)
-    few =
-        let (e, i) = limits-says (setOf bs) (lent-is bs (setOf bs) (fits .lent) .limited) in
-        (omega (arith, maxEntries-is, fits .set .count), omega (arith, maxIntervals-is, fits .total))
+    few : (length (setOf bs) ≤ maxEntries) × (intervals (setOf bs) ≤ maxIntervals)
+    few = limits-says (setOf bs) (lent-is bs (setOf bs) (fits .lent) .limited)
 
-    pub few-entries : c .entries ≤ 384
-    few-entries = few .0
+    pub few-entries : c .entries ≤ maxEntries
+    few-entries = rw (← fits .set .count) (few .0)
 
-    pub few-intervals : c .intervals ≤ 2560
-    few-intervals = few .1
+    pub few-intervals : c .intervals ≤ maxIntervals
+    few-intervals = rw (← fits .total) (few .1)
 
-    pub line-made : (ids : Wide) → ids ≡ wideOf (total (setOf bs))
+    pub line-made : (ids : Wide) → ids ≡ wideOf (total (entriesLeft bs (begun c)))
         → _≡_ {A = Line} (record { refusal = 0; entries = c .entries; intervals = c .intervals; high = ids .high; low = ids .low }) (lineOf (lentSet bs))
-    line-made ids e = rw (fits .lent, e, ← fits .set .count, ← fits .total)
+    line-made ids e =
+        let all : entriesLeft bs (begun c) ≡ setOf bs = cursor-starts bs (c .tagged) (c .entries) (fits .set) .1 in
+        rw (fits .lent, e ∙ ap (λ (s : List Entry). wideOf (total s)) all, ← fits .set .count, ← fits .total)
 
 -- ---- building
 

@@ -1,15 +1,18 @@
-// How many ids a set has, in two words.
+// How many ids a set has, in two words. An entry has fewer than 2^63 of them, so that 384 entries have fewer than 192 times 2^64.
 use crate::Wide;
 use misc::le::number_at;
-use set_check::walk::place_at;
+use set_check::Cursor;
+use set_check::walk::beyond;
+use set_check::walk::entry_here;
 ghost use mathlib.Core.Path.{_≡_};
 ghost use mathlib.Core.Bool.{true};
 ghost use Prim.Native.Nat.{_+_, _*_, _^_, _≤_, _<_};
 ghost use lib.ListN.{length};
 ghost use Rattle.gtid_sets.specs.Interval.{gapped};
+ghost use Rattle.gtid_sets.specs.Limits.{maxEntries};
 ghost use Rattle.gtid_sets.specs.Total.{size, total};
 ghost use Rattle.set_check.specs.Places.{intervalsAt};
-ghost use Rattle.set_check.specs.SetOf.{setOf, IsSet};
+ghost use Rattle.set_check.specs.Cursor.{entriesLeft, CursorIs};
 ghost use Rattle.report.specs.Inside.{wideOf, valueOf};
 
 // The sum of two numbers: what the low words pass 2^64 by is carried.
@@ -48,24 +51,22 @@ fn size_at(set: &[u8], first: usize, count: usize) -> u64
     ids
 }
 
-// How many ids a set has.
-pub(crate) fn ids_in(set: &[u8], tagged: bool, count: usize) -> Wide
-    requires { ⌜ IsSet (now set) tagged count ⌝ }
-    requires { ⌜ count ≤ 384 ⌝ }
-    ensures { λ r. ⌜ (r ≡ wideOf (total (setOf (now (set .entry))))) × (r .high < 192) ⌝ }
+// How many ids the entries have that are left.
+pub(crate) fn ids_in(set: &[u8], from: Cursor) -> Wide
+    requires { ⌜ CursorIs (now set) from ⌝ }
+    requires { ⌜ from .left ≤ maxEntries ⌝ }
+    ensures { λ r. ⌜ (r ≡ wideOf (total (entriesLeft (now (set .entry)) from))) × (r .high < 192) ⌝ }
 {
     let mut ids = Wide { high: 0, low: 0 };
-    let mut at: usize = 8;
-    let mut left = count;
-    while 0 < left {
-        let place = place_at(set, at, tagged);
+    let mut left = from;
+    while 0 < left.left {
+        let place = entry_here(set, left);
         let more = Wide {
             high: 0,
             low: size_at(set, place.first, place.count),
         };
         ids = plus(ids, more);
-        at = place.next;
-        left -= 1;
+        left = beyond(left, place);
     }
     ids
 }

@@ -9,6 +9,7 @@ use misc::Wrote;
 use misc::refusal::NO_ROOM;
 use misc::refusal::TOO_LONG;
 use set_check::check::check;
+use set_check::walk::entries_of;
 ghost use mathlib.Core.Path.{_≡_};
 ghost use Prim.Native.Nat.{min};
 ghost use Rattle.misc.specs.Output.{bytes, outputOf, answerOf};
@@ -87,7 +88,7 @@ pub fn line_of(set: &[u8]) -> Line
     if refusal != 0 {
         return refused_line(refusal);
     }
-    let ids = ids_in(set, checked.tagged, checked.entries);
+    let ids = ids_in(set, entries_of(checked));
     Line {
         refusal: 0,
         entries: checked.entries as u32,

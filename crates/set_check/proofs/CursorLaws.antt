@@ -116,3 +116,11 @@ ahead bs c p i some told = go (c .left) refl some
 -- no entry is left
 pub none-ahead : (bs : List ℕ) (c : Cursor) → c .left ≡ 0 → entriesLeft bs c ≡ []
 none-ahead bs c e = rw e
+
+-- as many are left as the cursor counts
+pub left-count : (bs : List ℕ) (c : Cursor) → length (entriesLeft bs c) ≡ c .left
+left-count bs c = go (c .left) (c .at)
+  where
+    go : (n at : ℕ) → length (entriesAt n (c .tagged) bs at) ≡ n
+    go zero at = refl
+    go (suc n) at = ap suc (go n (placeAt (c .tagged) bs at .next))
