@@ -13,7 +13,7 @@ use Rattle.packets.proofs.Keys.{flip, order-self, order-flip, key-cases, same-s
 use Rattle.packets.proofs.GnoLaws.{gno-says}
 use Rattle.previous_gtids_event.specs.Entry.{Entry, entry}
 use Rattle.gtid_sets.specs.Interval.{within, covers, Gapped, Some, insert}
-use Rattle.gtid_sets.specs.Set.{has, Above, SetForm, join, add}
+use Rattle.gtid_sets.specs.Set.{has, ofKey, Above, SetForm, join, add}
 use Rattle.gtid_sets.proofs.Bools.{or-swap}
 use Rattle.gtid_sets.proofs.IntervalLaws.{inside, one-within, covers-insert, gapped-insert, some-insert, gapped-unique}
 
@@ -78,6 +78,20 @@ rest-same : (k : Key) (is js : List Interval) (s t : List Entry) → SetForm (en
 rest-same k is js s t f g m k′ n = split (same k′ k)
     (λ h. rw (same-eq k′ k h) (above-misses k s n (f .2) (f .3) ∙ sym (above-misses k t n (g .2) (g .3))))
     (λ h. rw h at (m k′ n))
+
+-- a key's own intervals: none behind a lower key, and in set form they say which of its ids are members
+pub of-key-none : (k : Key) (s : List Entry) → Above k s → SetForm s → ofKey k s ≡ []
+of-key-none k [] a f = refl
+of-key-none k (entry j is ∷ s) a f = rw (before-not-same k j a) (of-key-none k s (above-down k j s a (f .2)) (f .3))
+
+pub of-key-has : (k : Key) (s : List Entry) (n : ℕ) → SetForm s → has s k n ≡ covers (ofKey k s) n
+of-key-has k [] n f = refl
+of-key-has k (entry j is ∷ s) n f = split (same k j)
+    (λ h. let e : k ≡ j = same-eq k j h in rw (e, same-self j) (own j is s n f))
+    (λ h. rw h (of-key-has k s n (f .3)))
+  where
+    own : (j : Key) (is : List Interval) (s : List Entry) (n : ℕ) → SetForm (entry j is ∷ s) → covers is n || has s j n ≡ covers is n
+    own j is s n f = rw (above-misses j s n (f .2) (f .3)) (or-false (covers is n))
 
 -- one set form: two sets in set form that have the same members are the same list of entries
 pub set-unique : (s t : List Entry) → SetForm s → SetForm t → SameMembers s t → s ≡ t

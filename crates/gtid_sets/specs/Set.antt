@@ -2,7 +2,8 @@
 use Prim.Native.Nat.{ℕ, _+_, Ordering, Ordering·lt, Ordering·eq, Ordering·gt}
 use mathlib.Core.Bool.{Bool, true, false, _&&_, _||_}
 use mathlib.Core.List.{List, [], _∷_}
-use Rattle.packets.specs.Gno.{interval}
+use Rattle.misc.specs.Pick.{pick}
+use Rattle.packets.specs.Gno.{Interval, interval}
 use Rattle.packets.specs.Key.{Key, order, same, _≺_}
 use Rattle.previous_gtids_event.specs.Entry.{Entry, entry}
 use Rattle.gtid_sets.specs.Interval.{covers, Gapped, gapped, Some, some, insert}
@@ -11,6 +12,11 @@ use Rattle.gtid_sets.specs.Interval.{covers, Gapped, gapped, Some, some,
 abbrev pub has : List Entry → Key → ℕ → Bool
 has [] k n = false
 has (entry j is ∷ s) k n = (same k j && covers is n) || has s k n
+
+-- the intervals of a key, those of its first entry; none where it has no entry
+abbrev pub ofKey : Key → List Entry → List Interval
+ofKey k [] = []
+ofKey k (entry j is ∷ s) = pick (same k j) is (ofKey k s)
 
 -- ---- set form
 
