@@ -8,8 +8,8 @@
 //! The reader takes an id into its set when the GTID event is whole, and then the rows haven't come. So its newest set is never saved: each
 //! transaction keeps the set as it was after its own GTID event, and that is saved once TOOL has the transaction.
 use gtid_resume::{
-    BinlogReader, Checksums, GtidEvent, ResumeSet, Told, Walked, ANONYMOUS_GTID_EVENT, GTID_EVENT,
-    GTID_TAGGED_LOG_EVENT, PREVIOUS_GTIDS_EVENT,
+    BinlogReader, Checksums, GtidEvent, ResumeSet, Told, Walked, ANONYMOUS_GTID_EVENT,
+    CHECKSUM_LEN, EVENT_HEADER_LEN, GTID_EVENT, GTID_TAGGED_LOG_EVENT, PREVIOUS_GTIDS_EVENT,
 };
 use std::collections::HashSet;
 use std::error::Error;
@@ -29,8 +29,6 @@ const WALKED_EVENTS: [u8; 4] = [
     GTID_TAGGED_LOG_EVENT,
 ];
 const OPENING_LEN: usize = 4;
-const HEADER_LEN: usize = 19;
-const CHECKSUM_LEN: usize = 4;
 const GAP: &str = "transactions before EVENTS are missing: follow an older file first";
 const UNOPENED: &str = "no opening event (type 35)";
 const UNENDED: &str = "a transaction without an end";
@@ -89,7 +87,7 @@ fn next_chunk(bytes: &mut impl Read, size: u64) -> io::Result<Vec<u8>> {
 
 /// Whether the events of a binlog end in checksums. Then the file is at its start again.
 fn checksums_of(file: &mut File, len: u64) -> io::Result<Checksums> {
-    let head = next_chunk(file, (OPENING_LEN + HEADER_LEN) as u64)?;
+    let head = next_chunk(file, (OPENING_LEN + EVENT_HEADER_LEN) as u64)?;
     let mut kind = Vec::new();
     if let Some(at) = kind_place(&head).filter(|at| *at < len) {
         file.seek(SeekFrom::Start(at))?;
@@ -107,14 +105,14 @@ fn checksums_of(file: &mut File, len: u64) -> io::Result<Checksums> {
 /// are its own checksum in any case.)
 fn kind_place(head: &[u8]) -> Option<u64> {
     let (event_type, size) = type_and_size(head.get(OPENING_LEN..)?)?;
-    let behind_header = size.checked_sub(HEADER_LEN + CHECKSUM_LEN + 1)?;
-    let place = (OPENING_LEN + HEADER_LEN + behind_header) as u64;
+    let behind_header = size.checked_sub(EVENT_HEADER_LEN + CHECKSUM_LEN + 1)?;
+    let place = (OPENING_LEN + EVENT_HEADER_LEN + behind_header) as u64;
     (event_type == FORMAT_DESCRIPTION_EVENT).then_some(place)
 }
 
 /// In a header the type is at 4, and the size of the whole event at 9.
 fn type_and_size(bytes: &[u8]) -> Option<(u8, usize)> {
-    let header = bytes.get(..HEADER_LEN)?;
+    let header = bytes.get(..EVENT_HEADER_LEN)?;
     let size = header[9..13].try_into().expect("four bytes");
     Some((header[4], u32::from_le_bytes(size) as usize))
 }
@@ -172,7 +170,7 @@ impl Skipped {
     fn next(&mut self) -> Option<Event> {
         loop {
             let (event_type, size) = type_and_size(&self.bytes)?;
-            let body = self.bytes.get(HEADER_LEN..size)?;
+            let body = self.bytes.get(EVENT_HEADER_LEN..size)?;
             let body = body[..body.len().checked_sub(self.checksum_len)?].to_vec();
             self.bytes.drain(..size);
             if !WALKED_EVENTS.contains(&event_type) {

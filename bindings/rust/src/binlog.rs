@@ -1,15 +1,12 @@
 //! A binlog file, read as it arrives.
-use crate::{sys, Refusal, ResumeSet, LONGEST_SET};
+use crate::numbers::{
+    ALREADY_THERE, BINLOG_READER_LEN, BINLOG_WORK, JOINED, LONGEST_SET, NO_ID, TAKEN,
+};
+use crate::{sys, Refusal, ResumeSet};
 use std::borrow::Cow;
 use std::fmt;
 use std::iter::FusedIterator;
 use std::mem;
-
-/// The bytes of a reader between this crate and the archive.
-const FLAT: usize = 48;
-
-/// The reader's work bytes: the longest body, and a checksum.
-const WORK: usize = 65_540;
 
 /// Whether four bytes of checksum end each event of a file. They are cut off, and not checked.
 ///
@@ -178,7 +175,7 @@ pub struct Walked {
 /// ```
 #[derive(Clone)]
 pub struct BinlogReader {
-    flat: [u8; FLAT],
+    flat: [u8; BINLOG_READER_LEN],
     work: Vec<u8>,
     /// Has the set at its front.
     room: Vec<u8>,
@@ -200,7 +197,7 @@ impl BinlogReader {
     /// assert_eq!(reader.set(), &ResumeSet::empty());
     /// ```
     pub fn new(set: ResumeSet, checksums: Checksums) -> Self {
-        let mut flat = [0; FLAT];
+        let mut flat = [0; BINLOG_READER_LEN];
         let begun = unsafe {
             sys::gtid_binlog_begin(
                 set.bytes.as_ptr(),
@@ -215,7 +212,7 @@ impl BinlogReader {
         room[..set.bytes.len()].copy_from_slice(&set.bytes);
         BinlogReader {
             flat,
-            work: vec![0; WORK],
+            work: vec![0; BINLOG_WORK],
             room,
             spare: vec![0; LONGEST_SET],
             set,
@@ -346,10 +343,10 @@ impl BinlogReader {
     /// What the last step said of an event; none if it only wants more bytes, or the end was named.
     fn told(&self) -> Option<Told> {
         match self.flat[3] {
-            1 => Some(Told::Taken),
-            2 => Some(Told::AlreadyThere),
-            3 => Some(Told::NoId),
-            4 => Some(Told::Joined),
+            TAKEN => Some(Told::Taken),
+            ALREADY_THERE => Some(Told::AlreadyThere),
+            NO_ID => Some(Told::NoId),
+            JOINED => Some(Told::Joined),
             _ => None,
         }
     }

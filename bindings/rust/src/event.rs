@@ -1,11 +1,8 @@
+use crate::numbers::{
+    GTID_EVENT, GTID_TAGGED_LOG_EVENT, LONGEST_EVENT, MAX_TAG, RECORD_LEN, UNDEFINED_SERVER_VERSION,
+};
 use crate::sys;
-use crate::{Fields, Gtid, Refusal, GTID_EVENT, GTID_TAGGED_LOG_EVENT};
-
-/// The bytes of a record between this crate and the archive.
-const FLAT: usize = 116;
-
-/// The bytes of the longest written record; `gtid.h` has the sum.
-const LONGEST_EVENT: usize = 156;
+use crate::{Fields, Gtid, Refusal};
 
 const LOGICAL_TIMESTAMP_TYPECODE: u8 = 2;
 
@@ -96,7 +93,7 @@ impl GtidEvent {
     /// assert_eq!(event.immediate_server_version, GtidEvent::UNDEFINED_SERVER_VERSION);
     /// # Ok::<(), gtid_resume::Refusal>(())
     /// ```
-    pub const UNDEFINED_SERVER_VERSION: u32 = 999_999;
+    pub const UNDEFINED_SERVER_VERSION: u32 = UNDEFINED_SERVER_VERSION;
 
     /// A new untagged record: typecode 2, server versions [999,999](GtidEvent::UNDEFINED_SERVER_VERSION), and zeros but for what is given.
     ///
@@ -165,7 +162,7 @@ impl GtidEvent {
     /// # Ok::<(), gtid_resume::Refusal>(())
     /// ```
     pub fn read(event_type: u8, body: &[u8]) -> Result<GtidRead, Refusal> {
-        let mut flat = [0; FLAT];
+        let mut flat = [0; RECORD_LEN];
         let (mut used, mut present) = (0, 0);
         let number = unsafe {
             sys::gtid_read_present(
@@ -320,7 +317,7 @@ impl GtidEvent {
         with_commit_group_ticket: commit_group_ticket, u64;
     }
 
-    fn from_flat(flat: &[u8; FLAT]) -> GtidEvent {
+    fn from_flat(flat: &[u8; RECORD_LEN]) -> GtidEvent {
         let number =
             |at: usize| u64::from_le_bytes(flat[at..at + 8].try_into().expect("eight bytes"));
         let version =
@@ -329,7 +326,7 @@ impl GtidEvent {
             flags: flat[0],
             sid: flat[1..17].try_into().expect("sixteen bytes"),
             gno: number(17),
-            tag: flat[26..26 + usize::from(flat[25]).min(32)].to_vec(),
+            tag: flat[26..26 + usize::from(flat[25]).min(MAX_TAG)].to_vec(),
             lc_typecode: (flat[58] != 0).then_some(flat[59]),
             last_committed: number(60),
             sequence_number: number(68),
@@ -344,8 +341,8 @@ impl GtidEvent {
 
     /// A tag that is longer than a record holds keeps a length that no writer accepts.
     fn flat(&self) -> Vec<u8> {
-        let kept = self.tag.len().min(32);
-        let mut flat = Vec::with_capacity(FLAT);
+        let kept = self.tag.len().min(MAX_TAG);
+        let mut flat = Vec::with_capacity(RECORD_LEN);
         flat.push(self.flags);
         flat.extend(self.sid);
         flat.extend(self.gno.to_le_bytes());

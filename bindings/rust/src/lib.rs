@@ -60,6 +60,7 @@ mod binlog;
 mod event;
 mod fields;
 mod gtid;
+mod numbers;
 mod previous;
 mod refusal;
 mod report;
@@ -72,49 +73,15 @@ pub use binlog::{BinlogReader, Checksums, Feed, Told, Walked};
 pub use event::{GtidEvent, GtidRead};
 pub use fields::{Field, Fields, FieldsIter};
 pub use gtid::Gtid;
+pub use numbers::{
+    ANONYMOUS_GTID_EVENT, CHECKSUM_LEN, EVENT_HEADER_LEN, GTID_EVENT, GTID_TAGGED_LOG_EVENT,
+    HIGHEST_GNO, LONGEST_EVENT, LONGEST_REPORT, LONGEST_SET, LONGEST_TEXT, MAX_BODY, MAX_ENTRIES,
+    MAX_INTERVALS, MAX_OF_ENTRY, MAX_SETS, MAX_TAG, PREVIOUS_GTIDS_EVENT,
+};
 pub use previous::{Entry, PreviousGtidsEvent};
 pub use refusal::Refusal;
-pub use report::{Counts, Report, LONGEST_REPORT, MAX_SETS};
-pub use set::{Offer, Offered, ResumeSet, HIGHEST_GNO, LONGEST_SET};
-
-/// The type of a GTID event.
-///
-/// ```
-/// use gtid_resume::{GtidEvent, GTID_EVENT};
-///
-/// assert_eq!(GtidEvent::new([7; 16], 1).event_type(), GTID_EVENT);
-/// ```
-pub const GTID_EVENT: u8 = 33;
-
-/// The type of a GTID event without an id. Its transaction is to be copied like any other.
-///
-/// ```
-/// let body = gtid_resume::GtidEvent::new([0; 16], 0).write()?;
-/// assert_eq!(gtid_resume::list(gtid_resume::ANONYMOUS_GTID_EVENT, &body), "anonymous\n");
-/// # Ok::<(), gtid_resume::Refusal>(())
-/// ```
-pub const ANONYMOUS_GTID_EVENT: u8 = 34;
-
-/// The type of a binlog's opening event, which lists all ids before it.
-///
-/// ```
-/// let text = gtid_resume::list(gtid_resume::PREVIOUS_GTIDS_EVENT, &[0; 8]);
-/// assert_eq!(text, "previous-gtids entries 0 intervals 0\n");
-/// ```
-pub const PREVIOUS_GTIDS_EVENT: u8 = 35;
-
-/// The type of a GTID event with a tag.
-///
-/// ```
-/// use gtid_resume::{GtidEvent, GTID_TAGGED_LOG_EVENT};
-///
-/// assert_eq!(GtidEvent::new_tagged([7; 16], b"depot", 1)?.event_type(), GTID_TAGGED_LOG_EVENT);
-/// # Ok::<(), gtid_resume::Refusal>(())
-/// ```
-pub const GTID_TAGGED_LOG_EVENT: u8 = 42;
-
-/// The bytes of the longest listing: that of the longest set, with numbers of 19 digits.
-const LONGEST_TEXT: usize = 129_322;
+pub use report::{Counts, Report};
+pub use set::{Offer, Offered, ResumeSet};
 
 /// The body of a Previous-GTIDs event (type 35) written anew, as the server writes it: with tags only if some entry has one, and every length
 /// in its shortest form.

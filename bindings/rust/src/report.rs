@@ -1,32 +1,7 @@
 //! Month's end in exact numbers.
+use crate::numbers::{LONGEST_REPORT, REPORT_LEN};
 use crate::{sys, Refusal, ResumeSet};
 use std::fmt;
-
-/// How many sets a [`Report`] takes, those that are refused counted.
-///
-/// ```
-/// use gtid_resume::{Refusal, Report, ResumeSet, MAX_SETS};
-///
-/// let mut report = Report::new();
-/// for _ in 0..MAX_SETS {
-///     report.add(&ResumeSet::empty())?;
-/// }
-/// assert_eq!(report.add(&ResumeSet::empty()), Err(Refusal::TooLong));
-/// # Ok::<(), Refusal>(())
-/// ```
-pub const MAX_SETS: usize = 64;
-
-/// The bytes of the longest text of a [`Report`]: 64 lines of 38 bytes, and one of 44 for the sums.
-///
-/// ```
-/// use gtid_resume::{Report, LONGEST_REPORT};
-///
-/// assert!(Report::new().to_text().len() <= LONGEST_REPORT);
-/// ```
-pub const LONGEST_REPORT: usize = 2476;
-
-/// The bytes of a report in the making. What stands in them is the archive's own.
-const REPORT_LEN: usize = 1352;
 
 /// How much is in a set, or in all sets of a report together.
 ///
@@ -51,7 +26,7 @@ pub struct Counts {
     pub ids: u128,
 }
 
-/// A report over saved sets, up to [`MAX_SETS`], that are given one after another: how many entries, intervals and ids each has, and the sums
+/// A report over saved sets, up to [`MAX_SETS`](crate::MAX_SETS), that are given one after another: how many entries, intervals and ids each has, and the sums
 /// over all. An id that is in two sets counts twice. (Their [`union`](ResumeSet::union) has it once.)
 ///
 /// Its text has a line for each set, in the order in which they were added, `set ENTRIES INTERVALS HIGH LOW`, and at last
@@ -105,7 +80,7 @@ impl Report {
     ///
     /// # Errors
     ///
-    /// [`Refusal::TooLong`] if there are [`MAX_SETS`] already. The report stays as it was: begin another one.
+    /// [`Refusal::TooLong`] if there are [`MAX_SETS`](crate::MAX_SETS) already. The report stays as it was: begin another one.
     ///
     /// ```
     /// use gtid_resume::{Counts, Report, ResumeSet};
@@ -123,7 +98,7 @@ impl Report {
     ///
     /// # Errors
     ///
-    /// [`Refusal::TooLong`] if there are [`MAX_SETS`] already, whatever the bytes are: they aren't read, and the report stays as it was.
+    /// [`Refusal::TooLong`] if there are [`MAX_SETS`](crate::MAX_SETS) already, whatever the bytes are: they aren't read, and the report stays as it was.
     ///
     /// [`Refusal::NotASet`] if the bytes are none. They are one of the report's sets nevertheless: they have the line `refused 14`, but add
     /// nothing to the sums.

@@ -1,29 +1,6 @@
+use crate::numbers::{ALREADY_THERE, LONGEST_SET, TAKEN};
 use crate::sys;
 use crate::{Counts, Entry, PreviousGtidsEvent, Refusal, Report};
-
-/// The bytes of the longest set: 384 entries with tags of 32 bytes, and 2,560 intervals.
-///
-/// ```
-/// use gtid_resume::{ResumeSet, LONGEST_SET};
-///
-/// assert!(ResumeSet::empty().as_bytes().len() <= LONGEST_SET);
-/// ```
-pub const LONGEST_SET: usize = 62_856;
-
-/// The highest transaction number that a set can hold; the lowest is 1. An event of type 33 or 42 may carry others, and is read, written
-/// and listed with them; offered, it is refused with [`Refusal::BadGno`]. (Type 34 has no id, and its number isn't judged. One of type 42
-/// that lacks its uuid or its number is refused with [`Refusal::AbsentId`], in an offer and in the listing.)
-///
-/// ```
-/// use gtid_resume::{GtidEvent, Refusal, ResumeSet, GTID_EVENT, HIGHEST_GNO};
-///
-/// let mut set = ResumeSet::empty();
-/// set.offer(GTID_EVENT, &GtidEvent::new([7; 16], HIGHEST_GNO).write()?)?.commit();
-/// let beyond = GtidEvent::new([7; 16], HIGHEST_GNO + 1).write()?;
-/// assert_eq!(set.offer(GTID_EVENT, &beyond).unwrap_err(), Refusal::BadGno);
-/// # Ok::<(), Refusal>(())
-/// ```
-pub const HIGHEST_GNO: u64 = i64::MAX as u64 - 1;
 
 /// What an offer comes to, if it isn't refused, and what a follower does then. Nothing but [`Offered::AlreadyThere`] may be passed over.
 ///
@@ -257,9 +234,9 @@ impl ResumeSet {
     /// # Errors
     ///
     /// In this order: the event's own refusals, 1 to 11; [`Refusal::AbsentId`] for a tagged event (type 42) that lacks its uuid or its number;
-    /// [`Refusal::BadGno`] for an id (types 33 and 42) whose number is 0 or above [`HIGHEST_GNO`]; and [`Refusal::Crowded`] or
-    /// [`Refusal::Full`] for an id that stands apart where there is no room for one more interval, or one more entry. (An id that lengthens
-    /// an interval, or joins two, is taken.) The event was not taken and must not be passed over.
+    /// [`Refusal::BadGno`] for an id (types 33 and 42) whose number is 0 or above [`HIGHEST_GNO`](crate::HIGHEST_GNO); and
+    /// [`Refusal::Crowded`] or [`Refusal::Full`] for an id that stands apart where there is no room for one more interval, or one more entry.
+    /// (An id that lengthens an interval, or joins two, is taken.) The event was not taken and must not be passed over.
     ///
     /// ```
     /// use gtid_resume::{GtidEvent, Offered, Refusal, ResumeSet, GTID_EVENT};
@@ -291,8 +268,8 @@ impl ResumeSet {
             )
         })?;
         let answer = match kind {
-            1 => Offered::Taken,
-            2 => Offered::AlreadyThere,
+            TAKEN => Offered::Taken,
+            ALREADY_THERE => Offered::AlreadyThere,
             _ => Offered::NoId,
         };
         Ok(Offer {

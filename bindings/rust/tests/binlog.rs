@@ -1,14 +1,23 @@
 //! The binlog reader: wherever a file is cut it comes to the same, and that is what a plain walk over the whole file comes to.
 use gtid_resume::{
     BinlogReader, Checksums, GtidEvent, Offered, Refusal, ResumeSet, Told, Walked,
-    ANONYMOUS_GTID_EVENT, GTID_EVENT, GTID_TAGGED_LOG_EVENT, PREVIOUS_GTIDS_EVENT,
+    ANONYMOUS_GTID_EVENT, CHECKSUM_LEN, EVENT_HEADER_LEN, GTID_EVENT, GTID_TAGGED_LOG_EVENT,
+    MAX_BODY, MAX_ENTRIES, PREVIOUS_GTIDS_EVENT,
 };
 
 mod common;
-use common::{body, entries, set, take, Listed, Random};
+use common::{
+    apart, body, entries, gtid, header, set, size_in, take, Listed, Random, FILE_OPENING,
+    FORMAT_DESCRIPTION, OF_ENTRY, ROTATE, ROW, STOP, XID,
+};
 
-const ROW: u8 = 30;
-const XID: u8 = 16;
+/// The types of events that are read; others are skipped.
+const READ: [u8; 4] = [
+    GTID_EVENT,
+    ANONYMOUS_GTID_EVENT,
+    PREVIOUS_GTIDS_EVENT,
+    GTID_TAGGED_LOG_EVENT,
+];
 
 /// A file in the making.
 #[derive(Clone)]
@@ -19,27 +28,27 @@ struct File {
 
 impl File {
     fn new(checksums: Checksums) -> File {
-        let bytes = b"\xfebin".to_vec();
+        let bytes = FILE_OPENING.to_vec();
         File { bytes, checksums }
     }
 
     fn trailer(&self) -> usize {
-        4 * (self.checksums as usize)
+        CHECKSUM_LEN * (self.checksums as usize)
     }
 
-    /// A header that claims this size.
+    /// How many bytes an event with such a body has.
+    fn size(&self, body_len: usize) -> usize {
+        EVENT_HEADER_LEN + body_len + self.trailer()
+    }
+
     fn header(&mut self, event_type: u8, size: u32) {
-        let mut header = [0x5a; 19]; // nothing else of it is looked at
-        header[4] = event_type;
-        header[9..13].copy_from_slice(&size.to_le_bytes());
-        self.bytes.extend(header);
+        self.bytes.extend(header(event_type, size));
     }
 
     fn event(&mut self, event_type: u8, body: &[u8]) {
-        let size = 19 + body.len() + self.trailer();
-        self.header(event_type, size as u32);
+        self.header(event_type, self.size(body.len()) as u32);
         self.bytes.extend(body);
-        self.bytes.extend(&[0xc5; 4][..self.trailer()]);
+        self.bytes.extend(&[0xc5; CHECKSUM_LEN][..self.trailer()]);
     }
 
     fn gtid(&mut self, gno: u64) {
@@ -78,10 +87,6 @@ impl File {
             set: Some(model.set),
         }
     }
-}
-
-fn gtid(gno: u64) -> Vec<u8> {
-    GtidEvent::new([7; 16], gno).write().unwrap()
 }
 
 fn tagged(tag: &[u8], gno: u64) -> Vec<u8> {
@@ -141,33 +146,33 @@ struct Model {
 
 impl Model {
     fn walk(&mut self, bytes: &[u8], trailer: usize, ends: bool) -> Result<(), Refusal> {
-        let opening = b"\xfebin".iter().zip(bytes);
+        let opening = FILE_OPENING.iter().zip(bytes);
         if opening.clone().any(|(wanted, byte)| wanted != byte) {
             return Err(Refusal::BadFile);
         }
         let missing = if ends { Err(Refusal::Ended) } else { Ok(()) };
-        if opening.len() < 4 {
+        if opening.len() < FILE_OPENING.len() {
             return missing;
         }
-        let mut rest = &bytes[4..];
+        let mut rest = &bytes[FILE_OPENING.len()..];
         while !rest.is_empty() {
-            let header = match rest.get(..19) {
+            let header = match rest.get(..EVENT_HEADER_LEN) {
                 Some(header) => header,
                 None => return missing,
             };
-            let size = u32::from_le_bytes(header[9..13].try_into().unwrap()) as usize;
-            if size < 19 + trailer {
+            let size = size_in(header);
+            if size < EVENT_HEADER_LEN + trailer {
                 return Err(Refusal::BadFile);
             }
-            let read = [33, 34, 35, 42].contains(&header[4]);
-            if read && size - 19 - trailer > 65_536 {
+            let read = READ.contains(&header[4]);
+            if read && size - EVENT_HEADER_LEN - trailer > MAX_BODY {
                 return Err(Refusal::TooLong);
             }
             if rest.len() < size {
                 return missing;
             }
             if read {
-                self.judge(header[4], &rest[19..size - trailer])?;
+                self.judge(header[4], &rest[EVENT_HEADER_LEN..size - trailer])?;
             }
             rest = &rest[size..];
         }
@@ -213,16 +218,16 @@ const BOTH: [Checksums; 2] = [Checksums::None, Checksums::Crc32];
 /// A small file: the opening event with transactions 1 to 5, number 6 and its rows, 6 again, one without an id, and one with a tag.
 fn small(checksums: Checksums) -> File {
     let mut file = File::new(checksums);
-    file.event(15, &[4; 90]);
+    file.event(FORMAT_DESCRIPTION, &[4; 90]);
     file.event(PREVIOUS_GTIDS_EVENT, &body(&[(0x0707, b"", &[(1, 6)])]));
     file.gtid(6);
     file.event(ROW, b"28.4 mm");
     file.event(XID, &[0; 8]);
     file.gtid(6);
     file.event(ANONYMOUS_GTID_EVENT, &gtid(0));
-    file.event(3, b"");
+    file.event(STOP, b"");
     file.event(GTID_TAGGED_LOG_EVENT, &tagged(b"depot", 1));
-    file.event(4, b"the next file's name");
+    file.event(ROTATE, b"the next file's name");
     file
 }
 
@@ -300,7 +305,8 @@ fn where_an_event_ended() {
 fn previous_gtids_are_joined() {
     let start = set(&[(1, b"", &[(1, 6)]), (2, b"", &[(4, 9)])]);
     let mut file = File::new(Checksums::None);
-    file.event(35, &body(&[(2, b"", &[(1, 6)]), (3, b"", &[(7, 8)])]));
+    let listed: [Listed; 2] = [(2, b"", &[(1, 6)]), (3, b"", &[(7, 8)])];
+    file.event(PREVIOUS_GTIDS_EVENT, &body(&listed));
     let outcome = assert_reads(&file, &start);
     let members: [Listed; 3] = [
         (1, b"", &[(1, 6)]),
@@ -311,29 +317,22 @@ fn previous_gtids_are_joined() {
     assert_eq!(told(&outcome), [Told::Joined]);
 }
 
-/// So many intervals of one number each, two apart.
-fn apart(count: u64, first: u64) -> Vec<(u64, u64)> {
-    let number = |nth| first + 2 * nth;
-    let interval = |nth| (number(nth), number(nth) + 1);
-    (0..count).map(interval).collect()
-}
-
 /// The limits are judged of the joined set alone.
 #[test]
 fn a_body_with_too_many_intervals_may_be_joined() {
-    let (crowded, gaps) = (apart(1025, 1), apart(1024, 2));
+    let (crowded, gaps) = (apart(OF_ENTRY + 1, 1), apart(OF_ENTRY, 2));
     let mut file = File::new(Checksums::Crc32);
-    file.event(35, &body(&[(7, b"", &crowded)]));
+    file.event(PREVIOUS_GTIDS_EVENT, &body(&[(7, b"", &crowded)]));
     let outcome = file.read(&ResumeSet::empty(), &[&file.bytes], true);
     assert_eq!(outcome.refusal, Some(Refusal::Crowded));
     assert_eq!(outcome.set, Some(ResumeSet::empty()));
     let outcome = file.read(&set(&[(7, b"", &gaps)]), &[&file.bytes], true);
     assert_eq!(outcome.refusal, None);
-    assert_eq!(outcome.set, Some(set(&[(7, b"", &[(1, 2050)])])));
+    let all = (1, 2 * (OF_ENTRY + 1));
+    assert_eq!(outcome.set, Some(set(&[(7, b"", &[all])])));
 
-    let many: Vec<Listed> = [entries(384), vec![(999, b"", &[(1, 2)])]].concat();
     let mut file = File::new(Checksums::None);
-    file.event(35, &body(&many));
+    file.event(PREVIOUS_GTIDS_EVENT, &body(&entries(MAX_ENTRIES + 1)));
     let outcome = file.read(&ResumeSet::empty(), &[&file.bytes], true);
     assert_eq!(outcome.refusal, Some(Refusal::Full));
     assert_eq!(outcome.set, Some(ResumeSet::empty()));
@@ -350,15 +349,15 @@ fn a_join_that_passes_a_limit_keeps_the_set() {
             Refusal::Crowded,
         ),
         (
-            body(&entries(384)),
+            body(&entries(MAX_ENTRIES)),
             body(&[(999, b"", &[(1, 2)])]),
             Refusal::Full,
         ),
     ];
     for (first, second, refusal) in cases {
         let mut file = File::new(Checksums::None);
-        file.event(35, &first);
-        file.event(35, &second);
+        file.event(PREVIOUS_GTIDS_EVENT, &first);
+        file.event(PREVIOUS_GTIDS_EVENT, &second);
         file.gtid(6);
         let outcome = file.read(&ResumeSet::empty(), &[&file.bytes], true);
         assert_eq!(outcome, file.model(&ResumeSet::empty(), true));
@@ -376,7 +375,7 @@ fn an_event_of_four_gigabytes_is_skipped() {
         let mut reader = file.reader(&ResumeSet::empty());
         assert_eq!(reader.feed(&file.bytes).count(), 0);
         let zeros = vec![0; 1 << 24];
-        let mut left = u32::MAX as usize - 19;
+        let mut left = u32::MAX as usize - EVENT_HEADER_LEN;
         while left > 0 {
             assert_eq!(reader.clone().finish(), Err(Refusal::Ended));
             let chunk = &zeros[..left.min(zeros.len())];
@@ -386,7 +385,11 @@ fn an_event_of_four_gigabytes_is_skipped() {
         assert_eq!(reader.clone().finish(), Ok(()));
         let mut behind = File::new(checksums);
         behind.gtid(6);
-        let walked = reader.feed(&behind.bytes[4..]).next().unwrap().unwrap();
+        let walked = reader
+            .feed(&behind.bytes[FILE_OPENING.len()..])
+            .next()
+            .unwrap()
+            .unwrap();
         assert_eq!(walked.told, Told::Taken);
     }
 }
@@ -394,10 +397,11 @@ fn an_event_of_four_gigabytes_is_skipped() {
 #[test]
 fn a_body_that_is_too_long_is_refused_by_its_header() {
     for checksums in BOTH {
-        for event_type in [33, 34, 35, 42] {
-            for too_long in [65_537, u32::MAX - 23] {
+        for event_type in READ {
+            let too_long = File::new(checksums).size(MAX_BODY + 1);
+            for size in [too_long as u32, u32::MAX] {
                 let mut file = with_six(checksums);
-                file.header(event_type, 19 + too_long + file.trailer() as u32);
+                file.header(event_type, size);
                 let whole = file.bytes.len();
                 let outcome = file.read(&ResumeSet::empty(), &[&file.bytes], true);
                 assert_eq!(outcome.refusal, Some(Refusal::TooLong));
@@ -415,8 +419,8 @@ fn a_body_that_is_too_long_is_refused_by_its_header() {
 fn the_longest_body_is_read() {
     for checksums in BOTH {
         let mut file = File::new(checksums);
-        file.event(ANONYMOUS_GTID_EVENT, &[0; 65_536]);
-        file.event(PREVIOUS_GTIDS_EVENT, &[0; 65_536]);
+        file.event(ANONYMOUS_GTID_EVENT, &[0; MAX_BODY]);
+        file.event(PREVIOUS_GTIDS_EVENT, &[0; MAX_BODY]);
         let outcome = file.read(&ResumeSet::empty(), &[&file.bytes], true);
         assert_eq!(outcome, file.model(&ResumeSet::empty(), true));
         assert_eq!(told(&outcome), [Told::NoId, Told::Joined]);
@@ -426,9 +430,9 @@ fn the_longest_body_is_read() {
 #[test]
 fn a_size_that_is_too_small() {
     for checksums in BOTH {
-        for event_type in [33, 35, ROW] {
-            let least = 19 + 4 * checksums as u32;
-            for size in 0..least {
+        for event_type in [GTID_EVENT, PREVIOUS_GTIDS_EVENT, ROW] {
+            let least = File::new(checksums).size(0);
+            for size in 0..least as u32 {
                 let mut file = with_six(checksums);
                 file.header(event_type, size);
                 let outcome = file.read(&ResumeSet::empty(), &[&file.bytes], true);
@@ -441,7 +445,7 @@ fn a_size_that_is_too_small() {
 
 #[test]
 fn a_wrong_opening_byte_is_refused_as_it_comes() {
-    for place in 0..4 {
+    for place in 0..FILE_OPENING.len() {
         let mut file = with_six(Checksums::None);
         file.bytes[place] = 0xfd;
         let outcome = assert_reads(&file, &ResumeSet::empty());
@@ -476,7 +480,7 @@ fn the_end() {
             assert_eq!(reader.feed(&[]).next(), end.err().map(Err)); // changes nothing
             assert_eq!(reader.finish(), end);
             for _ in 0..2 {
-                assert_eq!(reader.feed(b"\xfebin").next(), Some(Err(after)));
+                assert_eq!(reader.feed(FILE_OPENING).next(), Some(Err(after)));
                 assert_eq!(reader.feed(&[]).next(), Some(Err(after)));
                 assert_eq!(reader.finish(), Err(after));
             }
@@ -489,15 +493,17 @@ fn the_end() {
 #[test]
 fn refused_events_stop_the_reader() {
     let without_id = [2, 12, 0, 6, 2, b'a'];
+    let no_number = body(&[(7, b"", &[(0, 1)])]);
+    let no_tag = body(&[(7, b"UP", &[(1, 2)])]);
     let cases: [(u8, &[u8], Refusal); 8] = [
-        (33, b"", Refusal::Ended),
-        (33, &gtid(7)[..24], Refusal::Ended),
-        (33, &gtid(0), Refusal::BadGno),
-        (42, &[1], Refusal::WrongVersion),
-        (42, &without_id, Refusal::AbsentId),
-        (35, &[0; 7], Refusal::Ended),
-        (35, &body(&[(7, b"", &[(0, 1)])]), Refusal::BadGno),
-        (35, &body(&[(7, b"UP", &[(1, 2)])]), Refusal::BadTag),
+        (GTID_EVENT, b"", Refusal::Ended),
+        (GTID_EVENT, &gtid(7)[..24], Refusal::Ended),
+        (GTID_EVENT, &gtid(0), Refusal::BadGno),
+        (GTID_TAGGED_LOG_EVENT, &[1], Refusal::WrongVersion),
+        (GTID_TAGGED_LOG_EVENT, &without_id, Refusal::AbsentId),
+        (PREVIOUS_GTIDS_EVENT, &[0; 7], Refusal::Ended),
+        (PREVIOUS_GTIDS_EVENT, &no_number, Refusal::BadGno),
+        (PREVIOUS_GTIDS_EVENT, &no_tag, Refusal::BadTag),
     ];
     for (event_type, body, refusal) in cases {
         for checksums in BOTH {
@@ -621,18 +627,18 @@ fn listed(random: &mut Random) -> Vec<u8> {
 fn some_event(file: &mut File, random: &mut Random) {
     let gno = 1 + random.below(9);
     match random.below(12) {
-        0..=3 => file.event(33, &id(random)),
-        4 => file.event(42, &tagged(b"depot", gno)),
-        5 => file.event(34, &id(random)),
-        6 => file.event(35, &listed(random)),
+        0..=3 => file.event(GTID_EVENT, &id(random)),
+        4 => file.event(GTID_TAGGED_LOG_EVENT, &tagged(b"depot", gno)),
+        5 => file.event(ANONYMOUS_GTID_EVENT, &id(random)),
+        6 => file.event(PREVIOUS_GTIDS_EVENT, &listed(random)),
         7 => file.event(XID, &[0; 8]),
         8 => file.event(
-            random.below(33) as u8,
-            &[35; 40][..random.below(40) as usize],
+            random.below(GTID_EVENT.into()) as u8,
+            &[PREVIOUS_GTIDS_EVENT; 40][..random.below(40) as usize],
         ),
-        9 => file.event(ROW, &vec![33; random.below(300) as usize]),
+        9 => file.event(ROW, &vec![GTID_EVENT; random.below(300) as usize]),
         10 => file.event(255, b""),
-        _ => file.event(ROW, &[33; 19]),
+        _ => file.event(ROW, &[GTID_EVENT; EVENT_HEADER_LEN]),
     }
 }
 
@@ -654,7 +660,7 @@ fn some_file(random: &mut Random) -> File {
 fn some_set(random: &mut Random) -> ResumeSet {
     let mut set = ResumeSet::empty();
     for _ in 0..random.below(4) {
-        let _ = take(&mut set, 33, &id(random)).unwrap();
+        let _ = take(&mut set, GTID_EVENT, &id(random)).unwrap();
     }
     set
 }

@@ -1,13 +1,13 @@
 //! The examples of the repository, and what the calls answer, through the archive. (How much a set may hold is in `limits.rs`.)
 use gtid_resume::{
     list, read_varlen_uint, rewrite, Entry, GtidEvent, Offered, PreviousGtidsEvent, Refusal,
-    ResumeSet, ANONYMOUS_GTID_EVENT, GTID_EVENT, HIGHEST_GNO, PREVIOUS_GTIDS_EVENT,
+    ResumeSet, ANONYMOUS_GTID_EVENT, GTID_EVENT, HIGHEST_GNO, MAX_BODY, PREVIOUS_GTIDS_EVENT,
 };
 use std::fs;
 use std::path::Path;
 
 mod common;
-use common::take;
+use common::{apart, put_intervals, put_tag, take, with_tags};
 
 fn gtid(uuid: u8, gno: u64) -> Vec<u8> {
     let mut body = vec![0];
@@ -20,31 +20,19 @@ fn previous(entries: &[(u8, &[(u64, u64)])]) -> Vec<u8> {
     let mut body = (entries.len() as u64).to_le_bytes().to_vec();
     for (uuid, intervals) in entries {
         body.extend([*uuid; 16]);
-        body.extend((intervals.len() as u64).to_le_bytes());
-        for (start, end) in *intervals {
-            body.extend(start.to_le_bytes());
-            body.extend(end.to_le_bytes());
-        }
+        put_intervals(&mut body, intervals);
     }
     body
 }
 
 type Tagged<'a> = (u8, &'a [u8], &'a [(u64, u64)]);
 
-/// Each tag's length is in its one-byte form.
 fn tagged_previous(entries: &[Tagged]) -> Vec<u8> {
-    let mut body = (1 << 56 | (entries.len() as u64) << 8 | 1)
-        .to_le_bytes()
-        .to_vec();
+    let mut body = with_tags(entries.len() as u64).to_le_bytes().to_vec();
     for (uuid, tag, intervals) in entries {
         body.extend([*uuid; 16]);
-        body.push(2 * tag.len() as u8);
-        body.extend(*tag);
-        body.extend((intervals.len() as u64).to_le_bytes());
-        for (start, end) in *intervals {
-            body.extend(start.to_le_bytes());
-            body.extend(end.to_le_bytes());
-        }
+        put_tag(&mut body, tag);
+        put_intervals(&mut body, intervals);
     }
     body
 }
@@ -199,13 +187,14 @@ fn entries_come_out_as_they_went_in() {
     let mut longer = tagged_previous(&[(1, b"a", &[(1, 2)])]);
     longer.splice(24..25, [5, 0]);
     assert_entries(&longer, longer.len(), &[(1, b"a", &[(1, 2)])]);
-    // as many intervals as fit, and as many entries
-    let gaps: Vec<_> = (0..4094).map(|i| (2 * i + 1, 2 * i + 2)).collect();
-    assert_entries(&previous(&[(1, &gaps)]), 65_536, &[(1, b"", &gaps)]);
-    let bare: [Tagged; 2730] = [(1, b"", &[]); 2730];
+    // as many intervals as fit, and as many entries: behind the header, a uuid and a count, and then 16 bytes for each interval
+    let gaps = apart((MAX_BODY as u64 - 8 - 24) / 16, 1);
+    assert_entries(&previous(&[(1, &gaps)]), MAX_BODY, &[(1, b"", &gaps)]);
+    const BARE: usize = (MAX_BODY - 8) / 24;
+    let bare: [Tagged; BARE] = [(1, b"", &[]); BARE];
     assert_entries(
         &previous(&bare.map(|(uuid, _, intervals)| (uuid, intervals))),
-        65_528,
+        8 + 24 * BARE,
         &bare,
     );
 }
@@ -236,7 +225,7 @@ fn bytes_behind_a_body_are_left() {
     let used = body.len();
     body.extend([0xff; 40]);
     assert_entries(&body, used, &TAGS);
-    assert_entries(&[0; 65_536], 8, &[]);
+    assert_entries(&[0; MAX_BODY], 8, &[]);
 }
 
 #[test]
@@ -246,11 +235,8 @@ fn every_cut_of_a_body_is_refused() {
         tagged_previous(&TAGS),
     ] {
         for cut in 0..body.len() {
-            assert_eq!(
-                PreviousGtidsEvent::read(&body[..cut]).unwrap_err().number(),
-                1,
-                "{cut}"
-            );
+            let refused = PreviousGtidsEvent::read(&body[..cut]).unwrap_err();
+            assert_eq!(refused, Refusal::Ended, "{cut}");
         }
     }
 }
@@ -267,43 +253,32 @@ fn integers_have_nine_forms() {
         }
         assert_eq!(read_varlen_uint(&bytes), Ok((1, ones + 1)));
         for cut in 0..=ones {
-            assert_eq!(read_varlen_uint(&bytes[..cut]).unwrap_err().number(), 1);
+            assert_eq!(read_varlen_uint(&bytes[..cut]), Err(Refusal::Ended));
         }
     }
     assert_eq!(read_varlen_uint(&[0xff; 9]), Ok((u64::MAX, 9)));
 }
 
+/// Why a body is refused.
+fn refusal_of(body: &[u8]) -> Refusal {
+    PreviousGtidsEvent::read(body).unwrap_err()
+}
+
 #[test]
-fn refusals_have_their_numbers() {
-    assert_eq!(
-        PreviousGtidsEvent::read(&[0; 65_537]).unwrap_err().number(),
-        11
-    );
-    assert_eq!(PreviousGtidsEvent::read(&[0; 7]).unwrap_err().number(), 1);
-    assert_eq!(
-        PreviousGtidsEvent::read(&tagged_previous(&[(1, b"UPPER", &[])]))
-            .unwrap_err()
-            .number(),
-        6
-    );
+fn bodies_are_refused() {
+    let too_long = [0; MAX_BODY + 1];
+    assert_eq!(refusal_of(&too_long), Refusal::TooLong);
+    assert_eq!(ResumeSet::take_in(&too_long), Err(Refusal::TooLong));
+    assert_eq!(refusal_of(&[0; 7]), Refusal::Ended);
+    assert_eq!(rewrite(&[0; 4]), Err(Refusal::Ended));
+    assert_eq!(read_varlen_uint(&[]), Err(Refusal::Ended));
+    let upper = tagged_previous(&[(1, b"UPPER", &[])]);
+    assert_eq!(refusal_of(&upper), Refusal::BadTag);
     // the broken tag comes before the end that is missing
-    assert_eq!(
-        PreviousGtidsEvent::read(&tagged_previous(&[(1, b"7", &[]), (1, b"a", &[])])[..33])
-            .unwrap_err()
-            .number(),
-        6
-    );
-    assert_eq!(read_varlen_uint(&[]).unwrap_err().number(), 1);
-    assert_eq!(
-        ResumeSet::take_in(&vec![0; 65_537]).unwrap_err().number(),
-        11
-    );
-    assert_eq!(rewrite(&[0; 4]).unwrap_err().number(), 1);
-    assert_eq!(
-        ResumeSet::take_in(&previous(&[(1, &[(5, 5)])]))
-            .unwrap_err()
-            .number(),
-        15
-    );
-    assert_eq!(GtidEvent::read(35, &[]).unwrap_err().number(), 8);
+    let digit = tagged_previous(&[(1, b"7", &[]), (1, b"a", &[])]);
+    assert_eq!(refusal_of(&digit[..33]), Refusal::BadTag);
+    let without_number = previous(&[(1, &[(5, 5)])]);
+    assert_eq!(ResumeSet::take_in(&without_number), Err(Refusal::BadGno));
+    let unserved = GtidEvent::read(PREVIOUS_GTIDS_EVENT, &[]);
+    assert_eq!(unserved, Err(Refusal::WrongType));
 }

@@ -304,7 +304,7 @@ fn an_event_without_its_id_is_read_and_written() {
     fields.push(sent(3));
     fields.extend([4, 5, 6, 8].map(|id| vec![item(id), 0]));
     // 999,999 in three bytes: two trailing ones
-    let version = (999_999u32 << 3 | 0b011).to_le_bytes();
+    let version = (GtidEvent::UNDEFINED_SERVER_VERSION << 3 | 0b011).to_le_bytes();
     fields.push([&[item(9)][..], &version[..3]].concat());
     let written = record.event.write().unwrap();
     assert_eq!(written, body(&fields));

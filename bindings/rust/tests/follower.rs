@@ -1,15 +1,18 @@
 //! The follower of `examples` at the edges: what it must not pass over in silence.
-use gtid_resume::{GtidEvent, ResumeSet, GTID_EVENT};
+use gtid_resume::{
+    GtidEvent, ResumeSet, ANONYMOUS_GTID_EVENT, EVENT_HEADER_LEN, GTID_EVENT,
+    GTID_TAGGED_LOG_EVENT, PREVIOUS_GTIDS_EVENT,
+};
 use std::fs;
 
 mod common;
-use common::{follower, opening, Binlog, Folder};
+use common::{
+    follower, gtid, opening, Binlog, Folder, FILE_OPENING, FORMAT_DESCRIPTION, ROTATE, ROW, STOP,
+    XID,
+};
 
 const WITH_FIVE: [(u8, u64); 1] = [(7, 5)];
-
-fn gtid(gno: u64) -> Vec<u8> {
-    GtidEvent::new([7; 16], gno).write().unwrap()
-}
+const QUERY: u8 = 2;
 
 fn line(gno: u64, rows: &str) -> String {
     format!("{} {rows}\n", GtidEvent::new([7; 16], gno).gtid())
@@ -113,7 +116,7 @@ fn the_next_file_is_followed_and_a_missing_one_is_seen() {
     assert!(!set.contains(&[7; 16], b"", 7));
     let mut second = Binlog::new(&opening(&[(7, 6)]));
     second.transaction(GTID_EVENT, &gtid(7), &row("seven"));
-    second.event(4, b"the next file's name");
+    second.event(ROTATE, b"the next file's name");
     followed(&folder, &second.with_checksums().0);
     let all = line(6, "six") + &line(7, "seven") + &line(8, "eight");
     assert_eq!(followed(&folder, &third.0), all);
@@ -122,11 +125,11 @@ fn the_next_file_is_followed_and_a_missing_one_is_seen() {
 #[test]
 fn nothing_follows_the_end_of_a_closed_file() {
     let mut closed = with_six();
-    closed.event(4, b"the next file's name");
+    closed.event(ROTATE, b"the next file's name");
     let mut transaction = Binlog(closed.0.clone());
     transaction.transaction(GTID_EVENT, &gtid(7), &row("seven"));
     let mut row = Binlog(closed.0.clone());
-    row.event(30, b"a row");
+    row.event(ROW, b"a row");
     for form in 0..2 {
         let [closed, transaction, row] = [&closed, &transaction, &row].map(Binlog::both_forms);
         let folder = Folder::new("closed");
@@ -153,25 +156,29 @@ fn a_damaged_event_is_not_passed_over() {
     short.transaction(GTID_EVENT, &gtid(8), &row("eight"));
     // version byte, size 6, last non-ignorable id, and the tag alone
     let mut without_id = with_six();
-    without_id.transaction(42, &[2, 12, 0, 6, 2, b'a'], &row("seven"));
+    without_id.transaction(
+        GTID_TAGGED_LOG_EVENT,
+        &[2, 12, 0, 6, 2, b'a'],
+        &row("seven"),
+    );
     without_id.transaction(GTID_EVENT, &gtid(8), &row("eight"));
     let mut nameless = with_six();
-    nameless.event(30, b"a row of no transaction");
+    nameless.event(ROW, b"a row of no transaction");
     let mut reopened = with_six();
-    reopened.event(35, &opening(&[(7, 7)]));
+    reopened.event(PREVIOUS_GTIDS_EVENT, &opening(&[(7, 7)]));
     let mut endless = with_six();
-    endless.event(33, &gtid(7));
+    endless.event(GTID_EVENT, &gtid(7));
     endless.transaction(GTID_EVENT, &gtid(8), &row("eight"));
     let mut headless = with_six();
-    headless.event(16, &[0; 8]);
+    headless.event(XID, &[0; 8]);
     let mut last = with_six();
-    last.event(33, &gtid(7));
-    last.event(2, b"CREATE TABLE");
-    last.event(4, b"the next file's name");
+    last.event(GTID_EVENT, &gtid(7));
+    last.event(QUERY, b"CREATE TABLE");
+    last.event(ROTATE, b"the next file's name");
     let mut anonymous = with_six();
-    anonymous.event(34, &gtid(0));
-    anonymous.event(2, b"CREATE TABLE");
-    anonymous.event(3, b"");
+    anonymous.event(ANONYMOUS_GTID_EVENT, &gtid(0));
+    anonymous.event(QUERY, b"CREATE TABLE");
+    anonymous.event(STOP, b"");
     for (binlog, says) in [
         (short, "refusal 1:"),
         (without_id, "refusal 21:"),
@@ -196,15 +203,15 @@ fn a_damaged_event_is_not_passed_over() {
 
 #[test]
 fn checksums_are_not_taken_for_rows() {
-    let mut described = Binlog(b"\xfebin".to_vec());
+    let mut described = Binlog::empty();
     described.describe(0);
-    described.0.extend(&with_six().0[4..]);
+    described.0.extend(with_six().events());
     for form in [described.0, with_six().with_checksums().0] {
         assert_eq!(followed(&Folder::new("checksums"), &form), line(6, "six"));
     }
-    let mut unknown = Binlog(b"\xfebin".to_vec());
+    let mut unknown = Binlog::empty();
     unknown.describe(2);
-    unknown.0.extend(&with_six().0[4..]);
+    unknown.0.extend(with_six().events());
     let folder = Folder::new("unknown");
     assert_stops(&folder, &unknown.0, "checksums of an unknown kind");
     assert!(!folder.file("tool").exists());
@@ -221,19 +228,19 @@ fn an_error_names_its_file() {
 #[test]
 fn what_is_no_binlog_is_an_error() {
     let mut small = with_six();
-    small.event(30, b"");
-    let size = small.0.len() - 10;
-    small.0[size] = 18;
-    let mut unopened = Binlog(b"\xfebin".to_vec());
+    small.event(ROW, b"");
+    let size = small.0.len() - EVENT_HEADER_LEN + 9;
+    small.0[size] = EVENT_HEADER_LEN as u8 - 1;
+    let mut unopened = Binlog::empty();
     unopened.transaction(GTID_EVENT, &gtid(6), &row("six"));
-    let mut rows = Binlog(b"\xfebin".to_vec());
-    rows.event(30, b"a row");
-    let mut short = Binlog(b"\xfebin".to_vec());
-    short.event(15, b"4"); // too short to tell of checksums
+    let mut rows = Binlog::empty();
+    rows.event(ROW, b"a row");
+    let mut short = Binlog::empty();
+    short.event(FORMAT_DESCRIPTION, b"4"); // too short to tell of checksums
     for (bytes, says) in [
         (b"text".to_vec(), "no binlog"),
-        (b"\xfebi".to_vec(), "no opening event"),
-        (b"\xfebin".to_vec(), "no opening event"),
+        (FILE_OPENING[..3].to_vec(), "no opening event"),
+        (FILE_OPENING.to_vec(), "no opening event"),
         (unopened.0, "no opening event"),
         (rows.0, "no opening event"),
         (short.0, "no opening event"),

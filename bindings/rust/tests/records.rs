@@ -1,5 +1,8 @@
 //! Records: steps, ids, what can be written, and how refusals speak.
-use gtid_resume::{list, Gtid, GtidEvent, Refusal, ResumeSet, GTID_EVENT, GTID_TAGGED_LOG_EVENT};
+use gtid_resume::{
+    list, Gtid, GtidEvent, Refusal, ResumeSet, GTID_EVENT, GTID_TAGGED_LOG_EVENT, LONGEST_EVENT,
+    MAX_TAG, PREVIOUS_GTIDS_EVENT,
+};
 use std::fs;
 use std::io;
 use std::path::Path;
@@ -73,7 +76,8 @@ fn new_records_are_as_the_rules_say() {
         assert_eq!(event.immediate_commit_timestamp, 0);
         assert_eq!(event.original_commit_timestamp, 0);
         assert_eq!((event.tx_length, event.commit_group_ticket), (0, 0));
-        assert_eq!(versions(&event), (999_999, 999_999));
+        let undefined = GtidEvent::UNDEFINED_SERVER_VERSION;
+        assert_eq!(versions(&event), (undefined, undefined));
         let read = GtidEvent::read(event.event_type(), &event.write().unwrap()).unwrap();
         assert_eq!(read.event, event);
     }
@@ -131,7 +135,7 @@ fn a_tag_is_judged_by_the_archive() {
         b"a b",
         b"a\0",
         b"\xc3\xa4",
-        &long[..33],
+        &long[..MAX_TAG + 1],
         &long[..255],
         &long[..256],
         &long,
@@ -164,9 +168,9 @@ fn a_tag_put_in_past_the_steps_is_not_written() {
 
 /// Every number has its greatest value, so that no record takes more bytes.
 #[test]
-fn the_longest_record_is_as_long_as_the_header_says() {
+fn the_longest_record_is_as_long_as_it_is_said() {
     let signed = i64::MAX as u64;
-    let tagged = GtidEvent::new_tagged([255; 16], &[b'a'; 32], signed)
+    let tagged = GtidEvent::new_tagged([255; 16], &[b'a'; MAX_TAG], signed)
         .unwrap()
         .with_flags(255)
         .with_last_committed(signed)
@@ -177,7 +181,7 @@ fn the_longest_record_is_as_long_as_the_header_says() {
         .with_immediate_server_version(u32::MAX)
         .with_original_server_version(u32::MAX - 1)
         .with_commit_group_ticket(u64::MAX);
-    assert_eq!(tagged.write().unwrap().len(), 156);
+    assert_eq!(tagged.write().unwrap().len(), LONGEST_EVENT);
     let untagged = GtidEvent::new([255; 16], u64::MAX)
         .with_immediate_commit_timestamp(1)
         .with_original_commit_timestamp((1 << 56) - 1)
@@ -187,31 +191,42 @@ fn the_longest_record_is_as_long_as_the_header_says() {
     assert_eq!(untagged.write().unwrap().len(), 73);
 }
 
+const ALL: [Refusal; 20] = [
+    Refusal::Ended,
+    Refusal::TooLarge,
+    Refusal::Negative,
+    Refusal::WrongVersion,
+    Refusal::UnknownField,
+    Refusal::BadTag,
+    Refusal::NoTag,
+    Refusal::WrongType,
+    Refusal::SmallPayload,
+    Refusal::BadLead,
+    Refusal::TooLong,
+    Refusal::NotWritable,
+    Refusal::NoRoom,
+    Refusal::NotASet,
+    Refusal::BadGno,
+    Refusal::Full,
+    Refusal::Crowded,
+    Refusal::BadFile,
+    Refusal::AbsentId,
+    Refusal::Diverged,
+];
+
 #[test]
 fn refusals_tell_name_number_and_words() {
-    let refusal = GtidEvent::read(35, &[]).unwrap_err();
+    let refusal = GtidEvent::read(PREVIOUS_GTIDS_EVENT, &[]).unwrap_err();
     assert_eq!(refusal, Refusal::WrongType);
     assert_eq!(
         format!("{refusal:?}"),
         "WrongType (refusal 8: an event type that this call doesn't serve)"
     );
-    for (refusal, number) in [
-        (Refusal::Ended, 1),
-        (Refusal::BadTag, 6),
-        (Refusal::TooLong, 11),
-        (Refusal::NotASet, 14),
-        (Refusal::Full, 16),
-        (Refusal::Crowded, 17),
-        (Refusal::BadFile, 18),
-        (Refusal::AbsentId, 21),
-        (Refusal::Diverged, 22),
-        (Refusal::Unknown(200), 200),
-    ] {
-        assert_eq!(refusal.number(), number);
-        assert!(refusal
-            .to_string()
-            .starts_with(&format!("refusal {number}: ")));
+    for refusal in ALL.into_iter().chain([Refusal::Unknown(200)]) {
+        let front = format!("refusal {}: ", refusal.number());
+        assert!(refusal.to_string().starts_with(&front));
     }
+    assert_eq!(Refusal::Unknown(200).number(), 200);
 }
 
 /// The archive's source is the place that says them.
@@ -219,29 +234,7 @@ fn refusals_tell_name_number_and_words() {
 fn refusals_have_the_names_and_numbers_of_the_source() {
     let folder = Path::new(env!("CARGO_MANIFEST_DIR")).join("../../crates/misc/src");
     let source = fs::read_to_string(folder.join("refusal.rt")).unwrap();
-    let all = [
-        Refusal::Ended,
-        Refusal::TooLarge,
-        Refusal::Negative,
-        Refusal::WrongVersion,
-        Refusal::UnknownField,
-        Refusal::BadTag,
-        Refusal::NoTag,
-        Refusal::WrongType,
-        Refusal::SmallPayload,
-        Refusal::BadLead,
-        Refusal::TooLong,
-        Refusal::NotWritable,
-        Refusal::NoRoom,
-        Refusal::NotASet,
-        Refusal::BadGno,
-        Refusal::Full,
-        Refusal::Crowded,
-        Refusal::BadFile,
-        Refusal::AbsentId,
-        Refusal::Diverged,
-    ];
-    for refusal in all {
+    for refusal in ALL {
         let shown = format!("{refusal:?}");
         let mut name = String::new();
         for letter in shown.split(' ').next().unwrap().chars() {
@@ -253,7 +246,7 @@ fn refusals_have_the_names_and_numbers_of_the_source() {
         let line = format!("pub const {name}: u8 = {};", refusal.number());
         assert!(source.contains(&line), "{line}");
     }
-    assert_eq!(source.matches("pub const ").count(), all.len());
+    assert_eq!(source.matches("pub const ").count(), ALL.len());
 }
 
 #[test]

@@ -1,22 +1,25 @@
 //! How much is in a set, and in many: against ids that are counted one by one, and against numbers and texts that are worked out.
 use gtid_resume::{
-    Counts, GtidEvent, Offered, Refusal, Report, ResumeSet, ANONYMOUS_GTID_EVENT, GTID_EVENT,
-    HIGHEST_GNO, LONGEST_REPORT, LONGEST_SET, MAX_SETS,
+    Counts, Offered, Refusal, Report, ResumeSet, ANONYMOUS_GTID_EVENT, HIGHEST_GNO, LONGEST_REPORT,
+    LONGEST_SET, MAX_ENTRIES, MAX_SETS, PREVIOUS_GTIDS_EVENT,
 };
 use std::collections::BTreeSet;
 use std::fs;
 use std::path::Path;
 
 mod common;
-use common::{body, counts, entries, set, take, uuid, Listed, Random};
+use common::{
+    apart, body, counts, entries, event_of, longest, set, take, Listed, Random, ENTRIES, INTERVALS,
+    OF_ENTRY,
+};
 
 /// All numbers that an entry can have.
 const ALL: (u64, u64) = (1, HIGHEST_GNO + 1);
 
 /// So many entries without tags, with these intervals each.
-fn alike(count: u16, intervals: &[(u64, u64)]) -> ResumeSet {
+fn alike(count: usize, intervals: &[(u64, u64)]) -> ResumeSet {
     let one = |number| -> Listed { (number, b"", intervals) };
-    set(&Vec::from_iter((0..count).map(one)))
+    set(&Vec::from_iter((0..count as u16).map(one)))
 }
 
 /// A set with the numbers of an interval, of one uuid.
@@ -150,17 +153,24 @@ fn sums_carry() {
 /// The fullest sets: by entries, by intervals, by those of one entry, and by bytes.
 #[test]
 fn full_sets_are_counted() {
-    let odd: Vec<_> = (0..1024).map(|i| (2 * i + 1, 2 * i + 2)).collect();
-    let (tag, seven) = ([b'a'; 32], &odd[..7]);
-    let one = |number| -> Listed { (number, &tag, &seven[usize::from(number >= 256)..]) };
-    let longest = set(&Vec::from_iter((0..384).map(one)));
+    let odd = apart(OF_ENTRY, 1);
+    let longest = set(&longest(&odd[..7]));
     assert_eq!(longest.as_bytes().len(), LONGEST_SET);
-    assert_eq!(longest.totals(), counts(384, 2560, 2560));
-    assert_eq!(set(&entries(384)).totals(), counts(384, 384, 384));
-    assert_eq!(alike(1, &odd).totals(), counts(1, 1024, 1024));
     assert_eq!(
-        alike(384, &[ALL]).totals(),
-        counts(384, 384, 384 * ((1 << 63) - 2))
+        longest.totals(),
+        counts(ENTRIES, INTERVALS, INTERVALS.into())
+    );
+    assert_eq!(
+        set(&entries(MAX_ENTRIES)).totals(),
+        counts(ENTRIES, ENTRIES, ENTRIES.into())
+    );
+    assert_eq!(
+        alike(1, &odd).totals(),
+        counts(1, OF_ENTRY, OF_ENTRY.into())
+    );
+    assert_eq!(
+        alike(MAX_ENTRIES, &[ALL]).totals(),
+        counts(ENTRIES, ENTRIES, MAX_ENTRIES as u128 * ((1 << 63) - 2))
     );
 }
 
@@ -169,7 +179,7 @@ fn full_sets_are_counted() {
 #[test]
 fn a_refused_set_adds_nothing() {
     let set = set_of(1, 6);
-    let (saved, beyond) = (set.as_bytes(), body(&entries(385)));
+    let (saved, beyond) = (set.as_bytes(), body(&entries(MAX_ENTRIES + 1)));
     let mut report = Report::new();
     let mut lines = Vec::new();
     for bytes in [saved, &saved[1..], b"", &beyond, &[0; 8], saved] {
@@ -189,7 +199,7 @@ fn a_refused_set_adds_nothing() {
 #[test]
 fn the_65th_set_is_refused() {
     let set = set_of(1, 6);
-    for refused in [0, 1, 32, 63, 64] {
+    for refused in [0, 1, MAX_SETS / 2, MAX_SETS - 1, MAX_SETS] {
         let mut report = Report::new();
         let mut lines = Vec::new();
         for i in 0..MAX_SETS {
@@ -212,7 +222,6 @@ fn the_65th_set_is_refused() {
             assert_tells(&report, &lines);
         }
     }
-    assert_eq!(Refusal::TooLong.number(), 11);
 }
 
 // ---- the report's own
@@ -230,11 +239,16 @@ fn a_copy_is_a_report_of_its_own() {
 /// 384 entries of five intervals, all of the ids but 36 that lie between: every number has its most digits.
 #[test]
 fn the_longest_report() {
-    let set = alike(384, &[(1, 2), (11, 12), (21, 22), (31, 32), (41, ALL.1)]);
-    let ids = 384 * ((1 << 63) - 2 - 36);
-    assert_eq!(set.totals(), counts(384, 1920, ids));
+    let five = [(1, 2), (11, 12), (21, 22), (31, 32), (41, ALL.1)];
+    let set = alike(MAX_ENTRIES, &five);
+    let ids = u128::from(ENTRIES) * ((1 << 63) - 2 - 36);
+    assert_eq!(set.totals(), counts(ENTRIES, 5 * ENTRIES, ids));
     let report = report_over(&[&set; MAX_SETS]);
-    assert_eq!(report.sum(), counts(64 * 384, 64 * 1920, 64 * ids));
+    let sets = MAX_SETS as u64;
+    assert_eq!(
+        report.sum(),
+        counts(sets * ENTRIES, sets * 5 * ENTRIES, u128::from(sets) * ids)
+    );
     let text = report.to_text();
     assert_eq!(text.len(), LONGEST_REPORT);
     assert_eq!(text.lines().count(), MAX_SETS + 1);
@@ -265,10 +279,7 @@ fn some_id(random: &mut Random) -> Id {
 
 /// The type and the body of an event with an id.
 fn event((number, tag, gno): Id) -> (u8, Vec<u8>) {
-    let event = match tag {
-        [] => GtidEvent::new(uuid(number), gno),
-        _ => GtidEvent::new_tagged(uuid(number), tag, gno).unwrap(),
-    };
+    let event = event_of(number, tag, gno);
     (event.event_type(), event.write().unwrap())
 }
 
@@ -322,7 +333,7 @@ fn some_event(random: &mut Random) -> (u8, Vec<u8>) {
             body.truncate(20);
             (event_type, body)
         }
-        4 => (35, body),
+        4 => (PREVIOUS_GTIDS_EVENT, body),
         _ => (event_type, body),
     }
 }
@@ -350,17 +361,25 @@ fn ids_grow_by_those_taken() {
 /// Also where there is no more room, and beyond 64 bits.
 #[test]
 fn ids_grow_by_those_taken_in_a_full_set() {
-    let mut entries: Vec<Listed> = (0..384)
+    const BEYOND: u16 = MAX_ENTRIES as u16;
+    let mut entries: Vec<Listed> = (0..BEYOND)
         .map(|number| -> Listed { (number, b"", &[ALL]) })
         .collect();
     entries[0].2 = &[(10, HIGHEST_GNO - 10)];
     let mut set = set(&entries);
     let (before, mut taken) = (set.totals().ids, 0);
-    for (number, gno) in [(0, 1), (0, 9), (0, 10), (0, HIGHEST_GNO), (1, 1), (384, 1)] {
-        let body = GtidEvent::new(uuid(number), gno).write().unwrap();
-        let answer = take(&mut set, GTID_EVENT, &body);
+    for (number, gno) in [
+        (0, 1),
+        (0, 9),
+        (0, 10),
+        (0, HIGHEST_GNO),
+        (1, 1),
+        (BEYOND, 1),
+    ] {
+        let (event_type, body) = event((number, b"", gno));
+        let answer = take(&mut set, event_type, &body);
         taken += u128::from(answer == Ok(Offered::Taken));
-        assert_eq!(answer == Err(Refusal::Full), number == 384);
+        assert_eq!(answer == Err(Refusal::Full), number == BEYOND);
         assert_eq!(set.totals().ids, before + taken);
     }
     assert_eq!(taken, 3);

@@ -1,12 +1,15 @@
 //! Work with two sets, against the same work with sets of ids as Rust's own library has them.
 use gtid_resume::{
-    list, GtidEvent, Offered, Refusal, ResumeSet, HIGHEST_GNO, LONGEST_SET, PREVIOUS_GTIDS_EVENT,
+    list, GtidEvent, Offered, Refusal, ResumeSet, HIGHEST_GNO, LONGEST_SET, MAX_ENTRIES,
+    PREVIOUS_GTIDS_EVENT,
 };
 use std::collections::{BTreeMap, BTreeSet};
 use std::ptr;
 
 mod common;
-use common::{body, entries, set, take, uuid, Listed, Random};
+use common::{
+    body, entries, longest, set, take, uuid, Listed, Random, ENTRIES, INTERVALS, OF_ENTRY,
+};
 
 /// The number of a uuid, a tag, and a transaction number.
 type Id<'a> = (u16, &'a [u8], u64);
@@ -370,14 +373,15 @@ fn assert_each(counts: &[u64], wanted: Result<(u64, u64), Refusal>) {
 /// Both sets are below the limits: an entry of theirs has at most 513 intervals.
 #[test]
 fn limits_are_judged_of_the_result() {
-    assert_each(&[1024], Ok((1, 1024)));
-    assert_each(&[1025], Err(Refusal::Crowded));
-    assert_each(&[1, 1024, 1], Ok((3, 1026)));
-    assert_each(&[1, 1025, 1], Err(Refusal::Crowded));
-    assert_each(&[1024, 1024, 512], Ok((3, 2560)));
-    assert_each(&[1024, 1024, 513], Err(Refusal::Full));
+    let (most, rest) = (OF_ENTRY, INTERVALS - 2 * OF_ENTRY);
+    assert_each(&[most], Ok((1, most)));
+    assert_each(&[most + 1], Err(Refusal::Crowded));
+    assert_each(&[1, most, 1], Ok((3, most + 2)));
+    assert_each(&[1, most + 1, 1], Err(Refusal::Crowded));
+    assert_each(&[most, most, rest], Ok((3, INTERVALS)));
+    assert_each(&[most, most, rest + 1], Err(Refusal::Full));
     // beyond both: that an entry has too many is said
-    assert_each(&[1024, 512, 1025], Err(Refusal::Crowded));
+    assert_each(&[most, rest, most + 1], Err(Refusal::Crowded));
 }
 
 #[test]
@@ -394,38 +398,42 @@ fn a_thousand_against_a_thousand() {
 
 #[test]
 fn entries_are_counted_in_the_result() {
-    let all = entries(385);
-    let (lower, upper) = (set(&all[..192]), set(&all[192..384]));
-    assert_made(&lower | &upper, &all[..384]);
-    assert_eq!(&lower | &set(&all[192..]), Err(Refusal::Full));
-    let full = set(&all[..384]);
+    const HALF: usize = MAX_ENTRIES / 2;
+    let all = entries(MAX_ENTRIES + 1);
+    let (most, beyond) = all.split_at(MAX_ENTRIES);
+    let (lower, upper) = (set(&most[..HALF]), set(&most[HALF..]));
+    assert_made(&lower | &upper, most);
+    assert_eq!(&lower | &set(&all[HALF..]), Err(Refusal::Full));
+    let full = set(most);
     assert_calls(&full, &lower);
     assert_calls(&full, &full);
-    assert_eq!(&full | &set(&all[384..]), Err(Refusal::Full));
+    assert_eq!(&full | &set(beyond), Err(Refusal::Full));
     assert_eq!(&full | &set(&[(0, b"a", &[(1, 2)])]), Err(Refusal::Full));
-    assert!(full.is_superset(&upper) && !full.is_superset(&set(&all[380..])));
+    assert!(full.is_superset(&upper) && !full.is_superset(&set(&all[HALF..])));
 }
 
 /// 385 entries, one of them with 1,025 intervals.
 #[test]
 fn crowded_is_said_before_full() {
-    let [first, second] = (CALLS[0].intervals)(1025);
-    let (mut lower, mut upper) = (entries(192), entries(385).split_off(191));
+    let [first, second] = (CALLS[0].intervals)(OF_ENTRY + 1);
+    let mut lower = entries(MAX_ENTRIES / 2);
+    let shared = lower.len() - 1;
+    let mut upper = entries(MAX_ENTRIES + 1).split_off(shared);
     assert_eq!(&set(&lower) | &set(&upper), Err(Refusal::Full));
-    (lower[191].2, upper[0].2) = (&first, &second);
+    (lower[shared].2, upper[0].2) = (&first, &second);
     assert_eq!(&set(&lower) | &set(&upper), Err(Refusal::Crowded));
 }
 
 #[test]
 fn the_longest_set_is_made_of_two() {
-    let (tag, seven) = ([b'a'; 32], pieces(7, 1, 3));
-    let one = |number| -> Listed { (number, &tag, &seven[usize::from(number >= 256)..]) };
-    let all: Vec<_> = (0..384).map(one).collect();
-    let (lower, upper) = (set(&all[..192]), set(&all[192..]));
+    let seven = pieces(7, 1, 3);
+    let all = longest(&seven);
+    let (lower, upper) = all.split_at(MAX_ENTRIES / 2);
+    let (lower, upper) = (set(lower), set(upper));
     let longest = lower.union(&upper).unwrap();
     assert_eq!(
         (longest.counts(), longest.as_bytes().len()),
-        ((384, 2560), LONGEST_SET)
+        ((ENTRIES, INTERVALS), LONGEST_SET)
     );
     assert_eq!(longest.as_bytes(), body(&all));
     for other in [&lower, &upper, &longest] {
