@@ -5,7 +5,7 @@
  * there are no bytes: then any other address will do. A number that is handed out must not stand inside lent bytes, two
  * numbers of one call must be different ones, and an output must not overlap an input.
  *
- * Each call returns the number of its refusal, 0 for none. The numbers are those of README's table.
+ * Each call returns the number of its refusal, 0 for none: GTID_REFUSAL_ENDED and so on, which README's table explains.
  * Where a call writes, `*len` bytes stand at the front of the output, and the rest of it is as it was. Where a call refuses,
  * all of the output is as it was, and `*len` is 0. The one exception is 13, an output that is too short: then `*len` is the
  * length that is needed. It can't come where the output has the length that stands with the call.
@@ -24,21 +24,56 @@
 extern "C" {
 #endif
 
-/* The longest set, in bytes: 384 entries with tags of 32 bytes, and 2,560 intervals. No set has more, nor an entry (a uuid with a
- * tag or without) more than 1,024 intervals. */
-#define GTID_LONGEST_SET 62856
+/* The numbers of refusals. */
+#define GTID_REFUSAL_ENDED 1         /* the bytes end inside an item */
+#define GTID_REFUSAL_TOO_LARGE 2     /* a number of a tagged event is too large */
+#define GTID_REFUSAL_NEGATIVE 3      /* a number of a tagged event is negative */
+#define GTID_REFUSAL_WRONG_VERSION 4 /* the version byte of a tagged event isn't 2 */
+#define GTID_REFUSAL_UNKNOWN_FIELD 5 /* an unknown field that must not be ignored */
+#define GTID_REFUSAL_BAD_TAG 6       /* the tag breaks the tag rule */
+#define GTID_REFUSAL_NO_TAG 7        /* a tagged event without a tag */
+#define GTID_REFUSAL_WRONG_TYPE 8    /* an event type that this call doesn't serve */
+#define GTID_REFUSAL_SMALL_PAYLOAD 9 /* a declared payload smaller than its envelope */
+#define GTID_REFUSAL_BAD_LEAD 10     /* a length-encoded integer that begins with FB or FF */
+#define GTID_REFUSAL_TOO_LONG 11     /* a body over GTID_MAX_BODY bytes, or a set of a report behind GTID_MAX_SETS */
+#define GTID_REFUSAL_NOT_WRITABLE 12 /* a record that can't be written; a report or a reader that is none */
+#define GTID_REFUSAL_NO_ROOM 13      /* the output is too short */
+#define GTID_REFUSAL_NOT_A_SET 14    /* the bytes are no set */
+#define GTID_REFUSAL_BAD_GNO 15      /* a transaction number or an interval outside its rule */
+#define GTID_REFUSAL_FULL 16         /* the set would pass GTID_MAX_ENTRIES or GTID_MAX_INTERVALS */
+#define GTID_REFUSAL_CROWDED 17      /* an entry of the set would pass GTID_MAX_OF_ENTRY */
+#define GTID_REFUSAL_BAD_FILE 18     /* no binlog file: a wrong opening byte, a size that is too small, or bytes after the end */
+#define GTID_REFUSAL_ABSENT_ID 21    /* the fields of a tagged event end without its uuid or its number */
+#define GTID_REFUSAL_DIVERGED 22     /* each of the two sets has an id that the other lacks */
+
+/* The types of the events that are served. */
+#define GTID_TYPE_GTID 33      /* has an id */
+#define GTID_TYPE_ANONYMOUS 34 /* has none */
+#define GTID_TYPE_PREVIOUS 35  /* a binlog's opening event, which lists all ids before it */
+#define GTID_TYPE_TAGGED 42    /* has an id with a tag */
+
+/* Limits: the most bytes of an event's body and of a tag; the most entries (a uuid with a tag or without) and intervals of a set,
+ * and the most intervals of one entry. */
+#define GTID_MAX_BODY 65536
+#define GTID_MAX_TAG 32
+#define GTID_MAX_ENTRIES 384
+#define GTID_MAX_INTERVALS 2560
+#define GTID_MAX_OF_ENTRY 1024
+
+/* The longest set, in bytes: as many entries as a set can have, with the longest tags, and as many intervals; 62,856. */
+#define GTID_LONGEST_SET (8 + GTID_MAX_ENTRIES * (16 + 1 + GTID_MAX_TAG + 8) + GTID_MAX_INTERVALS * 16)
 
 /* The highest transaction number that a set can hold; the lowest is 1. An event of type 33 or 42 may carry others: it is read,
  * written and listed with them, and an offer of it is refused with 15. (Type 34 has no id, and its number isn't judged. One of
  * type 42 that lacks its uuid or its number is refused with 21, in an offer and in the listing.) */
 #define GTID_HIGHEST_GNO ((uint64_t)INT64_MAX - 1)
 
-/* The longest text of an event, in bytes: that of such a set, with numbers of 19 digits. */
-#define GTID_LONGEST_TEXT 129322
+/* The longest text of an event, in bytes: that of such a set, with numbers of 19 digits; 129,322. */
+#define GTID_LONGEST_TEXT (42 + GTID_MAX_ENTRIES * 70 + GTID_MAX_INTERVALS * 40)
 
-/* The longest body that gtid_write writes, in bytes. It is a tagged one: version, size and last non-ignorable id (4), flags (3),
- * uuid (33), tag (34), seven numbers of 64 bits (10 each) and two of 32 bits (6 each). */
-#define GTID_LONGEST_EVENT 156
+/* The longest body that gtid_write writes, in bytes; 156. It is a tagged one: version, size and last non-ignorable id (4),
+ * flags (3), uuid (33), tag (34), seven numbers of 64 bits (10 each) and two of 32 bits (6 each). */
+#define GTID_LONGEST_EVENT (4 + 3 + (1 + 16 * 2) + (2 + GTID_MAX_TAG) + 7 * 10 + 2 * 6)
 
 /* Whether bytes are a set of transaction ids as this library saves it, and how many entries and intervals it has.
  * Refuses with 14, also what would be a set but for a limit; then both numbers are 0. */
@@ -91,10 +126,10 @@ uint8_t gtid_head(const uint8_t *first, size_t first_len, const uint8_t *second,
  * Ids are counted in two words: there are `*high` times 2^64 and `*low`. An entry has fewer than 2^63 of them, but a set can have
  * 384 entries. In the sums an id that is in two sets counts twice. */
 #define GTID_MAX_SETS 64
-#define GTID_REPORT_LEN 1352
+#define GTID_REPORT_LEN (8 + GTID_MAX_SETS * 21) /* 1,352: how many sets there are, and a line for each */
 
-/* The longest text of a report, in bytes: 64 lines of 38 bytes, and one of 44 for the sums. */
-#define GTID_LONGEST_REPORT 2476
+/* The longest text of a report, in bytes: 64 lines of 38 bytes, and one of 44 for the sums; 2,476. */
+#define GTID_LONGEST_REPORT (GTID_MAX_SETS * 38 + 44)
 
 /* Adds a set to a report, which keeps its line, and tells the set's own four numbers. The set must not overlap the report.
  * Refuses with 12 if the report hasn't exactly GTID_REPORT_LEN bytes, with 11 if it has GTID_MAX_SETS sets already, whatever this
@@ -172,8 +207,12 @@ struct gtid_binlog {
 
 #define GTID_BINLOG_READER_LEN 48
 
-/* The work bytes: the longest body, 65,536 bytes, and a checksum. */
-#define GTID_BINLOG_WORK 65540
+/* The bytes of an event's header, and of the checksum that ends an event, if the file has checksums. */
+#define GTID_EVENT_HEADER_LEN 19
+#define GTID_CHECKSUM_LEN 4
+
+/* The work bytes: the longest body and a checksum; 65,540. */
+#define GTID_BINLOG_WORK (GTID_MAX_BODY + GTID_CHECKSUM_LEN)
 
 /* What `said` tells besides GTID_REFUSED, and GTID_TAKEN, GTID_ALREADY_THERE and GTID_NO_ID of an event that was offered. */
 #define GTID_JOINED 4      /* the ids of a Previous-GTIDs event (type 35) were joined to the set */

@@ -15,10 +15,25 @@ static void put(uint8_t *at, uint64_t number)
         at[i] = (uint8_t)(number >> (8 * i));
 }
 
+/* The bytes of a short event, which is untagged and has no more than flags, uuid and number, and of a set with one interval of one uuid. */
+#define SHORT_EVENT_LEN (1 + 16 + 8)
+#define SMALL_SET_LEN (8 + 16 + 8 + 16)
+
 static uint8_t set[GTID_LONGEST_SET], next[GTID_LONGEST_SET], text[GTID_LONGEST_TEXT];
 
-/* An event's type and its body, which is never longer. */
-static uint8_t input[1 + 65536];
+/* The empty set. */
+static const uint8_t empty[8] = {0};
+
+/* An event's type and its body. */
+static uint8_t input[1 + GTID_MAX_BODY];
+
+/* A short event with this number of the uuid 07 07 .. . */
+static void put_short_event(uint8_t *event, uint64_t gno)
+{
+    event[0] = 0; /* no flags */
+    memset(event + 1, 7, 16);
+    put(event + 17, gno);
+}
 
 /* A record whose numbers are the greatest and whose tag is the longest: it is written in GTID_LONGEST_EVENT bytes. */
 static void write_longest_event(void)
@@ -28,18 +43,18 @@ static void write_longest_event(void)
 
     memset(record, 255, sizeof record);
     put(record + 17, INT64_MAX);
-    record[25] = 32;
-    memset(record + 26, 'a', 32);
+    record[25] = GTID_MAX_TAG;
+    memset(record + 26, 'a', GTID_MAX_TAG);
     record[58] = record[59] = 0;
     put(record + 60, INT64_MAX);
     put(record + 68, INT64_MAX);
     record[84] = record[104] = 0; /* originals that differ */
-    EXPECT(gtid_write(record, sizeof record, written, sizeof written - 1, &len) == 13 && len == GTID_LONGEST_EVENT);
+    EXPECT(gtid_write(record, sizeof record, written, sizeof written - 1, &len) == GTID_REFUSAL_NO_ROOM && len == GTID_LONGEST_EVENT);
     EXPECT(gtid_write(record, sizeof record, written, sizeof written, &len) == 0 && len == GTID_LONGEST_EVENT);
 }
 
-/* A new record, of which no more is known than uuid and number: written in 25 bytes, and read back equal; refused where it claims server
- * version 0. */
+/* A new record, of which no more is known than uuid and number: written as a short event, and read back equal; refused where it claims
+ * server version 0. */
 static void write_new_event(void)
 {
     uint8_t record[GTID_RECORD_LEN] = {0}, back[GTID_RECORD_LEN], written[GTID_LONGEST_EVENT];
@@ -47,25 +62,26 @@ static void write_new_event(void)
 
     memset(record + 1, 7, 16);
     put(record + 17, 5);
-    EXPECT(gtid_write(record, sizeof record, written, sizeof written, &len) == 12 && len == 0);
+    EXPECT(gtid_write(record, sizeof record, written, sizeof written, &len) == GTID_REFUSAL_NOT_WRITABLE && len == 0);
     put(record + 100, ((uint64_t)GTID_UNDEFINED_SERVER_VERSION << 32) + GTID_UNDEFINED_SERVER_VERSION);
-    EXPECT(gtid_write(record, sizeof record, written, sizeof written, &len) == 0 && len == 25);
-    EXPECT(gtid_read(33, written, len, back, sizeof back, &used) == 0 && used == 25);
+    EXPECT(gtid_write(record, sizeof record, written, sizeof written, &len) == 0 && len == SHORT_EVENT_LEN);
+    EXPECT(gtid_read(GTID_TYPE_GTID, written, len, back, sizeof back, &used) == 0 && used == SHORT_EVENT_LEN);
     EXPECT(memcmp(back, record, sizeof record) == 0);
 }
 
 /* The highest number of a set is taken; the next one is read and written, and refused. */
 static void offer_highest(void)
 {
-    uint8_t event[25] = {0}, record[GTID_RECORD_LEN], written[GTID_LONGEST_EVENT], kind = 9;
+    uint8_t event[SHORT_EVENT_LEN] = {0}, record[GTID_RECORD_LEN], written[GTID_LONGEST_EVENT], kind = 9;
     size_t len = 9, used = 9;
 
     memset(set, 0, 8);
     put(event + 17, GTID_HIGHEST_GNO);
-    EXPECT(gtid_offer(set, 8, 33, event, sizeof event, next, sizeof next, &kind, &len) == 0 && kind == GTID_TAKEN);
+    EXPECT(gtid_offer(set, 8, GTID_TYPE_GTID, event, sizeof event, next, sizeof next, &kind, &len) == 0 && kind == GTID_TAKEN);
     put(event + 17, GTID_HIGHEST_GNO + 1);
-    EXPECT(gtid_offer(next, len, 33, event, sizeof event, set, sizeof set, &kind, &len) == 15 && kind == GTID_REFUSED);
-    EXPECT(gtid_read(33, event, sizeof event, record, sizeof record, &used) == 0);
+    EXPECT(gtid_offer(next, len, GTID_TYPE_GTID, event, sizeof event, set, sizeof set, &kind, &len) == GTID_REFUSAL_BAD_GNO);
+    EXPECT(kind == GTID_REFUSED);
+    EXPECT(gtid_read(GTID_TYPE_GTID, event, sizeof event, record, sizeof record, &used) == 0);
     EXPECT(gtid_write(record, sizeof record, written, sizeof written, &len) == 0);
     EXPECT(len == sizeof event && memcmp(written, event, len) == 0);
 }
@@ -81,26 +97,31 @@ static uint8_t *put_intervals(uint8_t *at, uint64_t count, uint64_t first, uint6
     return at + 8 + 16 * count;
 }
 
-/* A tag of 32 bytes that ends with a number of three digits. */
+/* A longest tag, which ends with a number of three digits. */
 static void put_tag(uint8_t *at, int number)
 {
-    memset(at, 'a', 29);
-    at[29] = (uint8_t)('0' + number / 100);
-    at[30] = (uint8_t)('0' + number / 10 % 10);
-    at[31] = (uint8_t)('0' + number % 10);
+    memset(at, 'a', GTID_MAX_TAG);
+    for (int i = 1; i <= 3; i++, number /= 10)
+        at[GTID_MAX_TAG - i] = (uint8_t)('0' + number % 10);
 }
 
 /* The uuid 07 07 .. with such a tag. Returns the place behind them. */
 static uint8_t *put_tagged_key(uint8_t *at, int number)
 {
     memset(at, 7, 16);
-    at[16] = 2 * 32; /* the tag's length in its one-byte form */
+    at[16] = 2 * GTID_MAX_TAG; /* the tag's length in its one-byte form */
     put_tag(at + 17, number);
-    return at + 49;
+    return at + 17 + GTID_MAX_TAG;
 }
 
 /* The least number of 19 digits; no number of a set has more digits. */
 #define LONG_NUMBER UINT64_C(1000000000000000000)
+
+/* The header of a body with tags and so many entries. */
+static void put_tagged_header(uint8_t *at, uint64_t entries)
+{
+    put(at, (UINT64_C(1) << 56) + (entries << 8) + 1);
+}
 
 /* The longest set, as the body of the input: 384 tags of the uuid 07 07 .., and 2,560 intervals, 7 for each of the first 256 and 6 for each
  * other one. Returns how many bytes it has. */
@@ -108,10 +129,10 @@ static size_t put_longest_set(void)
 {
     uint8_t *at = input + 1 + 8;
 
-    put(input + 1, (UINT64_C(1) << 56) + (384 << 8) + 1); /* with tags */
-    for (int number = 0; number < 384; number++) {
+    put_tagged_header(input + 1, GTID_MAX_ENTRIES);
+    for (int number = 0; number < GTID_MAX_ENTRIES; number++) {
         at = put_tagged_key(at, number);
-        at = put_intervals(at, number < 256 ? 7 : 6, LONG_NUMBER, 2);
+        at = put_intervals(at, number < GTID_MAX_INTERVALS % GTID_MAX_ENTRIES ? 7 : 6, LONG_NUMBER, 2);
     }
     return (size_t)(at - (input + 1));
 }
@@ -124,8 +145,8 @@ static size_t put_last_event(uint8_t *event, uint64_t gno)
 
     memset(record + 1, 7, 16);
     put(record + 17, gno);
-    record[25] = 32;
-    put_tag(record + 26, 383);
+    record[25] = GTID_MAX_TAG;
+    put_tag(record + 26, GTID_MAX_ENTRIES - 1);
     put(record + 100, ((uint64_t)GTID_UNDEFINED_SERVER_VERSION << 32) + GTID_UNDEFINED_SERVER_VERSION);
     EXPECT(gtid_write(record, sizeof record, event, GTID_LONGEST_EVENT, &len) == 0);
     return len;
@@ -138,11 +159,12 @@ static void take_in_and_list_longest_set(void)
     uint64_t entries = 9, intervals = 9;
 
     EXPECT(body_len == GTID_LONGEST_SET);
-    EXPECT(gtid_check_set(input + 1, body_len, &entries, &intervals) == 0 && entries == 384 && intervals == 2560);
-    EXPECT(gtid_take_in(input + 1, body_len, set, sizeof set - 1, &len) == 13 && len == GTID_LONGEST_SET);
+    EXPECT(gtid_check_set(input + 1, body_len, &entries, &intervals) == 0);
+    EXPECT(entries == GTID_MAX_ENTRIES && intervals == GTID_MAX_INTERVALS);
+    EXPECT(gtid_take_in(input + 1, body_len, set, sizeof set - 1, &len) == GTID_REFUSAL_NO_ROOM && len == GTID_LONGEST_SET);
     EXPECT(gtid_take_in(input + 1, body_len, set, sizeof set, &len) == 0 && len == GTID_LONGEST_SET);
-    input[0] = 35;
-    EXPECT(gtid_list(input, 1 + body_len, text, sizeof text - 1, &len) == 13 && len == GTID_LONGEST_TEXT);
+    input[0] = GTID_TYPE_PREVIOUS;
+    EXPECT(gtid_list(input, 1 + body_len, text, sizeof text - 1, &len) == GTID_REFUSAL_NO_ROOM && len == GTID_LONGEST_TEXT);
     EXPECT(gtid_list(input, 1 + body_len, text, sizeof text, &len) == 0 && len == GTID_LONGEST_TEXT);
 }
 
@@ -153,10 +175,10 @@ static void offer_to_longest_set(void)
     uint8_t event[GTID_LONGEST_EVENT], kind = 9;
 
     event_len = put_last_event(event, LONG_NUMBER + 52);
-    EXPECT(gtid_offer(input + 1, body_len, 42, event, event_len, next, sizeof next, &kind, &len) == 0);
+    EXPECT(gtid_offer(input + 1, body_len, GTID_TYPE_TAGGED, event, event_len, next, sizeof next, &kind, &len) == 0);
     EXPECT(kind == GTID_TAKEN && len == GTID_LONGEST_SET);
     event_len = put_last_event(event, LONG_NUMBER + 54);
-    EXPECT(gtid_offer(input + 1, body_len, 42, event, event_len, next, sizeof next, &kind, &len) == 16);
+    EXPECT(gtid_offer(input + 1, body_len, GTID_TYPE_TAGGED, event, event_len, next, sizeof next, &kind, &len) == GTID_REFUSAL_FULL);
     EXPECT(kind == GTID_REFUSED && len == 0);
 }
 
@@ -187,36 +209,36 @@ static void fill_alike(void)
  * the output as it was. */
 static void offer_to_full_entry(void)
 {
-    size_t body_len = put_one_entry(1024), len = 9;
+    size_t body_len = put_one_entry(GTID_MAX_OF_ENTRY), len = 9;
     uint64_t entries = 9, intervals = 9;
-    uint8_t event[25] = {0}, kind = 9;
+    uint8_t event[SHORT_EVENT_LEN] = {0}, kind = 9;
 
-    put(event + 17, 2048);
-    EXPECT(gtid_offer(input + 1, body_len, 33, event, sizeof event, next, sizeof next, &kind, &len) == 0);
+    put(event + 17, 2 * GTID_MAX_OF_ENTRY);
+    EXPECT(gtid_offer(input + 1, body_len, GTID_TYPE_GTID, event, sizeof event, next, sizeof next, &kind, &len) == 0);
     EXPECT(kind == GTID_TAKEN && len == body_len);
     put(event + 17, 2);
-    EXPECT(gtid_offer(input + 1, body_len, 33, event, sizeof event, next, sizeof next, &kind, &len) == 0);
+    EXPECT(gtid_offer(input + 1, body_len, GTID_TYPE_GTID, event, sizeof event, next, sizeof next, &kind, &len) == 0);
     EXPECT(kind == GTID_TAKEN && len == body_len - 16);
-    EXPECT(gtid_check_set(next, len, &entries, &intervals) == 0 && entries == 1 && intervals == 1023);
-    put(event + 17, 2049);
+    EXPECT(gtid_check_set(next, len, &entries, &intervals) == 0 && entries == 1 && intervals == GTID_MAX_OF_ENTRY - 1);
+    put(event + 17, 2 * GTID_MAX_OF_ENTRY + 1);
     fill_alike();
-    EXPECT(gtid_offer(input + 1, body_len, 33, event, sizeof event, next, sizeof next, &kind, &len) == 17);
+    EXPECT(gtid_offer(input + 1, body_len, GTID_TYPE_GTID, event, sizeof event, next, sizeof next, &kind, &len) == GTID_REFUSAL_CROWDED);
     EXPECT(kind == GTID_REFUSED && len == 0 && memcmp(next, set, sizeof next) == 0);
 }
 
 /* An entry with 1,025 intervals is in no set. */
 static void refuse_crowded_entry(void)
 {
-    size_t body_len = put_one_entry(1025), len = 9;
+    size_t body_len = put_one_entry(GTID_MAX_OF_ENTRY + 1), len = 9;
     uint64_t entries = 9, intervals = 9;
-    uint8_t event[25] = {0}, kind = 9;
+    uint8_t event[SHORT_EVENT_LEN] = {0}, kind = 9;
 
     put(event + 17, 1);
     fill_alike();
-    EXPECT(gtid_take_in(input + 1, body_len, next, sizeof next, &len) == 17 && len == 0);
+    EXPECT(gtid_take_in(input + 1, body_len, next, sizeof next, &len) == GTID_REFUSAL_CROWDED && len == 0);
     EXPECT(memcmp(next, set, sizeof next) == 0);
-    EXPECT(gtid_check_set(input + 1, body_len, &entries, &intervals) == 14 && entries == 0 && intervals == 0);
-    EXPECT(gtid_offer(input + 1, body_len, 33, event, sizeof event, next, sizeof next, &kind, &len) == 14);
+    EXPECT(gtid_check_set(input + 1, body_len, &entries, &intervals) == GTID_REFUSAL_NOT_A_SET && entries == 0 && intervals == 0);
+    EXPECT(gtid_offer(input + 1, body_len, GTID_TYPE_GTID, event, sizeof event, next, sizeof next, &kind, &len) == GTID_REFUSAL_NOT_A_SET);
 }
 
 /* Two sets, and the set that they should come to. */
@@ -275,13 +297,12 @@ static uint8_t head_of(const uint8_t *first, size_t first_len, const uint8_t *se
 /* The numbers 1 to 5 and 4 to 8. */
 static void work_with_two_sets(void)
 {
-    const uint8_t empty[8] = {0};
     size_t one_len = put_set(one, 1, 1, 5), other_len = put_set(other, 1, 4, 5);
 
     EXPECT(makes(gtid_either, one, one_len, other, other_len, put_set(wanted, 1, 1, 8)));
-    EXPECT(lies_within(one, one_len, next, 48) == 1 && lies_within(next, 48, one, one_len) == 0);
+    EXPECT(lies_within(one, one_len, next, SMALL_SET_LEN) == 1 && lies_within(next, SMALL_SET_LEN, one, one_len) == 0);
     EXPECT(makes(gtid_both, one, one_len, other, other_len, put_set(wanted, 1, 4, 2)));
-    EXPECT(lies_within(next, 48, one, one_len) == 1 && lies_within(one, one_len, next, 48) == 0);
+    EXPECT(lies_within(next, SMALL_SET_LEN, one, one_len) == 1 && lies_within(one, one_len, next, SMALL_SET_LEN) == 0);
     EXPECT(makes(gtid_without, one, one_len, other, other_len, put_set(wanted, 1, 1, 3)));
     EXPECT(makes(gtid_without, other, other_len, one, one_len, put_set(wanted, 1, 6, 3)));
     EXPECT(lies_within(one, one_len, other, other_len) == 0 && lies_within(other, other_len, one, one_len) == 0);
@@ -320,32 +341,35 @@ static void refuse_two_sets(of_two *call)
 {
     size_t one_len = put_set(one, 1, 1, 5), other_len = put_set(other, 1, 4, 5), len;
 
-    EXPECT(made(call, one, one_len - 1, other, other_len, &len) == 14);
-    EXPECT(made(call, one, one_len, other, other_len - 1, &len) == 14);
-    EXPECT(made(call, one, 0, other, 0, &len) == 14);
-    EXPECT(call(one, one_len, other, other_len - 1, next, 0, &len) == 14 && len == 0);
+    EXPECT(made(call, one, one_len - 1, other, other_len, &len) == GTID_REFUSAL_NOT_A_SET);
+    EXPECT(made(call, one, one_len, other, other_len - 1, &len) == GTID_REFUSAL_NOT_A_SET);
+    EXPECT(made(call, one, 0, other, 0, &len) == GTID_REFUSAL_NOT_A_SET);
+    EXPECT(call(one, one_len, other, other_len - 1, next, 0, &len) == GTID_REFUSAL_NOT_A_SET && len == 0);
 
     fill_alike();
-    EXPECT(call(one, one_len, other, other_len, next, 47, &len) == 13 && len == 48);
+    EXPECT(call(one, one_len, other, other_len, next, SMALL_SET_LEN - 1, &len) == GTID_REFUSAL_NO_ROOM && len == SMALL_SET_LEN);
     EXPECT(memcmp(next, set, sizeof next) == 0);
-    EXPECT(call(one, one_len, other, other_len, next, 48, &len) == 0 && len == 48);
-    EXPECT(memcmp(next + 48, set + 48, sizeof next - 48) == 0);
+    EXPECT(call(one, one_len, other, other_len, next, SMALL_SET_LEN, &len) == 0 && len == SMALL_SET_LEN);
+    EXPECT(memcmp(next + SMALL_SET_LEN, set + SMALL_SET_LEN, sizeof next - SMALL_SET_LEN) == 0);
 }
 
 /* 1 to 5 and 1 to 8, equal sets in two places and in one, the empty set, and 1 to 5 and 4 to 8; and what is no set. */
 static void choose_a_head(void)
 {
-    const uint8_t empty[8] = {0}, zeros[8] = {0};
+    const uint8_t zeros[8] = {0};
     size_t one_len = put_set(one, 1, 1, 5), other_len = put_set(other, 1, 1, 8);
 
     EXPECT(head_of(one, one_len, other, other_len) == 2 && head_of(other, other_len, one, one_len) == 1);
     EXPECT(head_of(empty, sizeof empty, one, one_len) == 2 && head_of(one, one_len, empty, sizeof empty) == 1);
     EXPECT(head_of(one, one_len, one, one_len) == 1 && head_of(empty, sizeof empty, zeros, sizeof zeros) == 1);
-    EXPECT(head_of(one, one_len - 1, other, other_len) == 14 && head_of(one, one_len, other, other_len - 1) == 14);
-    EXPECT(head_of(one, 0, other, 0) == 14);
+    EXPECT(head_of(one, one_len - 1, other, other_len) == GTID_REFUSAL_NOT_A_SET);
+    EXPECT(head_of(one, one_len, other, other_len - 1) == GTID_REFUSAL_NOT_A_SET);
+    EXPECT(head_of(one, 0, other, 0) == GTID_REFUSAL_NOT_A_SET);
     other_len = put_set(other, 1, 4, 5);
-    EXPECT(head_of(one, one_len, other, other_len) == 22 && head_of(other, other_len, one, one_len) == 22);
-    EXPECT(head_of(one, one_len - 1, other, other_len) == 14 && head_of(one, one_len, other, other_len - 1) == 14);
+    EXPECT(head_of(one, one_len, other, other_len) == GTID_REFUSAL_DIVERGED);
+    EXPECT(head_of(other, other_len, one, one_len) == GTID_REFUSAL_DIVERGED);
+    EXPECT(head_of(one, one_len - 1, other, other_len) == GTID_REFUSAL_NOT_A_SET);
+    EXPECT(head_of(one, one_len, other, other_len - 1) == GTID_REFUSAL_NOT_A_SET);
     memcpy(other, one, one_len);
     EXPECT(head_of(one, one_len, other, one_len) == 1 && head_of(other, one_len, one, one_len) == 1);
     /* a part of its own bytes, zeros of its uuid, is the empty set */
@@ -358,9 +382,9 @@ static void refuse_within(void)
     size_t one_len = put_set(one, 1, 1, 5), other_len = put_set(other, 1, 1, 5);
 
     EXPECT(lies_within(one, one_len, other, other_len) == 1);
-    EXPECT(lies_within(one, one_len - 1, other, other_len) == 14);
-    EXPECT(lies_within(one, one_len, other, other_len - 1) == 14);
-    EXPECT(lies_within(one, 0, other, 0) == 14);
+    EXPECT(lies_within(one, one_len - 1, other, other_len) == GTID_REFUSAL_NOT_A_SET);
+    EXPECT(lies_within(one, one_len, other, other_len - 1) == GTID_REFUSAL_NOT_A_SET);
+    EXPECT(lies_within(one, 0, other, 0) == GTID_REFUSAL_NOT_A_SET);
 }
 
 /* How many intervals a call makes of the sets `one` and `other`, or the number of its refusal. */
@@ -376,23 +400,27 @@ static uint64_t intervals_made(of_two *call, size_t one_len, size_t other_len)
     return intervals;
 }
 
+/* Half of the intervals that an entry may have. */
+#define HALF (GTID_MAX_OF_ENTRY / 2)
+
 /* Entries with some five hundred intervals come to 1,024, and not to one more. */
 static void crowd_by_two_sets(void)
 {
-    size_t len;
+    size_t one_len, other_len, len = 9;
 
     /* 1, 11, .. or 3, 13, .. */
-    EXPECT(intervals_made(gtid_either, put_set(one, 512, 1, 1), put_set(other, 512, 3, 1)) == 1024);
-    EXPECT(intervals_made(gtid_either, put_set(one, 513, 1, 1), put_set(other, 512, 3, 1)) == 17);
+    EXPECT(intervals_made(gtid_either, put_set(one, HALF, 1, 1), put_set(other, HALF, 3, 1)) == GTID_MAX_OF_ENTRY);
+    EXPECT(intervals_made(gtid_either, put_set(one, HALF + 1, 1, 1), put_set(other, HALF, 3, 1)) == GTID_REFUSAL_CROWDED);
     /* 1 to 6, 11 to 16, .. and 5 to 11, 15 to 21, ..: in both are 5 and 6, 11, 15 and 16, .. */
-    EXPECT(intervals_made(gtid_both, put_set(one, 513, 1, 6), put_set(other, 512, 5, 7)) == 1024);
-    EXPECT(intervals_made(gtid_both, put_set(one, 513, 1, 6), put_set(other, 513, 5, 7)) == 17);
+    EXPECT(intervals_made(gtid_both, put_set(one, HALF + 1, 1, 6), put_set(other, HALF, 5, 7)) == GTID_MAX_OF_ENTRY);
+    EXPECT(intervals_made(gtid_both, put_set(one, HALF + 1, 1, 6), put_set(other, HALF + 1, 5, 7)) == GTID_REFUSAL_CROWDED);
     /* 1 to 6, 11 to 16, .. without 3, 13, ..: 1 and 2, 4 to 6, .. */
-    EXPECT(intervals_made(gtid_without, put_set(one, 512, 1, 6), put_set(other, 512, 3, 1)) == 1024);
-    EXPECT(intervals_made(gtid_without, put_set(one, 513, 1, 6), put_set(other, 512, 3, 1)) == 17);
-    /* 17 before 13 */
-    len = 9;
-    EXPECT(gtid_without(one, put_set(one, 513, 1, 6), other, put_set(other, 512, 3, 1), next, 0, &len) == 17 && len == 0);
+    EXPECT(intervals_made(gtid_without, put_set(one, HALF, 1, 6), put_set(other, HALF, 3, 1)) == GTID_MAX_OF_ENTRY);
+    EXPECT(intervals_made(gtid_without, put_set(one, HALF + 1, 1, 6), put_set(other, HALF, 3, 1)) == GTID_REFUSAL_CROWDED);
+    /* before a lack of room */
+    one_len = put_set(one, HALF + 1, 1, 6);
+    other_len = put_set(other, HALF, 3, 1);
+    EXPECT(gtid_without(one, one_len, other, other_len, next, 0, &len) == GTID_REFUSAL_CROWDED && len == 0);
 }
 
 /* The same uuid with a tag is another key. */
@@ -400,7 +428,7 @@ static void tell_tags_apart(void)
 {
     size_t one_len = put_set(one, 1, 1, 5), other_len, len;
 
-    put(other, (UINT64_C(1) << 56) + (1 << 8) + 1);
+    put_tagged_header(other, 1);
     other_len = (size_t)(put_intervals(put_tagged_key(other + 8, 0), 1, 1, 5) - other);
     EXPECT(made(gtid_both, one, one_len, other, other_len, &len) == 0 && len == 8);
     EXPECT(made(gtid_without, one, one_len, other, other_len, &len) == 0 && len == one_len && memcmp(next, one, len) == 0);
@@ -413,15 +441,15 @@ static void fill_by_two_sets(void)
     size_t longest_len = put_longest_set(), one_len, len;
 
     one_len = put_set(one, 1, LONG_NUMBER, 1); /* the uuid without a tag */
-    EXPECT(made(gtid_either, input + 1, longest_len, one, one_len, &len) == 16);
-    EXPECT(made(gtid_either, one, one_len, input + 1, longest_len, &len) == 16);
+    EXPECT(made(gtid_either, input + 1, longest_len, one, one_len, &len) == GTID_REFUSAL_FULL);
+    EXPECT(made(gtid_either, one, one_len, input + 1, longest_len, &len) == GTID_REFUSAL_FULL);
 
-    put(one, (UINT64_C(1) << 56) + (1 << 8) + 1); /* the last tag, behind its intervals */
-    one_len = (size_t)(put_intervals(put_tagged_key(one + 8, 383), 1, LONG_NUMBER + 54, 1) - one);
-    EXPECT(made(gtid_either, input + 1, longest_len, one, one_len, &len) == 16);
-    EXPECT(gtid_either(input + 1, longest_len, one, one_len, next, 0, &len) == 16 && len == 0);
+    put_tagged_header(one, 1); /* the last tag, behind its intervals */
+    one_len = (size_t)(put_intervals(put_tagged_key(one + 8, GTID_MAX_ENTRIES - 1), 1, LONG_NUMBER + 54, 1) - one);
+    EXPECT(made(gtid_either, input + 1, longest_len, one, one_len, &len) == GTID_REFUSAL_FULL);
+    EXPECT(gtid_either(input + 1, longest_len, one, one_len, next, 0, &len) == GTID_REFUSAL_FULL && len == 0);
 
-    put_intervals(put_tagged_key(one + 8, 383), 1, LONG_NUMBER + 52, 1);
+    put_intervals(put_tagged_key(one + 8, GTID_MAX_ENTRIES - 1), 1, LONG_NUMBER + 52, 1);
     EXPECT(made(gtid_either, input + 1, longest_len, one, one_len, &len) == 0 && len == GTID_LONGEST_SET);
     EXPECT(lies_within(input + 1, longest_len, next, len) == 1 && lies_within(next, len, input + 1, longest_len) == 0);
     memcpy(wanted, one, one_len);
@@ -429,7 +457,8 @@ static void fill_by_two_sets(void)
     EXPECT(makes(gtid_without, other, len, input + 1, longest_len, one_len));
     memcpy(wanted, input + 1, longest_len);
     EXPECT(makes(gtid_both, other, len, input + 1, longest_len, longest_len));
-    EXPECT(gtid_both(other, sizeof other, input + 1, longest_len, next, sizeof next - 1, &len) == 13 && len == GTID_LONGEST_SET);
+    EXPECT(gtid_both(other, sizeof other, input + 1, longest_len, next, sizeof next - 1, &len) == GTID_REFUSAL_NO_ROOM);
+    EXPECT(len == GTID_LONGEST_SET);
 }
 
 /* A report in the making, and bytes to compare it with. */
@@ -454,7 +483,7 @@ static uint8_t added(const uint8_t *bytes, size_t len, struct counts *counts)
     memset(counts, 0xa5, sizeof *counts);
     number = gtid_report_add(report, sizeof report, bytes, len, &counts->entries, &counts->intervals, &counts->high, &counts->low);
     EXPECT(number == 0 || are(*counts, 0, 0, 0, 0));
-    EXPECT((number == 11) == (memcmp(report, kept, sizeof report) == 0));
+    EXPECT((number == GTID_REFUSAL_TOO_LONG) == (memcmp(report, kept, sizeof report) == 0));
     return number;
 }
 
@@ -491,8 +520,8 @@ static int report_is(const char *expected)
 
     memcpy(kept, report, sizeof report);
     fill_alike();
-    EXPECT(gtid_report_write(report, sizeof report, next, needed - 1, &len) == 13 && len == needed);
-    EXPECT(gtid_report_write(report, sizeof report, next, 0, &len) == 13 && len == needed);
+    EXPECT(gtid_report_write(report, sizeof report, next, needed - 1, &len) == GTID_REFUSAL_NO_ROOM && len == needed);
+    EXPECT(gtid_report_write(report, sizeof report, next, 0, &len) == GTID_REFUSAL_NO_ROOM && len == needed);
     EXPECT(memcmp(next, set, sizeof next) == 0);
     EXPECT(gtid_report_write(report, sizeof report, next, needed, &len) == 0 && len == needed);
     EXPECT(memcmp(next + len, set + len, sizeof next - len) == 0);
@@ -528,10 +557,9 @@ static void report_no_set(void)
 /* An empty set, one with two intervals, one with a tag, and the first two again: their ids count twice. */
 static void report_sets(void)
 {
-    const uint8_t empty[8] = {0};
     size_t one_len = put_set(one, 2, 1, 5), other_len;
 
-    put(other, (UINT64_C(1) << 56) + (1 << 8) + 1);
+    put_tagged_header(other, 1);
     other_len = (size_t)(put_intervals(put_tagged_key(other + 8, 0), 3, 1, 2) - other);
     memset(report, 0, sizeof report);
     EXPECT(adds(empty, sizeof empty, 0, 0, 0, 0));
@@ -575,19 +603,19 @@ static void report_beyond_one_word(void)
 /* Bytes that are no set have a line, and add nothing. */
 static void report_refused_sets(void)
 {
-    size_t one_len = put_set(one, 1, 1, 5), crowded_len = put_one_entry(1025);
+    size_t one_len = put_set(one, 1, 1, 5), crowded_len = put_one_entry(GTID_MAX_OF_ENTRY + 1);
 
     memset(report, 0, sizeof report);
     EXPECT(adds(one, one_len, 1, 1, 0, 5));
-    EXPECT(report_refuses(one, one_len - 1, 14));
+    EXPECT(report_refuses(one, one_len - 1, GTID_REFUSAL_NOT_A_SET));
     EXPECT(report_is("set 1 1 0 5\nrefused 14\nsum 1 1 0 5\n"));
     EXPECT(adds(one, one_len, 1, 1, 0, 5));
-    EXPECT(report_refuses(one, 0, 14));
-    EXPECT(report_refuses(input + 1, crowded_len, 14)); /* but for a limit it would be one */
+    EXPECT(report_refuses(one, 0, GTID_REFUSAL_NOT_A_SET));
+    EXPECT(report_refuses(input + 1, crowded_len, GTID_REFUSAL_NOT_A_SET)); /* but for a limit it would be one */
     EXPECT(sums_are(2, 2, 0, 10));
     EXPECT(report_is("set 1 1 0 5\nrefused 14\nset 1 1 0 5\nrefused 14\nrefused 14\nsum 2 2 0 10\n"));
     memset(report, 0, sizeof report);
-    EXPECT(report_refuses(one, one_len - 1, 14));
+    EXPECT(report_refuses(one, one_len - 1, GTID_REFUSAL_NOT_A_SET));
     EXPECT(report_is("refused 14\nsum 0 0 0 0\n"));
 }
 
@@ -600,12 +628,14 @@ static void report_most_sets(int refused)
 
     memset(report, 0, sizeof report);
     for (int i = 0; i < GTID_MAX_SETS; i++) {
-        EXPECT(i < refused ? report_refuses(one, one_len - 1, 14) : adds(one, one_len, 1, 1, 0, 5));
+        EXPECT(i < refused ? report_refuses(one, one_len - 1, GTID_REFUSAL_NOT_A_SET) : adds(one, one_len, 1, 1, 0, 5));
         strcat(expected, i < refused ? "refused 14\n" : "set 1 1 0 5\n");
     }
     sprintf(expected + strlen(expected), "sum %d %d 0 %d\n", sets, sets, 5 * sets);
     EXPECT(report_is(expected));
-    EXPECT(report_refuses(one, one_len, 11) && report_refuses(one, one_len - 1, 11) && report_refuses(one, 0, 11));
+    EXPECT(report_refuses(one, one_len, GTID_REFUSAL_TOO_LONG));
+    EXPECT(report_refuses(one, one_len - 1, GTID_REFUSAL_TOO_LONG));
+    EXPECT(report_refuses(one, 0, GTID_REFUSAL_TOO_LONG));
     EXPECT(sums_are((uint64_t)sets, (uint64_t)sets, 0, 5 * (uint64_t)sets));
     EXPECT(report_is(expected));
 }
@@ -625,16 +655,18 @@ static void refuse_reports(void)
         memset(longer, 0, sizeof longer);
         memcpy(longer, report, sizeof report);
         memset(&counts, 0xa5, sizeof counts);
-        EXPECT(gtid_report_add(longer, lengths[i], one, one_len - 1, &counts.entries, &counts.intervals, &counts.high, &counts.low) == 12);
+        EXPECT(gtid_report_add(longer, lengths[i], one, one_len - 1, &counts.entries, &counts.intervals, &counts.high, &counts.low) ==
+               GTID_REFUSAL_NOT_WRITABLE);
         EXPECT(are(counts, 0, 0, 0, 0) && memcmp(longer, report, sizeof report) == 0 && longer[GTID_REPORT_LEN] == 0);
         memset(&counts, 0xa5, sizeof counts);
-        EXPECT(gtid_report_sum(longer, lengths[i], &counts.entries, &counts.intervals, &counts.high, &counts.low) == 12);
+        EXPECT(gtid_report_sum(longer, lengths[i], &counts.entries, &counts.intervals, &counts.high, &counts.low) ==
+               GTID_REFUSAL_NOT_WRITABLE);
         EXPECT(are(counts, 0, 0, 0, 0));
         fill_alike();
         len = 9;
-        EXPECT(gtid_report_write(longer, lengths[i], next, sizeof next, &len) == 12 && len == 0);
+        EXPECT(gtid_report_write(longer, lengths[i], next, sizeof next, &len) == GTID_REFUSAL_NOT_WRITABLE && len == 0);
         len = 9;
-        EXPECT(gtid_report_write(longer, lengths[i], next, 0, &len) == 12 && len == 0);
+        EXPECT(gtid_report_write(longer, lengths[i], next, 0, &len) == GTID_REFUSAL_NOT_WRITABLE && len == 0);
         EXPECT(memcmp(next, set, sizeof next) == 0);
     }
 }
@@ -642,17 +674,18 @@ static void refuse_reports(void)
 /* 64 sets of 384 entries with 5 intervals and 2^63 - 38 ids each: every number has its most digits. */
 static void write_longest_report(void)
 {
-    size_t one_len = put_great_set(one, 384, 5);
+    size_t one_len = put_great_set(one, GTID_MAX_ENTRIES, 5);
+    uint64_t ids = GTID_MAX_ENTRIES * UINT64_C(38); /* so many less than a multiple of 2^64 */
     char expected[GTID_LONGEST_REPORT + 1] = "";
 
     memset(report, 0, sizeof report);
     for (int i = 0; i < GTID_MAX_SETS; i++) {
-        EXPECT(adds(one, one_len, 384, 1920, 191, UINT64_MAX - 384 * 38 + 1));
+        EXPECT(adds(one, one_len, GTID_MAX_ENTRIES, 5 * GTID_MAX_ENTRIES, 191, UINT64_MAX - ids + 1));
         strcat(expected, "set 384 1920 191 18446744073709537024\n");
     }
     strcat(expected, "sum 24576 122880 12287 18446744073708617728\n");
     EXPECT(strlen(expected) == GTID_LONGEST_REPORT);
-    EXPECT(sums_are(24576, 122880, 12287, UINT64_MAX - 64 * 384 * 38 + 1));
+    EXPECT(sums_are(24576, 122880, 12287, UINT64_MAX - GTID_MAX_SETS * ids + 1));
     EXPECT(report_is(expected));
 }
 
@@ -684,7 +717,7 @@ static void write_longest_report(void)
  * many bytes the body has. */
 static size_t put_fields(const uint8_t *fields, size_t fields_len, uint8_t last_non_ignorable)
 {
-    const uint8_t front[] = {42, 2, (uint8_t)(2 * (3 + fields_len)), (uint8_t)(2 * last_non_ignorable)};
+    const uint8_t front[] = {GTID_TYPE_TAGGED, 2, (uint8_t)(2 * (3 + fields_len)), (uint8_t)(2 * last_non_ignorable)};
 
     memcpy(input, front, sizeof front);
     memcpy(input + sizeof front, fields, fields_len);
@@ -704,7 +737,7 @@ static uint8_t read_by_both(uint8_t event_type, const uint8_t *body, size_t body
     EXPECT(gtid_read(event_type, body, body_len, plain, room, &plain_used) == number);
     EXPECT(used == plain_used && memcmp(record, plain, sizeof record) == 0);
     EXPECT(number != 0 || used == body_len);
-    EXPECT(number != 13 || used == GTID_RECORD_LEN);
+    EXPECT(number != GTID_REFUSAL_NO_ROOM || used == GTID_RECORD_LEN);
     return number;
 }
 
@@ -714,7 +747,7 @@ static int tells(const uint8_t *fields, size_t fields_len, uint16_t expected)
     size_t body_len = put_fields(fields, fields_len, 0);
     uint16_t present;
 
-    return read_by_both(42, input + 1, body_len, GTID_RECORD_LEN, &present) == 0 && present == expected;
+    return read_by_both(GTID_TYPE_TAGGED, input + 1, body_len, GTID_RECORD_LEN, &present) == 0 && present == expected;
 }
 
 /* Whether a tagged event with these fields is refused with this number, and nothing is told to be present. */
@@ -723,18 +756,17 @@ static int refuses(const uint8_t *fields, size_t fields_len, uint8_t last_non_ig
     size_t body_len = put_fields(fields, fields_len, last_non_ignorable);
     uint16_t present;
 
-    return read_by_both(42, input + 1, body_len, GTID_RECORD_LEN, &present) == expected && present == 0;
+    return read_by_both(GTID_TYPE_TAGGED, input + 1, body_len, GTID_RECORD_LEN, &present) == expected && present == 0;
 }
 
 /* The number that a tagged event with these fields is answered with, offered to the empty set. After a refusal the output is as it was. */
 static uint8_t offered(const uint8_t *fields, size_t fields_len)
 {
     size_t body_len = put_fields(fields, fields_len, 0), len = 9;
-    const uint8_t empty[8] = {0};
     uint8_t kind = 9, number;
 
     fill_alike();
-    number = gtid_offer(empty, sizeof empty, 42, input + 1, body_len, next, sizeof next, &kind, &len);
+    number = gtid_offer(empty, sizeof empty, GTID_TYPE_TAGGED, input + 1, body_len, next, sizeof next, &kind, &len);
     EXPECT(number == 0 ? kind == GTID_TAKEN : kind == GTID_REFUSED && len == 0 && memcmp(next, set, sizeof next) == 0);
     return number;
 }
@@ -790,7 +822,7 @@ static void read_originals(void)
     uint8_t record[GTID_RECORD_LEN];
     uint16_t present = 9;
 
-    EXPECT(gtid_read_present(42, input + 1, body_len, record, sizeof record, &used, &present) == 0);
+    EXPECT(gtid_read_present(GTID_TYPE_TAGGED, input + 1, body_len, record, sizeof record, &used, &present) == 0);
     EXPECT(present == (GTID_FIELD_TAG | GTID_FIELD_IMMEDIATE_COMMIT_TIMESTAMP | GTID_FIELD_IMMEDIATE_SERVER_VERSION));
     EXPECT(record[76] == 10 && record[84] == 10 && record[100] == 13 && record[104] == 13);
 }
@@ -801,28 +833,28 @@ static void offer_and_list_without_id(void)
 {
     EXPECT(comes_to(FIELDS(ALL_FIELDS), 0, LISTED_ID "6\n"));
     EXPECT(comes_to(FIELDS(UUID, GNO(6), TAG, UNKNOWN), 0, LISTED_ID "6\n"));
-    EXPECT(comes_to(FIELDS(UUID, GNO(0), TAG), 15, LISTED_ID "0\n"));
-    EXPECT(comes_to(FIELDS(UUID, TAG), 21, "refused 21\n"));
-    EXPECT(comes_to(FIELDS(GNO(6), TAG), 21, "refused 21\n"));
-    EXPECT(comes_to(FIELDS(GNO(0), TAG), 21, "refused 21\n"));
-    EXPECT(comes_to(FIELDS(TAG), 21, "refused 21\n"));
-    EXPECT(comes_to(FIELDS(TAG, UNKNOWN), 21, "refused 21\n"));
-    EXPECT(comes_to(FIELDS(UUID, TAG, UNKNOWN, GNO(6)), 21, "refused 21\n"));
-    EXPECT(comes_to(FIELDS(GNO(6), TAG, UNKNOWN, UUID), 21, "refused 21\n"));
-    EXPECT(comes_to(FIELDS(UUID, GNO(6)), 7, "refused 7\n"));
-    EXPECT(comes_to(FIELDS(FLAGS), 7, "refused 7\n"));
-    EXPECT(comes_to(FIELDS(UNKNOWN, UUID, GNO(6), TAG), 7, "refused 7\n"));
+    EXPECT(comes_to(FIELDS(UUID, GNO(0), TAG), GTID_REFUSAL_BAD_GNO, LISTED_ID "0\n"));
+    EXPECT(comes_to(FIELDS(UUID, TAG), GTID_REFUSAL_ABSENT_ID, "refused 21\n"));
+    EXPECT(comes_to(FIELDS(GNO(6), TAG), GTID_REFUSAL_ABSENT_ID, "refused 21\n"));
+    EXPECT(comes_to(FIELDS(GNO(0), TAG), GTID_REFUSAL_ABSENT_ID, "refused 21\n"));
+    EXPECT(comes_to(FIELDS(TAG), GTID_REFUSAL_ABSENT_ID, "refused 21\n"));
+    EXPECT(comes_to(FIELDS(TAG, UNKNOWN), GTID_REFUSAL_ABSENT_ID, "refused 21\n"));
+    EXPECT(comes_to(FIELDS(UUID, TAG, UNKNOWN, GNO(6)), GTID_REFUSAL_ABSENT_ID, "refused 21\n"));
+    EXPECT(comes_to(FIELDS(GNO(6), TAG, UNKNOWN, UUID), GTID_REFUSAL_ABSENT_ID, "refused 21\n"));
+    EXPECT(comes_to(FIELDS(UUID, GNO(6)), GTID_REFUSAL_NO_TAG, "refused 7\n"));
+    EXPECT(comes_to(FIELDS(FLAGS), GTID_REFUSAL_NO_TAG, "refused 7\n"));
+    EXPECT(comes_to(FIELDS(UNKNOWN, UUID, GNO(6), TAG), GTID_REFUSAL_NO_TAG, "refused 7\n"));
 }
 
 /* Bytes that are no set are refused before an event without its id; and such an event before a lack of room. */
 static void offer_without_id_in_order(void)
 {
     size_t body_len = put_fields(FIELDS(TAG), 0), len = 9;
-    const uint8_t empty[8] = {0};
     uint8_t kind = 9;
 
-    EXPECT(gtid_offer(empty, 7, 42, input + 1, body_len, next, sizeof next, &kind, &len) == 14);
-    EXPECT(gtid_offer(empty, 8, 42, input + 1, body_len, next, 0, &kind, &len) == 21 && kind == GTID_REFUSED && len == 0);
+    EXPECT(gtid_offer(empty, 7, GTID_TYPE_TAGGED, input + 1, body_len, next, sizeof next, &kind, &len) == GTID_REFUSAL_NOT_A_SET);
+    EXPECT(gtid_offer(empty, 8, GTID_TYPE_TAGGED, input + 1, body_len, next, 0, &kind, &len) == GTID_REFUSAL_ABSENT_ID);
+    EXPECT(kind == GTID_REFUSED && len == 0);
 }
 
 /* With a refusal nothing is present, whatever was read before the fault. */
@@ -831,34 +863,35 @@ static void refuse_fields(void)
     size_t body_len;
     uint16_t present;
 
-    EXPECT(refuses(FIELDS(UUID, GNO(6)), 0, 7));
-    EXPECT(refuses(FIELDS(UUID, GNO(6), UNKNOWN, TAG), 0, 7));
-    EXPECT(refuses(FIELDS(ALL_FIELDS, UNKNOWN), 12, 5));
-    EXPECT(refuses(FIELDS(UUID, TAG, 2 * 3, 2 * 1, 'A'), 0, 6));
-    EXPECT(refuses(FIELDS(UUID, TAG, 2 * 2), 0, 1));
+    EXPECT(refuses(FIELDS(UUID, GNO(6)), 0, GTID_REFUSAL_NO_TAG));
+    EXPECT(refuses(FIELDS(UUID, GNO(6), UNKNOWN, TAG), 0, GTID_REFUSAL_NO_TAG));
+    EXPECT(refuses(FIELDS(ALL_FIELDS, UNKNOWN), 12, GTID_REFUSAL_UNKNOWN_FIELD));
+    EXPECT(refuses(FIELDS(UUID, TAG, 2 * 3, 2 * 1, 'A'), 0, GTID_REFUSAL_BAD_TAG));
+    EXPECT(refuses(FIELDS(UUID, TAG, 2 * 2), 0, GTID_REFUSAL_ENDED));
     body_len = put_fields(FIELDS(ALL_FIELDS), 0);
-    EXPECT(read_by_both(42, input + 1, body_len - 1, GTID_RECORD_LEN, &present) == 1 && present == 0);
-    EXPECT(read_by_both(35, input + 1, body_len, GTID_RECORD_LEN, &present) == 8 && present == 0);
-    EXPECT(read_by_both(42, input + 1, body_len, GTID_RECORD_LEN - 1, &present) == 13 && present == 0);
-    EXPECT(read_by_both(42, input + 1, body_len, 0, &present) == 13 && present == 0);
+    EXPECT(read_by_both(GTID_TYPE_TAGGED, input + 1, body_len - 1, GTID_RECORD_LEN, &present) == GTID_REFUSAL_ENDED && present == 0);
+    EXPECT(read_by_both(GTID_TYPE_PREVIOUS, input + 1, body_len, GTID_RECORD_LEN, &present) == GTID_REFUSAL_WRONG_TYPE && present == 0);
+    EXPECT(read_by_both(GTID_TYPE_TAGGED, input + 1, body_len, GTID_RECORD_LEN - 1, &present) == GTID_REFUSAL_NO_ROOM && present == 0);
+    EXPECT(read_by_both(GTID_TYPE_TAGGED, input + 1, body_len, 0, &present) == GTID_REFUSAL_NO_ROOM && present == 0);
 }
 
 /* Of an untagged event no field is told, and none is missed: its uuid and gno have their places. */
 static void read_and_offer_untagged(void)
 {
-    const uint8_t empty[8] = {0}, zeros[25] = {0};
+    const uint8_t zeros[SHORT_EVENT_LEN] = {0};
     uint8_t kind = 9;
     uint16_t present;
     size_t len = 9;
 
-    EXPECT(read_by_both(33, zeros, sizeof zeros, GTID_RECORD_LEN, &present) == 0 && present == 0);
-    EXPECT(read_by_both(34, zeros, sizeof zeros, GTID_RECORD_LEN, &present) == 0 && present == 0);
-    EXPECT(read_by_both(33, zeros, sizeof zeros - 1, GTID_RECORD_LEN, &present) == 1 && present == 0);
-    EXPECT(read_by_both(33, zeros, sizeof zeros, GTID_RECORD_LEN - 1, &present) == 13 && present == 0);
-    EXPECT(gtid_offer(empty, sizeof empty, 33, zeros, sizeof zeros, next, sizeof next, &kind, &len) == 15);
-    EXPECT(gtid_offer(empty, sizeof empty, 34, zeros, sizeof zeros, next, sizeof next, &kind, &len) == 0 && kind == GTID_NO_ID);
+    EXPECT(read_by_both(GTID_TYPE_GTID, zeros, sizeof zeros, GTID_RECORD_LEN, &present) == 0 && present == 0);
+    EXPECT(read_by_both(GTID_TYPE_ANONYMOUS, zeros, sizeof zeros, GTID_RECORD_LEN, &present) == 0 && present == 0);
+    EXPECT(read_by_both(GTID_TYPE_GTID, zeros, sizeof zeros - 1, GTID_RECORD_LEN, &present) == GTID_REFUSAL_ENDED && present == 0);
+    EXPECT(read_by_both(GTID_TYPE_GTID, zeros, sizeof zeros, GTID_RECORD_LEN - 1, &present) == GTID_REFUSAL_NO_ROOM && present == 0);
+    EXPECT(gtid_offer(empty, sizeof empty, GTID_TYPE_GTID, zeros, sizeof zeros, next, sizeof next, &kind, &len) == GTID_REFUSAL_BAD_GNO);
+    EXPECT(gtid_offer(empty, sizeof empty, GTID_TYPE_ANONYMOUS, zeros, sizeof zeros, next, sizeof next, &kind, &len) == 0);
+    EXPECT(kind == GTID_NO_ID);
     memset(input, 0, 1 + sizeof zeros);
-    input[0] = 33;
+    input[0] = GTID_TYPE_GTID;
     EXPECT(gtid_list(input, 1 + sizeof zeros, text, sizeof text, &len) == 0 && len == 44);
     EXPECT(memcmp(text, "gtid 00000000-0000-0000-0000-000000000000:0\n", len) == 0);
 }
@@ -870,13 +903,25 @@ static void write_without_id(void)
     size_t body_len = put_fields(FIELDS(TAG), 0), used = 9, len = 9;
     uint16_t present = 9;
 
-    EXPECT(gtid_read_present(42, input + 1, body_len, record, sizeof record, &used, &present) == 0 && present == GTID_FIELD_TAG);
+    EXPECT(gtid_read_present(GTID_TYPE_TAGGED, input + 1, body_len, record, sizeof record, &used, &present) == 0);
+    EXPECT(present == GTID_FIELD_TAG);
     EXPECT(gtid_write(record, sizeof record, written, sizeof written, &len) == 0);
-    EXPECT(gtid_read_present(42, written, len, back, sizeof back, &used, &present) == 0 && used == len);
+    EXPECT(gtid_read_present(GTID_TYPE_TAGGED, written, len, back, sizeof back, &used, &present) == 0 && used == len);
     EXPECT(memcmp(back, record, sizeof record) == 0);
     /* all but the originals, which are equal to the immediate ones, and the ticket, which is 0 */
     EXPECT(present == 0x037f);
 }
+
+/* The first bytes of a binlog file. */
+#define OPENING "\xfe" "bin"
+#define OPENING_LEN (sizeof OPENING - 1)
+
+/* Types of events that are skipped. */
+#define STOP 3
+#define ROTATE 4
+#define FORMAT_DESCRIPTION 15
+#define XID 16
+#define ROWS 30
 
 /* A binlog file in the making, with checksums or without, and a reader of such files with its work bytes. Its set is `set`, and `next` the
  * room for the set after an event. */
@@ -892,21 +937,27 @@ static size_t story_len, known_len;
 
 static void put_file_opening(uint8_t with_checksums)
 {
-    memcpy(file, "\xfe" "bin", 4);
-    file_len = 4;
+    memcpy(file, OPENING, OPENING_LEN);
+    file_len = OPENING_LEN;
     checksums = with_checksums;
+}
+
+/* How many bytes an event with such a body has. */
+static uint32_t event_size(uint32_t body_len)
+{
+    return GTID_EVENT_HEADER_LEN + body_len + (checksums ? GTID_CHECKSUM_LEN : 0);
 }
 
 /* The header of an event that claims a body of so many bytes. */
 static void put_header(uint8_t event_type, uint32_t body_len)
 {
-    uint32_t size = 19 + body_len + (checksums ? 4 : 0);
+    uint32_t size = event_size(body_len);
 
-    memset(file + file_len, 0x5a, 19); /* nothing else of a header is looked at */
+    memset(file + file_len, 0x5a, GTID_EVENT_HEADER_LEN); /* nothing else of a header is looked at */
     file[file_len + 4] = event_type;
     for (int i = 0; i < 4; i++)
         file[file_len + 9 + i] = (uint8_t)(size >> (8 * i));
-    file_len += 19;
+    file_len += GTID_EVENT_HEADER_LEN;
 }
 
 static void put_event(uint8_t event_type, const uint8_t *body, size_t body_len)
@@ -915,31 +966,30 @@ static void put_event(uint8_t event_type, const uint8_t *body, size_t body_len)
     memcpy(file + file_len, body, body_len);
     file_len += body_len;
     if (checksums) {
-        memset(file + file_len, 0xa5, 4);
-        file_len += 4;
+        memset(file + file_len, 0xa5, GTID_CHECKSUM_LEN);
+        file_len += GTID_CHECKSUM_LEN;
     }
 }
 
-/* An event of type 33 or 34, with this number of the uuid 07 07 .. . */
+/* Such an event of type 33 or 34. */
 static void put_gtid(uint8_t event_type, uint64_t gno)
 {
-    uint8_t body[25] = {0};
+    uint8_t body[SHORT_EVENT_LEN];
 
-    memset(body + 1, 7, 16);
-    put(body + 17, gno);
+    put_short_event(body, gno);
     put_event(event_type, body, sizeof body);
 }
 
 /* An event of type 35, with such intervals of that uuid. */
 static void put_previous(uint64_t count, uint64_t first, uint64_t numbers)
 {
-    put_event(35, one, put_set(one, count, first, numbers));
+    put_event(GTID_TYPE_PREVIOUS, one, put_set(one, count, first, numbers));
 }
 
 /* An event that is skipped, with a body of so many bytes. */
 static void put_skipped(uint8_t event_type, size_t body_len)
 {
-    memset(input, 35, body_len);
+    memset(input, GTID_TYPE_PREVIOUS, body_len);
     put_event(event_type, input, body_len);
 }
 
@@ -1067,8 +1117,6 @@ static const uint8_t *hears(const uint8_t *at, uint8_t said, uint8_t event_type,
     return memcmp(at, numbers, 8) == 0 && memcmp(at + 8, then, then_len) == 0 ? at + 8 + then_len : NULL;
 }
 
-static const uint8_t no_ids[8] = {0};
-
 /* A small file, from a set with the numbers 4 to 8: the opening event has 1 to 5, and they are joined; then 9 comes, and comes again, one
  * without an id, and one with a tag. Between them stand events of other types, one of them without a body. */
 static void read_small_file(uint8_t with_checksums)
@@ -1078,37 +1126,37 @@ static void read_small_file(uint8_t with_checksums)
     const uint8_t *at = known_story;
 
     put_file_opening(with_checksums);
-    put_skipped(15, 99);
+    put_skipped(FORMAT_DESCRIPTION, 99);
     put_previous(1, 1, 5);
-    put_gtid(33, 9);
-    put_skipped(30, 40);
-    put_skipped(16, 8);
-    put_gtid(33, 9);
-    put_gtid(34, 0);
-    put_skipped(3, 0);
+    put_gtid(GTID_TYPE_GTID, 9);
+    put_skipped(ROWS, 40);
+    put_skipped(XID, 8);
+    put_gtid(GTID_TYPE_GTID, 9);
+    put_gtid(GTID_TYPE_ANONYMOUS, 0);
+    put_skipped(STOP, 0);
     body_len = put_fields(FIELDS(UUID, GNO(6), TAG), 0);
-    put_event(42, input + 1, body_len);
-    put_skipped(4, 21);
+    put_event(GTID_TYPE_TAGGED, input + 1, body_len);
+    put_skipped(ROTATE, 21);
     EXPECT(reads(start, start_len) == 0);
 
-    at = hears(at, GTID_JOINED, 35, 48, wanted, put_set(wanted, 1, 1, 8));
-    at = hears(at, GTID_TAKEN, 33, 25, wanted, put_set(wanted, 1, 1, 9));
-    at = hears(at, GTID_ALREADY_THERE, 33, 25, wanted, put_set(wanted, 1, 1, 9));
-    at = hears(at, GTID_NO_ID, 34, 25, wanted, put_set(wanted, 1, 1, 9));
-    put(tagged, (UINT64_C(1) << 56) + (2 << 8) + 1);
+    at = hears(at, GTID_JOINED, GTID_TYPE_PREVIOUS, SMALL_SET_LEN, wanted, put_set(wanted, 1, 1, 8));
+    at = hears(at, GTID_TAKEN, GTID_TYPE_GTID, SHORT_EVENT_LEN, wanted, put_set(wanted, 1, 1, 9));
+    at = hears(at, GTID_ALREADY_THERE, GTID_TYPE_GTID, SHORT_EVENT_LEN, wanted, put_set(wanted, 1, 1, 9));
+    at = hears(at, GTID_NO_ID, GTID_TYPE_ANONYMOUS, SHORT_EVENT_LEN, wanted, put_set(wanted, 1, 1, 9));
+    put_tagged_header(tagged, 2);
     memset(tagged + 8, 7, 16);
     tagged[24] = 0; /* no tag */
     put_intervals(tagged + 25, 1, 1, 9);
     memset(tagged + 49, 7, 16);
     memcpy(tagged + 65, "\x0a" "depot", 6);
     tagged_len = (size_t)(put_intervals(tagged + 71, 1, 6, 1) - tagged);
-    at = hears(at, GTID_TAKEN, 42, body_len, tagged, tagged_len);
+    at = hears(at, GTID_TAKEN, GTID_TYPE_TAGGED, body_len, tagged, tagged_len);
     EXPECT(at != NULL && at + 16 + tagged_len == known_story + known_len);
     EXPECT(reader.set_len == tagged_len && memcmp(set, tagged, tagged_len) == 0);
 
     /* again, from the set that it left: nothing is new, and the bytes are the same */
     EXPECT(read_file(tagged, tagged_len, file_len, file_len) == 0);
-    EXPECT(hears(story, GTID_JOINED, 35, 48, tagged, tagged_len) != NULL);
+    EXPECT(hears(story, GTID_JOINED, GTID_TYPE_PREVIOUS, SMALL_SET_LEN, tagged, tagged_len) != NULL);
     EXPECT(reader.set_len == tagged_len && memcmp(set, tagged, tagged_len) == 0);
 }
 
@@ -1122,23 +1170,24 @@ static void end_anywhere(uint8_t with_checksums)
     ends[0] = file_len;
     put_previous(1, 1, 5);
     ends[1] = file_len;
-    put_skipped(30, 20);
+    put_skipped(ROWS, 20);
     ends[2] = file_len;
-    put_skipped(3, 0);
+    put_skipped(STOP, 0);
     ends[3] = file_len;
-    put_gtid(33, 6);
+    put_gtid(GTID_TYPE_GTID, 6);
     ends[4] = file_len;
     for (size_t cut = 0; cut <= file_len; cut++) {
-        uint8_t number = cut == ends[known] ? (known++, 0) : 1, after = number == 0 ? 18 : 1;
+        uint8_t number = cut == ends[known] ? (known++, 0) : GTID_REFUSAL_ENDED;
+        uint8_t after = number == 0 ? GTID_REFUSAL_BAD_FILE : number;
 
-        EXPECT(begin_from(no_ids, sizeof no_ids) == 0 && reader.said == GTID_MORE_WANTED);
+        EXPECT(begin_from(empty, sizeof empty) == 0 && reader.said == GTID_MORE_WANTED);
         EXPECT(feed(file, cut) == 0);
         EXPECT(end_file() == number && end_file() == number);
         EXPECT(step(file, 0) == number && reader.said == (number == 0 ? GTID_ENDED : GTID_REFUSED));
         EXPECT(end_file() == number);
-        EXPECT(step(file, file_len) == after && reader.used == (after == 18 ? 1 : 0));
+        EXPECT(step(file, file_len) == after && reader.used == (after == GTID_REFUSAL_BAD_FILE ? 1 : 0));
         EXPECT(end_file() == after && step(file, 0) == after && step(file, 1) == after && reader.used == 0);
-        EXPECT(reader.set_len == (cut < ends[1] ? 8 : 48));
+        EXPECT(reader.set_len == (cut < ends[1] ? 8 : SMALL_SET_LEN));
     }
     EXPECT(known == 5);
 }
@@ -1152,7 +1201,7 @@ static int has_six(void)
 /* Whether the file is refused with this number, wherever it is cut, and leaves the set with the numbers 1 to 6. */
 static int stops(uint8_t number)
 {
-    return reads(no_ids, sizeof no_ids) == number && has_six();
+    return reads(empty, sizeof empty) == number && has_six();
 }
 
 /* The beginning of a file that has the numbers 1 to 6. Its next event is refused. */
@@ -1160,26 +1209,26 @@ static void put_six(uint8_t with_checksums)
 {
     put_file_opening(with_checksums);
     put_previous(1, 1, 5);
-    put_skipped(30, 3);
-    put_gtid(33, 6);
+    put_skipped(ROWS, 3);
+    put_gtid(GTID_TYPE_GTID, 6);
 }
 
 static void refuse_opening(void)
 {
-    for (size_t wrong = 0; wrong < 4; wrong++) {
+    for (size_t wrong = 0; wrong < OPENING_LEN; wrong++) {
         put_file_opening(0);
         put_previous(1, 1, 5);
         file[wrong] ^= 1;
-        EXPECT(reads(no_ids, sizeof no_ids) == 18 && reader.set_len == 8);
-        EXPECT(begin_from(no_ids, sizeof no_ids) == 0 && step(file, file_len) == 18 && reader.used == wrong + 1);
+        EXPECT(reads(empty, sizeof empty) == GTID_REFUSAL_BAD_FILE && reader.set_len == 8);
+        EXPECT(begin_from(empty, sizeof empty) == 0 && step(file, file_len) == GTID_REFUSAL_BAD_FILE && reader.used == wrong + 1);
     }
 }
 
 /* A size that hasn't room for header and checksum, of a type that is read and of one that is skipped. The least size has. */
 static void refuse_small_sizes(uint8_t with_checksums)
 {
-    const uint8_t types[] = {33, 35, 30};
-    uint8_t least = with_checksums ? 23 : 19;
+    const uint8_t types[] = {GTID_TYPE_GTID, GTID_TYPE_PREVIOUS, ROWS};
+    uint8_t least = GTID_EVENT_HEADER_LEN + (with_checksums ? GTID_CHECKSUM_LEN : 0);
 
     for (int i = 0; i < 3; i++)
         for (uint8_t size = 0; size <= least; size++) {
@@ -1187,66 +1236,67 @@ static void refuse_small_sizes(uint8_t with_checksums)
             put_event(types[i], input, 0);
             file[file_len - least + 9] = size;
             if (size < least)
-                EXPECT(stops(18));
+                EXPECT(stops(GTID_REFUSAL_BAD_FILE));
             else
-                EXPECT(stops(types[i] == 30 ? 0 : 1)); /* a body of no bytes */
+                EXPECT(stops(types[i] == ROWS ? 0 : GTID_REFUSAL_ENDED)); /* a body of no bytes */
         }
 }
 
 /* A body of 65,536 bytes is read, and one more is refused with 11 once the header is whole; but not of a type that is skipped. */
 static void refuse_long_bodies(uint8_t with_checksums)
 {
-    const uint8_t types[] = {33, 34, 35, 42}, numbers[] = {15, 0, 0, 4};
+    const uint8_t types[] = {GTID_TYPE_GTID, GTID_TYPE_ANONYMOUS, GTID_TYPE_PREVIOUS, GTID_TYPE_TAGGED};
+    const uint8_t numbers[] = {GTID_REFUSAL_BAD_GNO, 0, 0, GTID_REFUSAL_WRONG_VERSION};
 
     for (int i = 0; i < 4; i++) {
         put_six(with_checksums);
-        put_header(types[i], 65537);
-        EXPECT(stops(11));
+        put_header(types[i], GTID_MAX_BODY + 1);
+        EXPECT(stops(GTID_REFUSAL_TOO_LONG));
         put_six(with_checksums);
         put_header(types[i], 1 << 24); /* by the highest byte of its size */
-        EXPECT(stops(11));
+        EXPECT(stops(GTID_REFUSAL_TOO_LONG));
         put_six(with_checksums);
-        memset(input, 0, 65536);
-        put_event(types[i], input, 65536);
-        EXPECT(read_file(no_ids, sizeof no_ids, file_len, 1) == numbers[i] && has_six());
+        memset(input, 0, GTID_MAX_BODY);
+        put_event(types[i], input, GTID_MAX_BODY);
+        EXPECT(read_file(empty, sizeof empty, file_len, 1) == numbers[i] && has_six());
     }
     put_six(with_checksums);
-    put_header(30, UINT32_MAX - 19 - (with_checksums ? 4 : 0));
-    EXPECT(stops(1)); /* the end inside it */
+    put_header(ROWS, UINT32_MAX - event_size(0));
+    EXPECT(stops(GTID_REFUSAL_ENDED)); /* the end inside it */
     put_six(with_checksums);
-    put_header(30, 100000);
-    memset(file + file_len, 35, 100004);
-    file_len += 100000 + (with_checksums ? 4 : 0);
-    put_gtid(33, 6);
-    EXPECT(read_file(no_ids, sizeof no_ids, 4093, 4093) == 0 && has_six());
+    put_header(ROWS, 100000);
+    memset(file + file_len, GTID_TYPE_PREVIOUS, 100000 + GTID_CHECKSUM_LEN);
+    file_len += 100000 + (with_checksums ? GTID_CHECKSUM_LEN : 0);
+    put_gtid(GTID_TYPE_GTID, 6);
+    EXPECT(read_file(empty, sizeof empty, 4093, 4093) == 0 && has_six());
 }
 
 /* Events that are whole, and refused: in an offer, and where they are to be joined. */
 static void refuse_events(uint8_t with_checksums)
 {
-    const uint8_t body[25] = {0};
+    const uint8_t body[SHORT_EVENT_LEN] = {0};
 
     put_six(with_checksums);
-    put_event(33, body, 24);
-    put_gtid(33, 7);
-    EXPECT(stops(1));
+    put_event(GTID_TYPE_GTID, body, SHORT_EVENT_LEN - 1);
+    put_gtid(GTID_TYPE_GTID, 7);
+    EXPECT(stops(GTID_REFUSAL_ENDED));
     put_six(with_checksums);
-    put_gtid(33, 0);
-    EXPECT(stops(15));
+    put_gtid(GTID_TYPE_GTID, 0);
+    EXPECT(stops(GTID_REFUSAL_BAD_GNO));
     put_six(with_checksums);
-    put_event(42, input + 1, put_fields(FIELDS(TAG), 0));
-    put_gtid(33, 7);
-    EXPECT(stops(21));
+    put_event(GTID_TYPE_TAGGED, input + 1, put_fields(FIELDS(TAG), 0));
+    put_gtid(GTID_TYPE_GTID, 7);
+    EXPECT(stops(GTID_REFUSAL_ABSENT_ID));
     put_six(with_checksums);
-    put_event(35, one, put_set(one, 1, 7, 1) - 1);
-    put_gtid(33, 7);
-    EXPECT(stops(1));
+    put_event(GTID_TYPE_PREVIOUS, one, put_set(one, 1, 7, 1) - 1);
+    put_gtid(GTID_TYPE_GTID, 7);
+    EXPECT(stops(GTID_REFUSAL_ENDED));
     put_six(with_checksums);
     put_previous(1, 0, 7);
-    EXPECT(stops(15));
+    EXPECT(stops(GTID_REFUSAL_BAD_GNO));
     put_six(with_checksums);
     put_previous(2, 1, 0); /* intervals without a number */
-    EXPECT(stops(15));
+    EXPECT(stops(GTID_REFUSAL_BAD_GNO));
 }
 
 /* So many numbers with gaps, 1, 11, .. : joined they may crowd an entry, and a body that would alone may not. */
@@ -1255,19 +1305,19 @@ static void join_many(void)
     size_t len;
 
     put_file_opening(0);
-    put_previous(512, 1, 1);
-    put_previous(512, 3, 1);
+    put_previous(HALF, 1, 1);
+    put_previous(HALF, 3, 1);
     put_previous(1, 8, 1);
-    EXPECT(read_file(no_ids, sizeof no_ids, 4093, 4093) == 17);
-    EXPECT(reader.set_len == 32 + 1024 * 16);
+    EXPECT(read_file(empty, sizeof empty, 4093, 4093) == GTID_REFUSAL_CROWDED);
+    EXPECT(reader.set_len == 32 + GTID_MAX_OF_ENTRY * 16);
     put_file_opening(0);
     put_previous(1, 1, 20000);
-    put_event(35, input + 1, put_one_entry(1025)); /* of another uuid */
-    EXPECT(read_file(no_ids, sizeof no_ids, 4093, 4093) == 17);
+    put_event(GTID_TYPE_PREVIOUS, input + 1, put_one_entry(GTID_MAX_OF_ENTRY + 1)); /* of another uuid */
+    EXPECT(read_file(empty, sizeof empty, 4093, 4093) == GTID_REFUSAL_CROWDED);
     put_file_opening(0);
     put_previous(1, 1, 20000);
-    put_previous(1025, 1, 1);
-    EXPECT(read_file(no_ids, sizeof no_ids, 4093, 4093) == 0);
+    put_previous(GTID_MAX_OF_ENTRY + 1, 1, 1);
+    EXPECT(read_file(empty, sizeof empty, 4093, 4093) == 0);
     len = put_set(wanted, 1, 1, 20000);
     EXPECT(reader.set_len == len && memcmp(set, wanted, len) == 0);
 }
@@ -1280,14 +1330,14 @@ static void fill_by_file(void)
 
     memcpy(longest, input + 1, put_longest_set());
     put_file_opening(1);
-    put_event(35, longest, sizeof longest);
-    put_event(42, event, put_last_event(event, LONG_NUMBER + 52));
+    put_event(GTID_TYPE_PREVIOUS, longest, sizeof longest);
+    put_event(GTID_TYPE_TAGGED, event, put_last_event(event, LONG_NUMBER + 52));
     put_previous(1, 1, 1);
-    EXPECT(read_file(no_ids, sizeof no_ids, 4093, 4093) == 16 && reader.set_len == GTID_LONGEST_SET);
+    EXPECT(read_file(empty, sizeof empty, 4093, 4093) == GTID_REFUSAL_FULL && reader.set_len == GTID_LONGEST_SET);
     EXPECT(lies_within(longest, sizeof longest, set, sizeof set) == 1 && lies_within(set, sizeof set, longest, sizeof longest) == 0);
     put_file_opening(1);
-    put_event(42, event, put_last_event(event, LONG_NUMBER + 54));
-    EXPECT(read_file(longest, sizeof longest, file_len, file_len) == 16 && memcmp(set, longest, sizeof set) == 0);
+    put_event(GTID_TYPE_TAGGED, event, put_last_event(event, LONG_NUMBER + 54));
+    EXPECT(read_file(longest, sizeof longest, file_len, file_len) == GTID_REFUSAL_FULL && memcmp(set, longest, sizeof set) == 0);
 }
 
 /* The number of a step through the whole file that is lent so much room, and what it says is needed. Set and spare are as they were, and
@@ -1311,22 +1361,24 @@ static void refuse_room(void)
     uint64_t needed;
 
     put_six(1);
-    EXPECT(begin_from(no_ids, sizeof no_ids) == 0);
-    EXPECT(step_in(GTID_BINLOG_WORK - 1, sizeof set, sizeof next, &needed) == 13 && needed == GTID_BINLOG_WORK);
-    EXPECT(begin_from(no_ids, sizeof no_ids) == 0);
-    EXPECT(step_in(0, sizeof set, sizeof next, &needed) == 13 && needed == GTID_BINLOG_WORK && end_file() == 13);
-    EXPECT(begin_from(no_ids, sizeof no_ids) == 0);
-    EXPECT(step_in(sizeof work, 47, sizeof next, &needed) == 13 && needed == 48);
-    EXPECT(begin_from(no_ids, sizeof no_ids) == 0);
-    EXPECT(step_in(sizeof work, sizeof set, 47, &needed) == 13 && needed == 48);
+    EXPECT(begin_from(empty, sizeof empty) == 0);
+    EXPECT(step_in(GTID_BINLOG_WORK - 1, sizeof set, sizeof next, &needed) == GTID_REFUSAL_NO_ROOM && needed == GTID_BINLOG_WORK);
+    EXPECT(begin_from(empty, sizeof empty) == 0);
+    EXPECT(step_in(0, sizeof set, sizeof next, &needed) == GTID_REFUSAL_NO_ROOM && needed == GTID_BINLOG_WORK);
+    EXPECT(end_file() == GTID_REFUSAL_NO_ROOM);
+    EXPECT(begin_from(empty, sizeof empty) == 0);
+    EXPECT(step_in(sizeof work, SMALL_SET_LEN - 1, sizeof next, &needed) == GTID_REFUSAL_NO_ROOM && needed == SMALL_SET_LEN);
+    EXPECT(begin_from(empty, sizeof empty) == 0);
+    EXPECT(step_in(sizeof work, sizeof set, SMALL_SET_LEN - 1, &needed) == GTID_REFUSAL_NO_ROOM && needed == SMALL_SET_LEN);
     /* an offer likewise; and just enough */
     put_file_opening(0);
-    put_gtid(33, 6);
-    EXPECT(begin_from(no_ids, sizeof no_ids) == 0);
-    EXPECT(step_in(sizeof work, sizeof set, 47, &needed) == 13 && needed == 48);
-    EXPECT(begin_from(no_ids, sizeof no_ids) == 0);
-    EXPECT(gtid_binlog_step((uint8_t *)&reader, sizeof reader, file, file_len, work, sizeof work, set, 48, next, 48) == 0);
-    EXPECT(reader.said == GTID_TAKEN && reader.set_len == 48 && reader.used == file_len);
+    put_gtid(GTID_TYPE_GTID, 6);
+    EXPECT(begin_from(empty, sizeof empty) == 0);
+    EXPECT(step_in(sizeof work, sizeof set, SMALL_SET_LEN - 1, &needed) == GTID_REFUSAL_NO_ROOM && needed == SMALL_SET_LEN);
+    EXPECT(begin_from(empty, sizeof empty) == 0);
+    EXPECT(gtid_binlog_step((uint8_t *)&reader, sizeof reader, file, file_len, work, sizeof work, set, SMALL_SET_LEN, next,
+                            SMALL_SET_LEN) == 0);
+    EXPECT(reader.said == GTID_TAKEN && reader.set_len == SMALL_SET_LEN && reader.used == file_len);
 }
 
 /* Bytes that are no set, at the start and in the midst; a reader of another length; and one that no call made. */
@@ -1337,23 +1389,25 @@ static void refuse_readers(void)
 
     EXPECT(sizeof reader == GTID_BINLOG_READER_LEN);
     put_six(0);
-    EXPECT(begin_from(no_ids, 7) == 14 && reader.said == GTID_REFUSED);
-    EXPECT(step(file, file_len) == 14 && reader.used == 0 && step(file, 0) == 14 && end_file() == 14);
-    EXPECT(begin_from(no_ids, sizeof no_ids) == 0 && step(file, 4) == 0);
+    EXPECT(begin_from(empty, 7) == GTID_REFUSAL_NOT_A_SET && reader.said == GTID_REFUSED);
+    EXPECT(step(file, file_len) == GTID_REFUSAL_NOT_A_SET && reader.used == 0);
+    EXPECT(step(file, 0) == GTID_REFUSAL_NOT_A_SET && end_file() == GTID_REFUSAL_NOT_A_SET);
+    EXPECT(begin_from(empty, sizeof empty) == 0 && step(file, OPENING_LEN) == 0);
     set[0] = 1; /* one entry, which isn't there */
-    EXPECT(step(file + 4, file_len - 4) == 14 && reader.set_len == 8 && set[0] == 1);
+    EXPECT(step(file + OPENING_LEN, file_len - OPENING_LEN) == GTID_REFUSAL_NOT_A_SET && reader.set_len == 8 && set[0] == 1);
     for (int i = 0; i < 3; i++) {
         memset(bytes, 0xa5, sizeof bytes);
         memset(before, 0xa5, sizeof before);
-        EXPECT(gtid_binlog_begin(no_ids, sizeof no_ids, 0, bytes, lengths[i]) == 12);
-        EXPECT(gtid_binlog_step(bytes, lengths[i], file, file_len, work, sizeof work, set, sizeof set, next, sizeof next) == 12);
-        EXPECT(gtid_binlog_end(bytes, lengths[i]) == 12 && memcmp(bytes, before, sizeof bytes) == 0);
+        EXPECT(gtid_binlog_begin(empty, sizeof empty, 0, bytes, lengths[i]) == GTID_REFUSAL_NOT_WRITABLE);
+        EXPECT(gtid_binlog_step(bytes, lengths[i], file, file_len, work, sizeof work, set, sizeof set, next, sizeof next) ==
+               GTID_REFUSAL_NOT_WRITABLE);
+        EXPECT(gtid_binlog_end(bytes, lengths[i]) == GTID_REFUSAL_NOT_WRITABLE && memcmp(bytes, before, sizeof bytes) == 0);
     }
     for (uint8_t kind = 0; kind < 3; kind++) {
         memset(&reader, 0xa5, sizeof reader);
         reader.own[0] = kind == 2 ? 0xff : kind; /* of a kind that none has, or with more bytes than can have come */
-        EXPECT(step(file, file_len) == 12 && reader.said == GTID_REFUSED && reader.used == 0);
-        EXPECT(step(file, file_len) == 12 && end_file() == 12);
+        EXPECT(step(file, file_len) == GTID_REFUSAL_NOT_WRITABLE && reader.said == GTID_REFUSED && reader.used == 0);
+        EXPECT(step(file, file_len) == GTID_REFUSAL_NOT_WRITABLE && end_file() == GTID_REFUSAL_NOT_WRITABLE);
     }
 }
 
@@ -1365,7 +1419,7 @@ static void copy_reader(void)
 
     put_six(1);
     for (size_t cut = 0; cut < file_len; cut++) {
-        EXPECT(begin_from(no_ids, sizeof no_ids) == 0 && feed(file, cut) == 0);
+        EXPECT(begin_from(empty, sizeof empty) == 0 && feed(file, cut) == 0);
         kept_reader = reader;
         memcpy(kept_work, work, sizeof work);
         memcpy(wanted, set, sizeof set);
@@ -1381,14 +1435,14 @@ static void copy_reader(void)
 static void read_two_files(void)
 {
     put_six(1);
-    EXPECT(read_file(no_ids, sizeof no_ids, 5, 5) == 0 && reader.set_len == 48);
-    memcpy(other, set, 48);
+    EXPECT(read_file(empty, sizeof empty, 5, 5) == 0 && reader.set_len == SMALL_SET_LEN);
+    memcpy(other, set, SMALL_SET_LEN);
     put_file_opening(0);
     put_previous(1, 1, 6);
-    put_gtid(33, 7);
-    EXPECT(read_file(other, 48, 5, 5) == 0);
-    EXPECT(hears(story, GTID_JOINED, 35, 48, other, 48) != NULL);
-    EXPECT(reader.set_len == 48 && memcmp(set, wanted, put_set(wanted, 1, 1, 7)) == 0);
+    put_gtid(GTID_TYPE_GTID, 7);
+    EXPECT(read_file(other, SMALL_SET_LEN, 5, 5) == 0);
+    EXPECT(hears(story, GTID_JOINED, GTID_TYPE_PREVIOUS, SMALL_SET_LEN, other, SMALL_SET_LEN) != NULL);
+    EXPECT(reader.set_len == SMALL_SET_LEN && memcmp(set, wanted, put_set(wanted, 1, 1, 7)) == 0);
 }
 
 int main(void)
@@ -1398,47 +1452,41 @@ int main(void)
     uint8_t kind = 9, present = 9;
 
     /* one entry, the uuid 07 07 .., with the transactions 1 to 5 */
-    uint8_t opening[48];
-    put(opening, 1);
-    memset(opening + 8, 7, 16);
-    put(opening + 24, 1);
-    put(opening + 32, 1);
-    put(opening + 40, 6);
+    uint8_t opening[SMALL_SET_LEN];
+    EXPECT(put_set(opening, 1, 1, 5) == sizeof opening);
 
     EXPECT(gtid_read_previous(opening, sizeof opening, &entries, &used) == 0);
-    EXPECT(entries == 1 && used == 48);
+    EXPECT(entries == 1 && used == SMALL_SET_LEN);
     EXPECT(gtid_read_entry(opening, sizeof opening, 8, &tag_len, &intervals, &first, &end) == 0);
-    EXPECT(tag_len == 0 && intervals == 1 && first == 32 && end == 48);
-    EXPECT(gtid_read_entry(opening, 47, 8, &tag_len, &intervals, &first, &end) == 1);
+    EXPECT(tag_len == 0 && intervals == 1 && first == 32 && end == SMALL_SET_LEN);
+    EXPECT(gtid_read_entry(opening, sizeof opening - 1, 8, &tag_len, &intervals, &first, &end) == GTID_REFUSAL_ENDED);
     EXPECT(tag_len == 0 && intervals == 0 && first == 0 && end == 0);
 
     EXPECT(gtid_take_in(opening, sizeof opening, set, sizeof set, &len) == 0);
-    EXPECT(len == 48 && memcmp(set, opening, len) == 0);
+    EXPECT(len == SMALL_SET_LEN && memcmp(set, opening, len) == 0);
     EXPECT(gtid_check_set(set, len, &entries, &intervals) == 0);
     EXPECT(entries == 1 && intervals == 1);
-    EXPECT(gtid_rewrite(opening, sizeof opening, next, 47, &used) == 13 && used == 48);
+    EXPECT(gtid_rewrite(opening, sizeof opening, next, SMALL_SET_LEN - 1, &used) == GTID_REFUSAL_NO_ROOM && used == SMALL_SET_LEN);
     EXPECT(gtid_rewrite(opening, sizeof opening, next, sizeof next, &used) == 0);
-    EXPECT(used == 48 && memcmp(next, opening, used) == 0);
+    EXPECT(used == SMALL_SET_LEN && memcmp(next, opening, used) == 0);
 
-    /* transaction 6 of the same uuid: flags, uuid, number */
-    uint8_t event[25];
-    event[0] = 0;
-    memset(event + 1, 7, 16);
-    put(event + 17, 6);
+    /* transaction 6 of the same uuid */
+    uint8_t event[SHORT_EVENT_LEN];
+    put_short_event(event, 6);
     EXPECT(gtid_contains(set, len, event + 1, 16, event, 0, 6, &present) == 0 && present == 0);
-    EXPECT(gtid_offer(set, len, 33, event, sizeof event, next, sizeof next, &kind, &len) == 0);
-    EXPECT(kind == GTID_TAKEN && len == 48);
+    EXPECT(gtid_offer(set, len, GTID_TYPE_GTID, event, sizeof event, next, sizeof next, &kind, &len) == 0);
+    EXPECT(kind == GTID_TAKEN && len == SMALL_SET_LEN);
     EXPECT(gtid_contains(next, len, event + 1, 16, event, 0, 6, &present) == 0 && present == 1);
-    EXPECT(gtid_offer(next, len, 33, event, sizeof event, set, sizeof set, &kind, &len) == 0);
+    EXPECT(gtid_offer(next, len, GTID_TYPE_GTID, event, sizeof event, set, sizeof set, &kind, &len) == 0);
     EXPECT(kind == GTID_ALREADY_THERE && memcmp(next, set, len) == 0);
-    EXPECT(gtid_offer(next, len, 33, event, 24, set, sizeof set, &kind, &len) == 1);
+    EXPECT(gtid_offer(next, len, GTID_TYPE_GTID, event, SHORT_EVENT_LEN - 1, set, sizeof set, &kind, &len) == GTID_REFUSAL_ENDED);
     EXPECT(kind == GTID_REFUSED && len == 0);
 
     uint8_t record[GTID_RECORD_LEN], written[GTID_LONGEST_EVENT];
-    EXPECT(gtid_read(33, event, sizeof event, record, sizeof record, &used) == 0 && used == 25);
-    EXPECT(memcmp(record, event, 25) == 0);
-    EXPECT(gtid_write(record, sizeof record, written, sizeof written, &len) == 0 && len == 25);
-    EXPECT(memcmp(written, event, 25) == 0);
+    EXPECT(gtid_read(GTID_TYPE_GTID, event, sizeof event, record, sizeof record, &used) == 0 && used == SHORT_EVENT_LEN);
+    EXPECT(memcmp(record, event, SHORT_EVENT_LEN) == 0);
+    EXPECT(gtid_write(record, sizeof record, written, sizeof written, &len) == 0 && len == SHORT_EVENT_LEN);
+    EXPECT(memcmp(written, event, SHORT_EVENT_LEN) == 0);
 
     const uint8_t unknown[] = {7}, item[] = {5, 0};
     EXPECT(gtid_list(unknown, sizeof unknown, text, sizeof text, &len) == 0);

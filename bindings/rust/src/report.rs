@@ -26,8 +26,8 @@ pub struct Counts {
     pub ids: u128,
 }
 
-/// A report over saved sets, up to [`MAX_SETS`](crate::MAX_SETS), that are given one after another: how many entries, intervals and ids each has, and the sums
-/// over all. An id that is in two sets counts twice. (Their [`union`](ResumeSet::union) has it once.)
+/// A report over saved sets, up to [`MAX_SETS`](crate::MAX_SETS), that are given one after another: how many entries, intervals and ids each
+/// has, and the sums over all. An id that is in two sets counts twice. (Their [`union`](ResumeSet::union) has it once.)
 ///
 /// Its text has a line for each set, in the order in which they were added, `set ENTRIES INTERVALS HIGH LOW`, and at last
 /// `sum ENTRIES INTERVALS HIGH LOW`. The ids are in two words: there are HIGH times 2^64 and LOW. What is no set has the line `refused 14`.
@@ -98,7 +98,8 @@ impl Report {
     ///
     /// # Errors
     ///
-    /// [`Refusal::TooLong`] if there are [`MAX_SETS`](crate::MAX_SETS) already, whatever the bytes are: they aren't read, and the report stays as it was.
+    /// [`Refusal::TooLong`] if there are [`MAX_SETS`](crate::MAX_SETS) already, whatever the bytes are: they aren't read, and the report stays
+    /// as it was.
     ///
     /// [`Refusal::NotASet`] if the bytes are none. They are one of the report's sets nevertheless: they have the line `refused 14`, but add
     /// nothing to the sums.
