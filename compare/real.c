@@ -9,8 +9,6 @@
 #include <stdlib.h>
 #include <string.h>
 
-#define FIELDS 116
-
 static struct gtid_binlog reader;
 static uint8_t work[GTID_BINLOG_WORK], set[GTID_LONGEST_SET], spare[GTID_LONGEST_SET];
 
@@ -31,7 +29,7 @@ static void hex(const uint8_t *bytes, size_t len)
 /* The uuid, the gno, both timestamps, the transaction's length, and both server versions. */
 static void tell_record(uint8_t type, const uint8_t *body, size_t len)
 {
-    uint8_t fields[FIELDS];
+    uint8_t fields[GTID_RECORD_LEN];
     size_t used;
     uint8_t refusal = gtid_read(type, body, len, fields, sizeof fields, &used);
     if (refusal != 0) {
