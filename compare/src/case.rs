@@ -187,7 +187,7 @@ impl Case {
     }
 }
 
-/// A record dump of 116 bytes.
+/// A record as gtid.h has its bytes.
 fn dump(fields: &Fields) -> Vec<u8> {
     let mut out = vec![fields.flags];
     out.extend_from_slice(&fields.uuid);

@@ -6,30 +6,29 @@ use crate::{
     words,
 };
 use std::io::ErrorKind;
-use theirs::answers::{self, Fields, Step, Told};
+use theirs::{
+    answers::{self, Fields, Step, Told},
+    numbers::{ANONYMOUS_GTID_EVENT, GTID_EVENT, MAX_BODY, UNDEFINED_SERVER_VERSION, refusal},
+};
 
 pub const COUNT: usize = 12;
-
-/// Body lengths that the rules serve.
-const GREATEST_BODY: usize = 65_536;
-
-/// What the reader takes for a server version that isn't there.
-const NO_VERSION: u32 = 999_999;
 
 /// Two equal answers: the same line; or two refusals, the crate's of the kind and (where its text is known) of the
 /// number that the rules give.
 pub fn equal(ours: &str, theirs: &Told<String>) -> bool {
     match theirs {
         Told::Ok(line) => ours == line,
-        Told::Refused(refusal) => words::refused(ours).is_some_and(|number| {
+        Told::Refused(told) => words::refused(ours).is_some_and(|number| {
             let kind_fits = match number {
-                1 => refusal.kind == ErrorKind::UnexpectedEof,
-                2..=7 | 9 => refusal.kind == ErrorKind::InvalidData,
-                8 => matches!(refusal.kind, ErrorKind::InvalidData | ErrorKind::Other),
-                10 => refusal.kind == ErrorKind::Other,
+                refusal::ENDED => told.kind == ErrorKind::UnexpectedEof,
+                refusal::WRONG_TYPE => {
+                    matches!(told.kind, ErrorKind::InvalidData | ErrorKind::Other)
+                }
+                refusal::TOO_LARGE..=refusal::SMALL_PAYLOAD => told.kind == ErrorKind::InvalidData,
+                refusal::BAD_LEAD => told.kind == ErrorKind::Other,
                 _ => false,
             };
-            kind_fits && refusal.number == Some(number)
+            kind_fits && told.number == Some(number)
         }),
         Told::Panicked | Told::Unreservable => false,
     }
@@ -47,7 +46,9 @@ pub fn sort(case: &Case, ours: &str, theirs: &Told<String>) -> Option<usize> {
 
 /// A body over 65,536 bytes: 11. The crate has no such limit.
 fn d1(case: &Case, ours: &str, _: &Told<String>) -> bool {
-    case.kind.takes_body() && case.body().len() > GREATEST_BODY && ours == "refused 11"
+    case.kind.takes_body()
+        && case.body().len() > MAX_BODY
+        && words::refused(ours) == Some(refusal::TOO_LONG)
 }
 
 /// The place of the transaction length's lead byte in an untagged body, if there is one.
@@ -69,14 +70,16 @@ fn d2(case: &Case, ours: &str, theirs: &Told<String>) -> bool {
     let place = match case.kind {
         Kind::ReadLenenc => Some(0),
         Kind::ReadRecord | Kind::RewriteRecord | Kind::LengthOfRead
-            if matches!(case.event_type, 33 | 34) =>
+            if matches!(case.event_type, GTID_EVENT | ANONYMOUS_GTID_EVENT) =>
         {
             length_place(case.body())
         }
         _ => None,
     };
     let Some(place) = place else { return false };
-    if !matches!(case.body().get(place), Some(0xfb | 0xff)) || ours != "refused 10" {
+    if !matches!(case.body().get(place), Some(0xfb | 0xff))
+        || words::refused(ours) != Some(refusal::BAD_LEAD)
+    {
         return false;
     }
     let mut with_zero = case.body().to_vec();
@@ -91,7 +94,9 @@ fn d2(case: &Case, ours: &str, theirs: &Told<String>) -> bool {
 /// The record of a call that takes one, if the port refuses it as not writable.
 fn refused_record<'a>(case: &'a Case, ours: &str) -> Option<&'a Fields> {
     match &case.input {
-        Input::Record(fields) if ours == "refused 12" => Some(fields),
+        Input::Record(fields) if words::refused(ours) == Some(refusal::NOT_WRITABLE) => {
+            Some(fields)
+        }
         _ => None,
     }
 }
@@ -144,8 +149,8 @@ fn of_25_bytes(fields: &Fields) -> Fields {
         immediate_timestamp: 0,
         original_timestamp: 0,
         tx_length: 0,
-        immediate_version: NO_VERSION,
-        original_version: NO_VERSION,
+        immediate_version: UNDEFINED_SERVER_VERSION,
+        original_version: UNDEFINED_SERVER_VERSION,
         ticket: 0,
         ..fields.clone()
     }
@@ -169,7 +174,7 @@ fn written_with_loss(case: &Case, theirs: &Told<String>, fields: &Fields) -> boo
     let Told::Ok(bytes) = answers::write_record(fields) else {
         return false;
     };
-    let Told::Ok(back) = answers::read_record(33, &bytes) else {
+    let Told::Ok(back) = answers::read_record(GTID_EVENT, &bytes) else {
         return false;
     };
     let told = match case.kind {
@@ -236,7 +241,7 @@ fn d10(case: &Case, ours: &str, theirs: &Told<String>) -> bool {
         return false;
     };
     writes
-        && ours == format!("refused 13 {needed}")
+        && ours == format!("refused {} {needed}", refusal::NO_ROOM)
         && needed
             .parse()
             .is_ok_and(|needed: usize| case.out_len < needed)
@@ -246,7 +251,12 @@ fn d10(case: &Case, ours: &str, theirs: &Told<String>) -> bool {
 /// a tag is broken before the body ends.
 fn d11(case: &Case, ours: &str, theirs: &Told<String>) -> bool {
     let previous = matches!(case.kind, Kind::ReadPrevious | Kind::RewritePrevious);
-    previous && *theirs == Told::Unreservable && matches!(ours, "refused 1" | "refused 6")
+    previous
+        && *theirs == Told::Unreservable
+        && matches!(
+            words::refused(ours),
+            Some(refusal::ENDED | refusal::BAD_TAG)
+        )
 }
 
 /// The same steps, with both server versions set right after each `new`.
@@ -271,5 +281,5 @@ fn d12(case: &Case, ours: &str, theirs: &Told<String>) -> bool {
         return false;
     };
     let begun_with = |version| with_versions(case, steps, version).theirs();
-    begun_with(NO_VERSION) == Told::Ok(ours.to_owned()) && begun_with(0) == *theirs
+    begun_with(UNDEFINED_SERVER_VERSION) == Told::Ok(ours.to_owned()) && begun_with(0) == *theirs
 }

@@ -4,7 +4,13 @@ use crate::{
     case::{Case, Input, Kind},
     random::Random,
 };
-use theirs::answers::{self, Fields, Step, Told};
+use theirs::{
+    answers::{self, Fields, Step, Told},
+    numbers::{
+        ANONYMOUS_GTID_EVENT, GTID_EVENT, GTID_TAGGED_LOG_EVENT, MAX_BODY, MAX_TAG,
+        PREVIOUS_GTIDS_EVENT, UNDEFINED_SERVER_VERSION,
+    },
+};
 
 const READERS: [Kind; 4] = [
     Kind::ReadUint,
@@ -25,6 +31,15 @@ const EVENTS: [Kind; 5] = [
     Kind::RewriteRecord,
     Kind::RewriteRecord,
     Kind::LengthOfRead,
+];
+
+/// The types that are served, and one more.
+const TYPES: [u8; 5] = [
+    15,
+    GTID_EVENT,
+    ANONYMOUS_GTID_EVENT,
+    PREVIOUS_GTIDS_EVENT,
+    GTID_TAGGED_LOG_EVENT,
 ];
 
 /// An output that holds every written record.
@@ -93,7 +108,7 @@ pub fn fixed(random: &mut Random, put: &mut dyn FnMut(Case)) {
         }
     }
     // Every length up to 90 of untagged bodies of equal bytes; every cut of the tagged one.
-    for event_type in [33, 34] {
+    for event_type in [GTID_EVENT, ANONYMOUS_GTID_EVENT] {
         for len in 0..90 {
             for fill in [0x00, 0x02, 0x7f, 0x80, 0xfa, 0xfb, 0xfc, 0xfd, 0xfe, 0xff] {
                 let mut body = vec![fill; len];
@@ -113,7 +128,7 @@ pub fn fixed(random: &mut Random, put: &mut dyn FnMut(Case)) {
     for len in 0..tagged.len() {
         put(Case::bytes(
             Kind::ReadRecord,
-            42,
+            GTID_TAGGED_LOG_EVENT,
             tagged[..len].to_vec(),
             ROOM,
         ));
@@ -136,8 +151,8 @@ pub fn fixed(random: &mut Random, put: &mut dyn FnMut(Case)) {
         put(Case::bytes(Kind::ReadPrevious, 0, body, 0));
     }
     // Both sides of the greatest body.
-    for len in [65_535, 65_536, 65_537, 70_000, LONGEST] {
-        for event_type in [15, 33, 34, 35, 42] {
+    for len in [MAX_BODY - 1, MAX_BODY, MAX_BODY + 1, 70_000, LONGEST] {
+        for event_type in TYPES {
             for kind in EVENTS {
                 put(Case::bytes(kind, event_type, vec![0; len], ROOM));
             }
@@ -159,8 +174,8 @@ fn bare() -> Fields {
         immediate_timestamp: 0,
         original_timestamp: 0,
         tx_length: 0,
-        immediate_version: 999_999,
-        original_version: 999_999,
+        immediate_version: UNDEFINED_SERVER_VERSION,
+        original_version: UNDEFINED_SERVER_VERSION,
         ticket: 0,
     }
 }
@@ -170,13 +185,17 @@ pub fn random(random: &mut Random) -> Case {
     match random.below(100) {
         0..8 => integer(random),
         8..28 => {
-            let event_type = if random.once_in(6) { 34 } else { 33 };
+            let event_type = if random.once_in(6) {
+                ANONYMOUS_GTID_EVENT
+            } else {
+                GTID_EVENT
+            };
             let body = untagged(random);
             event(random, event_type, body)
         }
         28..56 => {
             let body = tagged(random);
-            event(random, 42, body)
+            event(random, GTID_TAGGED_LOG_EVENT, body)
         }
         56..58 => {
             let event_type = random.one_of(&[0, 15, 32, 33, 34, 35, 36, 41, 42, 43, 255]);
@@ -317,9 +336,9 @@ fn tag(random: &mut Random) -> Vec<u8> {
     const LETTERS: &[u8] = b"abcdefghijklmnopqrstuvwxyz_";
     const ALL: &[u8] = b"abcdefghijklmnopqrstuvwxyz_0123456789";
     let len = if random.once_in(3) {
-        random.one_of(&[1, 2, 31, 32])
+        random.one_of(&[1, 2, MAX_TAG - 1, MAX_TAG])
     } else {
-        1 + random.below(32)
+        1 + random.below(MAX_TAG)
     };
     let mut tag: Vec<u8> = (0..len).map(|_| random.one_of(ALL)).collect();
     tag[0] = random.one_of(LETTERS);
@@ -336,7 +355,7 @@ fn any_tag(random: &mut Random) -> Vec<u8> {
             let place = random.below(tag.len());
             tag[place] = random.byte();
         }
-        3 => tag.resize(33 + random.below(3), b'a'),
+        3 => tag.resize(MAX_TAG + 1 + random.below(3), b'a'),
         4 => tag.extend_from_slice("é".as_bytes()),
         _ => (),
     }
@@ -540,15 +559,16 @@ fn event(random: &mut Random, event_type: u8, mut body: Vec<u8>) -> Case {
         // Around the greatest length, with bytes that stay unread.
         let fill = random.byte();
         body.resize(
-            random.one_of(&[65_535, 65_536, 65_537, 66_000, LONGEST]),
+            random.one_of(&[MAX_BODY - 1, MAX_BODY, MAX_BODY + 1, 66_000, LONGEST]),
             fill,
         );
-    } else if event_type == 42 && random.once_in(4_000) {
+    } else if event_type == GTID_TAGGED_LOG_EVENT && random.once_in(4_000) {
         // The same with the bytes inside the payload, behind an unknown id.
         let mut fields = Vec::new();
         field(random, 3, &mut fields);
         fields.push(24);
-        fields.resize(random.one_of(&[65_530, 65_531, 65_532, 65_533]), 7);
+        let less = random.one_of(&[6, 5, 4, 3]);
+        fields.resize(MAX_BODY - less, 7);
         body = enveloped(random, &[0], &fields);
     }
     let kind = random.one_of(&EVENTS);
@@ -770,7 +790,7 @@ fn previous(random: &mut Random) -> Vec<u8> {
         whole.extend(random.bytes(len));
     }
     if great && random.once_in(2) {
-        whole.resize(random.one_of(&[65_535, 65_536, 65_537]), 3);
+        whole.resize(random.one_of(&[MAX_BODY - 1, MAX_BODY, MAX_BODY + 1]), 3);
     }
     whole
 }

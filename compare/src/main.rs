@@ -5,6 +5,8 @@
 mod case;
 mod differences;
 mod generate;
+#[cfg(archive)]
+mod linked;
 mod ours;
 mod random;
 mod table;
@@ -16,6 +18,8 @@ use random::Random;
 use std::{env, io, panic, process::ExitCode, thread, time::Instant};
 use table::Table;
 use theirs::answers::Told;
+#[cfg(archive)]
+use theirs::numbers::refusal::ENDED;
 
 /// How many cases are asked in one go, and how many bytes of requests at most.
 const BATCH: usize = 40_000;
@@ -177,7 +181,7 @@ fn every_three_bytes() -> u64 {
         let theirs = theirs::answers::read_uint(&bytes);
         let same = match &theirs {
             Told::Ok((value, used)) => ours == (0, *value, *used),
-            Told::Refused(refusal) => ours == (1, 0, 0) && refusal.number == Some(1),
+            Told::Refused(refusal) => ours == (ENDED, 0, 0) && refusal.number == Some(ENDED),
             _ => false,
         };
         if same && mark.is_empty() {

@@ -2,7 +2,7 @@
 
 use crate::case::Case;
 #[cfg(archive)]
-use crate::{case::Kind, words};
+use crate::{case::Kind, linked, words};
 use std::{
     io::{self, Read, Write},
     process::{Command, Stdio},
@@ -11,7 +11,10 @@ use std::{
 #[cfg(archive)]
 use {
     std::hint::black_box,
-    theirs::answers::{Entry, Previous},
+    theirs::{
+        answers::{Entry, Previous},
+        numbers::{MAX_TAG, RECORD_LEN, refusal::NO_ROOM},
+    },
 };
 
 /// Something that answers requests with the lines of docs/VECTORS.md.
@@ -86,55 +89,6 @@ impl Ours for Probe {
 #[cfg(archive)]
 pub struct Archive;
 
-#[cfg(archive)]
-mod linked {
-    unsafe extern "C" {
-        pub fn gtid_read(
-            event_type: u8,
-            body: *const u8,
-            body_len: usize,
-            record: *mut u8,
-            record_len: usize,
-            used: *mut usize,
-        ) -> u8;
-        pub fn gtid_write(
-            record: *const u8,
-            record_len: usize,
-            out: *mut u8,
-            out_len: usize,
-            len: *mut usize,
-        ) -> u8;
-        pub fn gtid_rewrite(
-            body: *const u8,
-            body_len: usize,
-            out: *mut u8,
-            out_len: usize,
-            len: *mut usize,
-        ) -> u8;
-        pub fn gtid_read_varlen_uint(
-            s: *const u8,
-            s_len: usize,
-            value: *mut u64,
-            used: *mut usize,
-        ) -> u8;
-        pub fn gtid_read_previous(
-            body: *const u8,
-            body_len: usize,
-            entries: *mut u64,
-            used: *mut usize,
-        ) -> u8;
-        pub fn gtid_read_entry(
-            body: *const u8,
-            body_len: usize,
-            at: usize,
-            tag_len: *mut usize,
-            intervals: *mut u64,
-            first: *mut usize,
-            next: *mut usize,
-        ) -> u8;
-    }
-}
-
 /// What a call of the archive left behind.
 #[cfg(archive)]
 struct Left {
@@ -171,7 +125,7 @@ impl Archive {
         let front = if refusal == 0 { written(number) } else { 0 };
         let marks = if front > out.len() || out[front..].iter().any(|byte| *byte != UNTOUCHED) {
             " dirty"
-        } else if refusal != 0 && refusal != 13 && number != 0 {
+        } else if refusal != 0 && refusal != NO_ROOM && number != 0 {
             " nonzero"
         } else if lent != input {
             " changed"
@@ -362,9 +316,6 @@ impl Archive {
     }
 }
 
-#[cfg(archive)]
-const RECORD_LEN: usize = 116;
-
 /// A mark if bytes that were lent aren't as before. They are looked at anew: the compiler takes it that they are.
 #[cfg(archive)]
 pub fn changed(lent: &[u8], before: &[u8]) -> &'static str {
@@ -387,19 +338,19 @@ fn pair(bytes: &[u8; 16]) -> (u64, u64) {
 fn refused_or_bytes(left: Left) -> String {
     let line = match left.refusal {
         0 => words::bytes(left.out),
-        13 => format!("refused 13 {}", left.number),
+        NO_ROOM => format!("refused {NO_ROOM} {}", left.number),
         refusal => format!("refused {refusal}"),
     };
     line + left.marks
 }
 
-/// The words of a record that stands in 116 bytes.
+/// The words of a record as gtid.h has its bytes.
 #[cfg(archive)]
 fn fields_of(record: &[u8]) -> String {
     let eight = |place: usize| u64::from_le_bytes(record[place..place + 8].try_into().unwrap());
     let four = |place: usize| u32::from_le_bytes(record[place..place + 4].try_into().unwrap());
     let uuid = words::hex(&record[1..17]);
-    let tag = words::hex(&record[26..58]);
+    let tag = words::hex(&record[26..26 + MAX_TAG]);
     let typecode = match record[58] {
         0 => "-".to_owned(),
         _ => record[59].to_string(),

@@ -1,7 +1,10 @@
 //! Answers as the words of docs/VECTORS.md.
 
 use std::fmt::{Display, Write};
-use theirs::answers::{Fields, Previous, ReadRecord};
+use theirs::{
+    answers::{Fields, Previous, ReadRecord},
+    numbers::MAX_TAG,
+};
 
 pub fn put_hex(out: &mut String, bytes: &[u8]) {
     const DIGITS: &[u8; 16] = b"0123456789abcdef";
@@ -32,9 +35,9 @@ pub fn bytes(bytes: Vec<u8>) -> String {
     out
 }
 
-/// A tag in a field of 32 bytes.
-pub fn tag_field(tag: &[u8]) -> [u8; 32] {
-    let mut field = [0; 32];
+/// A tag in a field that holds the longest.
+pub fn tag_field(tag: &[u8]) -> [u8; MAX_TAG] {
+    let mut field = [0; MAX_TAG];
     field[..tag.len()].copy_from_slice(tag);
     field
 }

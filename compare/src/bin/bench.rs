@@ -23,191 +23,23 @@ use theirs::{
     },
     io::ParseBuf,
     misc::{read_varlen_uint, write_varlen_uint},
+    numbers::{
+        ALREADY_THERE, BINLOG_READER_LEN, BINLOG_WORK, EVENT_HEADER_LEN, GTID_EVENT,
+        GTID_TAGGED_LOG_EVENT, HIGHEST_GNO, JOINED, LONGEST_EVENT, LONGEST_REPORT, LONGEST_SET,
+        LONGEST_TEXT, MAX_BODY, MAX_ENTRIES, MAX_INTERVALS, MAX_OF_ENTRY, MAX_SETS, MORE_WANTED,
+        PREVIOUS_GTIDS_EVENT, RECORD_LEN, REPORT_LEN, TAKEN,
+        refusal::{CROWDED, DIVERGED, FULL, NOT_A_SET, TOO_LONG},
+    },
     proto::{MyDeserialize, MySerialize},
 };
 
-mod linked {
-    unsafe extern "C" {
-        pub fn gtid_check_set(set: *const u8, len: usize, entries: *mut u64, n: *mut u64) -> u8;
-        pub fn gtid_contains(
-            set: *const u8,
-            set_len: usize,
-            uuid: *const u8,
-            uuid_len: usize,
-            tag: *const u8,
-            tag_len: usize,
-            gno: u64,
-            present: *mut u8,
-        ) -> u8;
-        pub fn gtid_take_in(
-            body: *const u8,
-            body_len: usize,
-            out: *mut u8,
-            out_len: usize,
-            len: *mut usize,
-        ) -> u8;
-        pub fn gtid_either(
-            first: *const u8,
-            first_len: usize,
-            second: *const u8,
-            second_len: usize,
-            out: *mut u8,
-            out_len: usize,
-            len: *mut usize,
-        ) -> u8;
-        pub fn gtid_both(
-            first: *const u8,
-            first_len: usize,
-            second: *const u8,
-            second_len: usize,
-            out: *mut u8,
-            out_len: usize,
-            len: *mut usize,
-        ) -> u8;
-        pub fn gtid_without(
-            first: *const u8,
-            first_len: usize,
-            second: *const u8,
-            second_len: usize,
-            out: *mut u8,
-            out_len: usize,
-            len: *mut usize,
-        ) -> u8;
-        pub fn gtid_within(
-            first: *const u8,
-            first_len: usize,
-            second: *const u8,
-            second_len: usize,
-            within: *mut u8,
-        ) -> u8;
-        pub fn gtid_head(
-            first: *const u8,
-            first_len: usize,
-            second: *const u8,
-            second_len: usize,
-            head: *mut u8,
-        ) -> u8;
-        pub fn gtid_report_add(
-            report: *mut u8,
-            report_len: usize,
-            set: *const u8,
-            set_len: usize,
-            entries: *mut u64,
-            intervals: *mut u64,
-            high: *mut u64,
-            low: *mut u64,
-        ) -> u8;
-        pub fn gtid_report_sum(
-            report: *const u8,
-            report_len: usize,
-            entries: *mut u64,
-            intervals: *mut u64,
-            high: *mut u64,
-            low: *mut u64,
-        ) -> u8;
-        pub fn gtid_report_write(
-            report: *const u8,
-            report_len: usize,
-            out: *mut u8,
-            out_len: usize,
-            len: *mut usize,
-        ) -> u8;
-        pub fn gtid_binlog_begin(
-            set: *const u8,
-            set_len: usize,
-            checksums: u8,
-            reader: *mut u8,
-            reader_len: usize,
-        ) -> u8;
-        pub fn gtid_binlog_step(
-            reader: *mut u8,
-            reader_len: usize,
-            chunk: *const u8,
-            chunk_len: usize,
-            work: *mut u8,
-            work_len: usize,
-            set: *mut u8,
-            set_len: usize,
-            spare: *mut u8,
-            spare_len: usize,
-        ) -> u8;
-        pub fn gtid_rewrite(
-            body: *const u8,
-            body_len: usize,
-            out: *mut u8,
-            out_len: usize,
-            len: *mut usize,
-        ) -> u8;
-        pub fn gtid_read_varlen_uint(
-            s: *const u8,
-            s_len: usize,
-            value: *mut u64,
-            used: *mut usize,
-        ) -> u8;
-        pub fn gtid_read_previous(
-            body: *const u8,
-            body_len: usize,
-            entries: *mut u64,
-            used: *mut usize,
-        ) -> u8;
-        pub fn gtid_read_entry(
-            body: *const u8,
-            body_len: usize,
-            at: usize,
-            tag_len: *mut usize,
-            intervals: *mut u64,
-            first: *mut usize,
-            next: *mut usize,
-        ) -> u8;
-        pub fn gtid_offer(
-            set: *const u8,
-            set_len: usize,
-            event_type: u8,
-            body: *const u8,
-            body_len: usize,
-            out: *mut u8,
-            out_len: usize,
-            kind: *mut u8,
-            len: *mut usize,
-        ) -> u8;
-        pub fn gtid_list(
-            input: *const u8,
-            input_len: usize,
-            out: *mut u8,
-            out_len: usize,
-            len: *mut usize,
-        ) -> u8;
-        pub fn gtid_read(
-            event_type: u8,
-            body: *const u8,
-            body_len: usize,
-            record: *mut u8,
-            record_len: usize,
-            used: *mut usize,
-        ) -> u8;
-        pub fn gtid_read_present(
-            event_type: u8,
-            body: *const u8,
-            body_len: usize,
-            record: *mut u8,
-            record_len: usize,
-            used: *mut usize,
-            present: *mut u16,
-        ) -> u8;
-        pub fn gtid_write(
-            record: *const u8,
-            record_len: usize,
-            out: *mut u8,
-            out_len: usize,
-            len: *mut usize,
-        ) -> u8;
-    }
-}
+#[path = "../linked.rs"]
+mod linked;
 
 /// The archive's calls over slices. SAFETY, for all of them: every piece is alive, as long as told, and apart from the
 /// others, and so are the numbers; no pointer of a slice is null. gtid.h asks no more.
 mod ours {
-    use super::linked;
+    use super::{BINLOG_READER_LEN, linked};
 
     pub struct Answer {
         pub refusal: u8,
@@ -459,7 +291,7 @@ mod ours {
     }
 
     /// A binlog reader, with what its last call said.
-    pub type Reader = [u8; 48];
+    pub type Reader = [u8; BINLOG_READER_LEN];
 
     /// What it is lent with each call.
     pub struct Lent {
@@ -656,16 +488,16 @@ fn made(what: &str) -> Option<Made> {
         "alone-2" => integers_alone(2),
         "alone-5" => integers_alone(5),
         "alone-8" => integers_alone(8),
-        "read-untagged" => reading(33, untagged()),
-        "read-short" => reading(33, short()),
-        "read-tagged" => reading(42, tagged(b"billing_eu")),
-        "read-tagged-32" => reading(42, tagged(&long_tag(7))),
+        "read-untagged" => reading(GTID_EVENT, untagged()),
+        "read-short" => reading(GTID_EVENT, short()),
+        "read-tagged" => reading(GTID_TAGGED_LOG_EVENT, tagged(b"billing_eu")),
+        "read-tagged-32" => reading(GTID_TAGGED_LOG_EVENT, tagged(&long_tag(7))),
         "read-present" => reading_present(tagged(b"billing_eu")),
         "read-present-32" => reading_present(tagged(&long_tag(7))),
-        "write-untagged" => writing(33, untagged()),
-        "write-short" => writing(33, short()),
-        "write-tagged" => writing(42, tagged(b"billing_eu")),
-        "write-tagged-32" => writing(42, tagged(&long_tag(7))),
+        "write-untagged" => writing(GTID_EVENT, untagged()),
+        "write-short" => writing(GTID_EVENT, short()),
+        "write-tagged" => writing(GTID_TAGGED_LOG_EVENT, tagged(b"billing_eu")),
+        "write-tagged-32" => writing(GTID_TAGGED_LOG_EVENT, tagged(&long_tag(7))),
         "previous-1" => previous(one_uuid(1)),
         "previous-64" => previous(one_uuid(64)),
         "previous-2048" => previous(one_uuid(2048)),
@@ -684,35 +516,39 @@ fn made(what: &str) -> Option<Made> {
         "offer-1" => offering(one_uuid(1), 0, apart(1)),
         "offer-64" => offering(one_uuid(64), 0, apart(64)),
         "offer-512" => offering(one_uuid(512), 0, apart(512)),
-        "offer-1023" => offering(one_uuid(1023), 0, apart(1023)),
-        "offer-first" => offering(one_uuid(1023), 0, 1),
-        "offer-there" => offering(one_uuid(1023), 0, interval(1022).0),
+        "offer-1023" => offering(one_uuid(OF_ENTRY - 1), 0, apart(OF_ENTRY - 1)),
+        "offer-first" => offering(one_uuid(OF_ENTRY - 1), 0, 1),
+        "offer-there" => offering(one_uuid(OF_ENTRY - 1), 0, interval(OF_ENTRY - 2).0),
         "offer-2559" => offering(several(&[853, 853, 853].map(intervals)), 2, apart(853)),
         "offer-64-uuids" => offering(uuids(64, false), 63, apart(1)),
         "offer-255-uuids" => offering(uuids(255, false), 254, apart(1)),
         "offer-255-tagged" => offering(uuids(255, true), 254, apart(1)),
-        "offer-383-tagged" => offering(uuids(383, true), 382, apart(1)),
+        "offer-383-tagged" => offering(uuids(MAX_ENTRIES - 1, true), MAX_ENTRIES - 2, apart(1)),
         "offer-tags" => offering(tags(256, 1), 255, apart(1)),
         "offer-tags-8" => offering(tags(256, 8), 255, interval(7).1),
-        "offer-384-tags" => offering(tags(384, 1), 383, apart(1)),
-        "offer-longest" => offering(longest(), 383, interval(5).1),
+        "offer-384-tags" => offering(tags(MAX_ENTRIES, 1), MAX_ENTRIES - 1, apart(1)),
+        "offer-longest" => offering(longest(), MAX_ENTRIES - 1, interval(5).1),
         "take-in-set" => taking_in(&two_uuids(), Ok(body(&two_uuids()))),
         "take-in-longest" => taking_in(&longest(), Ok(body(&longest()))),
-        "take-in-worst" => taking_in(&worst(), Err(17)),
+        "take-in-worst" => taking_in(&worst(), Err(CROWDED)),
         "take-in-covered" => taking_in(&covered(), Ok(body(&all_of_covered()))),
         "take-in-merged" => taking_in(&touching(), Ok(body(&merged()))),
-        "take-in-falling" => taking_in(&falling(), Err(17)),
-        "take-in-uuids" => taking_in(&reversed(uuids(1638, false)), Err(16)),
-        "take-in-tags" => taking_in(&reversed(tags(897, 1)), Err(16)),
+        "take-in-falling" => taking_in(&falling(), Err(CROWDED)),
+        "take-in-uuids" => taking_in(&reversed(uuids(1638, false)), Err(FULL)),
+        "take-in-tags" => taking_in(&reversed(tags(897, 1)), Err(FULL)),
         "check-set-1" => checking(&one_uuid(1)),
-        "check-set-1024" => checking(&one_uuid(1024)),
+        "check-set-1024" => checking(&one_uuid(OF_ENTRY)),
         "check-set" => checking(&two_uuids()),
-        "check-set-2560" => checking(&several(&[1024, 1024, 512].map(intervals))),
+        "check-set-2560" => checking(&several(&MOST_OF_THREE.map(intervals))),
         "check-set-longest" => checking(&longest()),
         "check-set-cut" => checking_none(cut(&longest())),
         "contains" => containing(&two_uuids()),
-        "list-35" => listing(35, &body(&two_uuids()), &text(&two_uuids())),
-        "list-35-longest" => listing(35, &body(&longest()), &text(&longest())),
+        "list-35" => listing(
+            PREVIOUS_GTIDS_EVENT,
+            &body(&two_uuids()),
+            &text(&two_uuids()),
+        ),
+        "list-35-longest" => listing(PREVIOUS_GTIDS_EVENT, &body(&longest()), &text(&longest())),
         "either-2560" => of_two(ours::either, &tens(11, 16), &tens(14, 19), &tens(11, 19)),
         "both-2560" => of_two(ours::both, &tens(11, 16), &tens(14, 19), &tens(14, 16)),
         "without-2560" => of_two(ours::without, &tens(11, 16), &tens(14, 19), &tens(11, 14)),
@@ -720,67 +556,79 @@ fn made(what: &str) -> Option<Made> {
         "within-no" => lying_within(&tens(11, 16), &tens(14, 19), 0),
         "head-first" => choosing(&tens(11, 19), &tens(11, 16), (0, 1)),
         "head-second" => choosing(&tens(11, 16), &tens(11, 19), (0, 2)),
-        "head-last" => choosing(&but_last(&[]), &but_last(&[interval(511)]), (0, 2)),
-        "head-neither" => choosing(
-            &but_last(&[interval(511)]),
-            &but_last(&[interval(512)]),
-            (22, 0),
-        ),
-        "head-apart" => choosing(&tens(11, 16), &tens(14, 19), (22, 0)),
+        "head-last" => choosing(&but_last(&[]), &but_last(&[LAST]), (0, 2)),
+        "head-neither" => choosing(&but_last(&[LAST]), &but_last(&[BEHIND]), (DIVERGED, 0)),
+        "head-apart" => choosing(&tens(11, 16), &tens(14, 19), (DIVERGED, 0)),
         "head-longest" => choosing(&longest(), &longest(), (0, 1)),
         "either-uuids" => of_two(
             ours::either,
             &every_second(0),
             &every_second(1),
-            &uuids(384, false),
+            &uuids(MAX_ENTRIES, false),
         ),
         "either-384" => of_two(
             ours::either,
-            &uuids(384, false),
-            &each_with(uuids(384, false), vec![interval(1)]),
-            &each_with(uuids(384, false), intervals(2)),
+            &uuids(MAX_ENTRIES, false),
+            &each_with(uuids(MAX_ENTRIES, false), vec![interval(1)]),
+            &each_with(uuids(MAX_ENTRIES, false), intervals(2)),
         ),
         "either-tags" => of_two(
             ours::either,
-            &tags(384, 1),
-            &each_with(tags(384, 1), vec![interval(1)]),
-            &tags(384, 2),
+            &tags(MAX_ENTRIES, 1),
+            &each_with(tags(MAX_ENTRIES, 1), vec![interval(1)]),
+            &tags(MAX_ENTRIES, 2),
         ),
         "either-longest" => of_two(ours::either, &longest(), &longest(), &longest()),
         "both-longest" => of_two(ours::both, &longest(), &longest(), &longest()),
         "without-longest" => of_two(ours::without, &longest(), &longest(), &[]),
         "within-longest" => lying_within(&longest(), &longest(), 1),
         "report-add-1" => adding(0, body(&one_uuid(1)), (0, [1, 1, 0, 5])),
-        "report-add-1024" => adding(0, body(&one_uuid(1024)), (0, [1, 1024, 0, 5 * 1024])),
-        "report-add-longest" => adding(0, body(&longest()), (0, [384, 2560, 0, 5 * 2560])),
-        "report-add-cut" => adding(0, cut(&longest()), (14, [0; 4])),
-        "report-add-65th" => adding(64, body(&longest()), (11, [0; 4])),
+        "report-add-1024" => adding(
+            0,
+            body(&one_uuid(OF_ENTRY)),
+            (0, [1, OF_ENTRY, 0, 5 * OF_ENTRY]),
+        ),
+        "report-add-longest" => adding(
+            0,
+            body(&longest()),
+            (0, [ENTRIES, INTERVALS, 0, 5 * INTERVALS]),
+        ),
+        "report-add-cut" => adding(0, cut(&longest()), (NOT_A_SET, [0; 4])),
+        "report-add-65th" => adding(MAX_SETS, body(&longest()), (TOO_LONG, [0; 4])),
         "report-sum-1" => summing(over(1), [1, 1, 0, 5]),
-        "report-sum-64" => summing(over(64), [64, 64, 0, 64 * 5]),
+        "report-sum-64" => summing(over(MAX_SETS), [SETS, SETS, 0, SETS * 5]),
         "report-write-1" => reporting(over(1), &report_text(1, [1, 1, 0, 5], [1, 1, 0, 5])),
         "report-write-64" => reporting(
-            over(64),
-            &report_text(64, [1, 1, 0, 5], [64, 64, 0, 64 * 5]),
+            over(MAX_SETS),
+            &report_text(MAX_SETS, [1, 1, 0, 5], [SETS, SETS, 0, SETS * 5]),
         ),
-        "report-write-longest" => reporting(over_great(), &report_text(64, GREAT, GREAT_SUM)),
+        "report-write-longest" => reporting(over_great(), &report_text(MAX_SETS, GREAT, GREAT_SUM)),
         "binlog-skip" => skipping(100),
         "binlog-skip-long" => skipping(10_000),
         "binlog-offer-1" => walked_offer(one_uuid(1), apart(1), usize::MAX),
-        "binlog-offer-1023" => walked_offer(one_uuid(1023), apart(1023), usize::MAX),
-        "binlog-offer-there" => walked_offer(one_uuid(1023), interval(1022).0, usize::MAX),
+        "binlog-offer-1023" => {
+            walked_offer(one_uuid(OF_ENTRY - 1), apart(OF_ENTRY - 1), usize::MAX)
+        }
+        "binlog-offer-there" => {
+            walked_offer(one_uuid(OF_ENTRY - 1), interval(OF_ENTRY - 2).0, usize::MAX)
+        }
         "binlog-offer-bytes" => walked_offer(one_uuid(1), apart(1), 1),
         "binlog-join-1" => walked_join(&one_uuid(1), &one_uuid(1), &one_uuid(1)),
         "binlog-join-longest" => walked_join(&longest(), &longest(), &longest()),
         "binlog-join-merged" => walked_join(&reversed(uuids(2, false)), &[], &uuids(2, false)),
-        "list-35-merged" => listing(35, &body(&touching()), &text(&merged())),
-        "list-35-tags" => listing(35, &body(&reversed(tags(256, 2))), &text(&tags(256, 2))),
+        "list-35-merged" => listing(PREVIOUS_GTIDS_EVENT, &body(&touching()), &text(&merged())),
+        "list-35-tags" => listing(
+            PREVIOUS_GTIDS_EVENT,
+            &body(&reversed(tags(256, 2))),
+            &text(&tags(256, 2)),
+        ),
         "list-33" => listing(
-            33,
+            GTID_EVENT,
             &untagged(),
             "gtid 3e11fa47-71ca-11e1-9e33-c80aa9429562:1234567\n",
         ),
         "list-42" => listing(
-            42,
+            GTID_TAGGED_LOG_EVENT,
             &tagged(b"billing_eu"),
             "gtid 3e11fa47-71ca-11e1-9e33-c80aa9429562:billing_eu:1234567\n",
         ),
@@ -887,7 +735,7 @@ fn integers_alone(len: u32) -> Made {
 }
 
 fn reading(event_type: u8, body: Vec<u8>) -> Made {
-    let mut record = [0; 116];
+    let mut record = [0; RECORD_LEN];
     let answer = ours::read(event_type, &body, &mut record);
     let mut buf = ParseBuf(&body);
     let event = GtidEvent::deserialize(BinlogCtx::new(event_type), &mut buf).expect("an event");
@@ -912,16 +760,16 @@ fn reading(event_type: u8, body: Vec<u8>) -> Made {
 
 /// Reading a tagged record, and which fields are there: all of them. The Rust doesn't tell.
 fn reading_present(body: Vec<u8>) -> Made {
-    let read = reading(42, body.clone());
-    let (mut record, mut same) = ([0; 116], [0; 116]);
-    ours::read(42, &body, &mut same);
-    let answer = ours::read_present(42, &body, &mut record);
+    let read = reading(GTID_TAGGED_LOG_EVENT, body.clone());
+    let (mut record, mut same) = ([0; RECORD_LEN], [0; RECORD_LEN]);
+    ours::read(GTID_TAGGED_LOG_EVENT, &body, &mut same);
+    let answer = ours::read_present(GTID_TAGGED_LOG_EVENT, &body, &mut record);
     assert_eq!((answer, record), ((0, body.len(), 0x0fff), same));
 
     Made {
         ours: turns(move || {
             let (body, record) = (black_box(&body), black_box(&mut record));
-            black_box(ours::read_present(42, body, record));
+            black_box(ours::read_present(GTID_TAGGED_LOG_EVENT, body, record));
         }),
         ..read
     }
@@ -931,9 +779,9 @@ fn writing(event_type: u8, body: Vec<u8>) -> Made {
     let mut buf = ParseBuf(&body);
     let event = GtidEvent::deserialize(BinlogCtx::new(event_type), &mut buf).expect("an event");
     let record = record_of(&event);
-    let mut out = vec![0; 4096];
+    let mut out = vec![0; LONGEST_EVENT];
     let answer = ours::write(&record, &mut out);
-    let mut theirs = Vec::with_capacity(4096);
+    let mut theirs = Vec::with_capacity(LONGEST_EVENT);
     event.serialize(&mut theirs);
     assert_eq!(answer.refusal, 0);
     assert_eq!(&out[..answer.number], theirs);
@@ -974,7 +822,8 @@ fn sum_by_ours(body: &[u8]) -> Option<u64> {
 
 fn sum_by_theirs(body: &[u8]) -> Option<u64> {
     let mut buf = ParseBuf(body);
-    let event = PreviousGtidsEvent::deserialize(BinlogCtx::new(35), &mut buf).ok()?;
+    let event =
+        PreviousGtidsEvent::deserialize(BinlogCtx::new(PREVIOUS_GTIDS_EVENT), &mut buf).ok()?;
     let mut sum = 0_u64;
     for sid in event.sids() {
         for interval in sid.intervals() {
@@ -1036,10 +885,10 @@ fn first_entry(entries: &[Entry]) -> Made {
 
 fn rewriting(entries: Vec<Entry>) -> Made {
     let body = body(&entries);
-    let mut out = vec![0; 65_536];
+    let mut out = vec![0; MAX_BODY];
     let answer = ours::rewrite(&body, &mut out);
-    let mut theirs = Vec::with_capacity(65_536);
-    PreviousGtidsEvent::deserialize(BinlogCtx::new(35), &mut ParseBuf(&body))
+    let mut theirs = Vec::with_capacity(MAX_BODY);
+    PreviousGtidsEvent::deserialize(BinlogCtx::new(PREVIOUS_GTIDS_EVENT), &mut ParseBuf(&body))
         .expect("an event")
         .serialize(&mut theirs);
     assert_eq!(answer.refusal, 0);
@@ -1055,7 +904,8 @@ fn rewriting(entries: Vec<Entry>) -> Made {
         }),
         theirs: Some(turns(move || {
             let mut buf = ParseBuf(black_box(&again));
-            let event = PreviousGtidsEvent::deserialize(BinlogCtx::new(35), &mut buf);
+            let event =
+                PreviousGtidsEvent::deserialize(BinlogCtx::new(PREVIOUS_GTIDS_EVENT), &mut buf);
             theirs.clear();
             if let Ok(event) = event {
                 event.serialize(black_box(&mut theirs));
@@ -1064,9 +914,6 @@ fn rewriting(entries: Vec<Entry>) -> Made {
     }
 }
 
-/// The greatest length of a set.
-const LONGEST: usize = 62_856;
-
 /// Offers an id of an entry that is there: it stands apart from all intervals, or lengthens one, or is there already.
 fn offering(entries: Vec<Entry>, place: usize, gno: u64) -> Made {
     let set = body(&entries);
@@ -1074,9 +921,10 @@ fn offering(entries: Vec<Entry>, place: usize, gno: u64) -> Made {
     let mut after = entries;
     let there = !with(&mut after[place].intervals, gno);
     let after = body(&after);
-    let mut out = vec![0; LONGEST];
+    let mut out = vec![0; LONGEST_SET];
     let answer = ours::offer(&set, event_type, &event, &mut out);
-    assert_eq!((answer.refusal, answer.kind), (0, 1 + u8::from(there)));
+    let kind = if there { ALREADY_THERE } else { TAKEN };
+    assert_eq!((answer.refusal, answer.kind), (0, kind));
     assert_eq!(&out[..answer.number], after);
 
     Made {
@@ -1092,7 +940,7 @@ fn offering(entries: Vec<Entry>, place: usize, gno: u64) -> Made {
 
 fn taking_in(entries: &[Entry], expected: Result<Vec<u8>, u8>) -> Made {
     let body = body(entries);
-    let mut out = vec![0; LONGEST];
+    let mut out = vec![0; LONGEST_SET];
     let answer = ours::take_in(&body, &mut out);
     match expected {
         Ok(set) => {
@@ -1129,7 +977,7 @@ fn checking(entries: &[Entry]) -> Made {
 
 /// Checking what is no set.
 fn checking_none(set: Vec<u8>) -> Made {
-    assert_eq!(ours::check_set(&set), (14, 0, 0));
+    assert_eq!(ours::check_set(&set), (NOT_A_SET, 0, 0));
 
     Made {
         bytes: set.len(),
@@ -1165,7 +1013,7 @@ fn of_two(
     expected: &[Entry],
 ) -> Made {
     let (first, second) = (body(first), body(second));
-    let mut out = vec![0; LONGEST];
+    let mut out = vec![0; LONGEST_SET];
     let answer = call(&first, &second, &mut out);
     assert_eq!(answer.refusal, 0);
     assert_eq!(&out[..answer.number], body(expected));
@@ -1241,7 +1089,7 @@ fn summing(report: Vec<u8>, expected: [u64; 4]) -> Made {
 }
 
 fn reporting(report: Vec<u8>, expected: &str) -> Made {
-    let mut out = vec![0; 4096];
+    let mut out = vec![0; LONGEST_REPORT];
     let answer = ours::report_write(&report, &mut out);
     assert_eq!(answer.refusal, 0);
     assert_eq!(String::from_utf8_lossy(&out[..answer.number]), expected);
@@ -1256,30 +1104,24 @@ fn reporting(report: Vec<u8>, expected: &str) -> Made {
     }
 }
 
-/// An event of a binlog without checksums: 19 bytes of header, in which the type and the size are told, and a body.
+/// An event of a binlog without checksums: a header, in which the type and the size are told, and a body.
 fn in_file(event_type: u8, body: &[u8]) -> Vec<u8> {
-    let mut event = vec![0; 19];
+    let mut event = vec![0; EVENT_HEADER_LEN];
     event[4] = event_type;
-    event[9..13].copy_from_slice(&(19 + body.len() as u32).to_le_bytes());
+    event[9..13].copy_from_slice(&((EVENT_HEADER_LEN + body.len()) as u32).to_le_bytes());
     event.extend(body);
     event
 }
-
-/// What a step says of an event, or that the chunk is used up.
-const TAKEN: u8 = 1;
-const ALREADY_THERE: u8 = 2;
-const JOINED: u8 = 4;
-const MORE_WANTED: u8 = 5;
 
 /// Walks events behind the opening of a file, in pieces of so many bytes, a step for each; the last step says what is expected. Before each
 /// turn the reader is put back between two events, and its set as it was.
 fn walking(events: Vec<u8>, piece: usize, set: Vec<u8>, said: u8, after: &[u8]) -> Made {
     let mut lent = ours::Lent {
-        work: vec![0; 65_540],
-        set: vec![0; LONGEST],
-        spare: vec![0; LONGEST],
+        work: vec![0; BINLOG_WORK],
+        set: vec![0; LONGEST_SET],
+        spare: vec![0; LONGEST_SET],
     };
-    let mut between = [0; 48];
+    let mut between = [0; BINLOG_READER_LEN];
     assert_eq!(ours::binlog_begin(&set, false, &mut between), 0);
     assert_eq!(ours::binlog_step(&mut between, b"\xfebin", &mut lent), 0);
     let mut reader = between;
@@ -1310,7 +1152,7 @@ fn walking(events: Vec<u8>, piece: usize, set: Vec<u8>, said: u8, after: &[u8]) 
 
 fn skipping(size: usize) -> Made {
     let set = body(&one_uuid(1));
-    let events = in_file(2, &vec![0; size - 19]).repeat(1000);
+    let events = in_file(2, &vec![0; size - EVENT_HEADER_LEN]).repeat(1000);
     walking(events, usize::MAX, set.clone(), MORE_WANTED, &set)
 }
 
@@ -1324,14 +1166,14 @@ fn walked_offer(entries: Vec<Entry>, gno: u64, piece: usize) -> Made {
 }
 
 fn walked_join(joined: &[Entry], before: &[Entry], after: &[Entry]) -> Made {
-    let events = in_file(35, &body(joined));
+    let events = in_file(PREVIOUS_GTIDS_EVENT, &body(joined));
     walking(events, usize::MAX, body(before), JOINED, &body(after))
 }
 
 fn listing(event_type: u8, body: &[u8], expected: &str) -> Made {
     let mut input = vec![event_type];
     input.extend(body);
-    let mut out = vec![0; 1 << 20];
+    let mut out = vec![0; LONGEST_TEXT];
     let answer = ours::list(&input, &mut out);
     assert_eq!(answer.refusal, 0);
     assert_eq!(String::from_utf8_lossy(&out[..answer.number]), expected);
@@ -1347,6 +1189,17 @@ fn listing(event_type: u8, body: &[u8], expected: &str) -> Made {
 }
 
 // ---- inputs ----
+
+/// The limits, as a set and a report count them.
+const ENTRIES: u64 = MAX_ENTRIES as u64;
+const INTERVALS: u64 = MAX_INTERVALS as u64;
+const OF_ENTRY: u64 = MAX_OF_ENTRY as u64;
+const SETS: u64 = MAX_SETS as u64;
+
+/// As many intervals as a set may have, of three uuids, two of which have as many as they may; the last, and one behind it.
+const MOST_OF_THREE: [u64; 3] = [OF_ENTRY, OF_ENTRY, INTERVALS - 2 * OF_ENTRY];
+const LAST: (u64, u64) = interval(MOST_OF_THREE[2] - 1);
+const BEHIND: (u64, u64) = interval(MOST_OF_THREE[2]);
 
 const UUID: [u8; 16] = [
     0x3e, 0x11, 0xfa, 0x47, 0x71, 0xca, 0x11, 0xe1, 0x9e, 0x33, 0xc8, 0x0a, 0xa9, 0x42, 0x95, 0x62,
@@ -1396,8 +1249,8 @@ fn tagged(tag: &[u8]) -> Vec<u8> {
     body
 }
 
-/// The 116 bytes of gtid.h.
-fn record_of(event: &GtidEvent) -> [u8; 116] {
+/// The record as gtid.h has its bytes.
+fn record_of(event: &GtidEvent) -> [u8; RECORD_LEN] {
     let tag = event.tag().map_or(&[][..], |tag| tag.as_str().as_bytes());
     let mut record = vec![event.flags_raw()];
     record.extend(event.sid());
@@ -1415,7 +1268,7 @@ fn record_of(event: &GtidEvent) -> [u8; 116] {
     record.extend(event.immediate_server_version().to_le_bytes());
     record.extend(event.original_server_version().to_le_bytes());
     record.extend(event.commit_group_ticket().to_le_bytes());
-    record.try_into().expect("116 bytes")
+    record.try_into().expect("all places are filled")
 }
 
 #[derive(Clone)]
@@ -1427,7 +1280,7 @@ struct Entry {
 }
 
 /// Five ids of every ten: 11 to 15, 21 to 25 and so on.
-fn interval(place: u64) -> (u64, u64) {
+const fn interval(place: u64) -> (u64, u64) {
     (11 + 10 * place, 16 + 10 * place)
 }
 
@@ -1460,12 +1313,12 @@ fn numbered(number: u16, tag: &[u8], intervals: Vec<(u64, u64)>) -> Entry {
 }
 
 /// Uuids with a tag of 32 bytes or none, an interval each.
-fn uuids(count: u16, with_tag: bool) -> Vec<Entry> {
+fn uuids(count: usize, with_tag: bool) -> Vec<Entry> {
     let one = |number| match with_tag {
         true => numbered(number, &long_tag(number), intervals(1)),
         false => numbered(number, b"", intervals(1)),
     };
-    (0..count).map(one).collect()
+    (0..count as u16).map(one).collect()
 }
 
 /// A uuid for each of these lists of intervals.
@@ -1476,7 +1329,7 @@ fn several(lists: &[Vec<(u64, u64)>]) -> Vec<Entry> {
 
 /// Two uuids with as many intervals as one may have.
 fn two_uuids() -> Vec<Entry> {
-    several(&[1024, 1024].map(intervals))
+    several(&[OF_ENTRY; 2].map(intervals))
 }
 
 /// 32 bytes; only the last three tell the numbers apart.
@@ -1485,19 +1338,19 @@ fn long_tag(number: u16) -> Vec<u8> {
 }
 
 /// So many tags of one uuid, with `count` intervals each.
-fn tags(tags: u16, count: u64) -> Vec<Entry> {
-    (0..tags)
+fn tags(tags: usize, count: u64) -> Vec<Entry> {
+    (0..tags as u16)
         .map(|number| entry(&long_tag(number), intervals(count)))
         .collect()
 }
 
 /// As many entries and intervals as a set may have, and the longest tags.
 fn longest() -> Vec<Entry> {
-    let mut entries = tags(384, 6);
-    for entry in &mut entries[..256] {
+    let mut entries = tags(MAX_ENTRIES, 6);
+    for entry in &mut entries[..MAX_INTERVALS % MAX_ENTRIES] {
         entry.intervals.push(interval(6));
     }
-    assert_eq!(body(&entries).len(), LONGEST);
+    assert_eq!(body(&entries).len(), LONGEST_SET);
     entries
 }
 
@@ -1510,7 +1363,7 @@ fn cut(entries: &[Entry]) -> Vec<u8> {
 
 /// A report over a set that is added so many times.
 fn report_over(count: usize, set: &[u8]) -> Vec<u8> {
-    let mut report = vec![0; 1352];
+    let mut report = vec![0; REPORT_LEN];
     for _ in 0..count {
         assert_eq!(ours::report_add(&mut report, set).0, 0);
     }
@@ -1524,14 +1377,19 @@ fn over(count: usize) -> Vec<u8> {
 
 /// A report over 64 sets with 384 entries each, of five intervals: every number has its most digits.
 fn over_great() -> Vec<u8> {
-    let five = vec![(1, 2), (11, 12), (21, 22), (31, 32), (41, (1 << 63) - 1)];
-    report_over(64, &body(&each_with(uuids(384, false), five)))
+    let five = vec![(1, 2), (11, 12), (21, 22), (31, 32), (41, HIGHEST_GNO + 1)];
+    report_over(MAX_SETS, &body(&each_with(uuids(MAX_ENTRIES, false), five)))
 }
 
 /// The numbers of each set, and of all. An entry has 2^63 - 38 ids: 384 of them have 192 * 2^64 - 14,592, and 64 * 384 of them
 /// 12,288 * 2^64 - 933,888.
-const GREAT: [u64; 4] = [384, 1920, 191, 14_592_u64.wrapping_neg()];
-const GREAT_SUM: [u64; 4] = [24_576, 122_880, 12_287, 933_888_u64.wrapping_neg()];
+const GREAT: [u64; 4] = [ENTRIES, 5 * ENTRIES, 191, (38 * ENTRIES).wrapping_neg()];
+const GREAT_SUM: [u64; 4] = [
+    SETS * ENTRIES,
+    SETS * 5 * ENTRIES,
+    12_287,
+    (SETS * 38 * ENTRIES).wrapping_neg(),
+];
 
 fn report_text(sets: usize, each: [u64; 4], sum: [u64; 4]) -> String {
     let line = |word: &str, [entries, intervals, high, low]: [u64; 4]| {
@@ -1545,9 +1403,9 @@ fn reversed(mut entries: Vec<Entry>) -> Vec<Entry> {
     entries
 }
 
-/// As many intervals of one uuid as 65,536 bytes hold, and of each of two uuids.
-const MOST: u64 = 4094;
-const MOST_OF_TWO: u64 = 2046;
+/// As many intervals of one uuid as a body holds, and of each of two uuids: a header, and for each uuid a count, too.
+const MOST: u64 = (MAX_BODY as u64 - 8 - 24) / 16;
+const MOST_OF_TWO: u64 = (MAX_BODY as u64 - 8 - 2 * 24) / 2 / 16;
 
 /// An interval of the highest place, and then those of the others, rising.
 fn highest_first(count: u64, one: fn(u64) -> (u64, u64)) -> Vec<(u64, u64)> {
@@ -1602,19 +1460,20 @@ fn falling() -> Vec<Entry> {
 /// and 14 to 18 in the other an interval of either begins or ends by turns.
 fn tens(first: u64, end: u64) -> Vec<Entry> {
     let one = |place: u64| (first + 10 * place, end + 10 * place);
-    several(&[1024, 1024, 512].map(|count| (0..count).map(one).collect()))
+    several(&MOST_OF_THREE.map(|count| (0..count).map(one).collect()))
 }
 
 /// 2,559 intervals of three uuids, and these behind the last.
 fn but_last(more: &[(u64, u64)]) -> Vec<Entry> {
-    let mut lists = [1024, 1024, 511].map(intervals);
+    let mut lists = MOST_OF_THREE.map(intervals);
+    lists[2].pop();
     lists[2].extend(more);
     several(&lists)
 }
 
 /// Of 384 uuids the first, the third and so on, or the others.
 fn every_second(place: usize) -> Vec<Entry> {
-    uuids(384, false)
+    uuids(MAX_ENTRIES, false)
         .into_iter()
         .skip(place)
         .step_by(2)
@@ -1670,8 +1529,8 @@ fn with(intervals: &mut Vec<(u64, u64)>, gno: u64) -> bool {
 /// The event with an id of the entry, with all fields.
 fn event_for(entry: &Entry, gno: u64) -> (u8, Vec<u8>) {
     let (event_type, base) = match entry.tag.is_empty() {
-        true => (33, untagged()),
-        false => (42, tagged(&entry.tag)),
+        true => (GTID_EVENT, untagged()),
+        false => (GTID_TAGGED_LOG_EVENT, tagged(&entry.tag)),
     };
     let event = GtidEvent::deserialize(BinlogCtx::new(event_type), &mut ParseBuf(&base))
         .expect("an event")

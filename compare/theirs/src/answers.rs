@@ -14,6 +14,7 @@ use crate::{
     },
     io::{BufMutExt, ParseBuf, ReadMysqlExt, WriteMysqlExt},
     misc,
+    numbers::{GTID_EVENT, PREVIOUS_GTIDS_EVENT, refusal},
     packets::Tag,
     proto::{MyDeserialize, MySerialize},
 };
@@ -55,23 +56,23 @@ pub struct Refusal {
 
 /// Parts of the crate's texts, each of which stands for one number of the rules. The table is the comparison's own.
 const TEXTS: [(&str, u8); 17] = [
-    ("gtid_flags value out of u8 range", 2),
-    ("UUID byte ", 2),
-    ("immediate_server_version out of u32 range", 2),
-    ("original_server_version out of u32 range", 2),
-    ("negative gno value", 3),
-    ("negative last_committed value", 3),
-    ("negative sequence_number value", 3),
-    ("unsupported tagged GTID serialization version", 4),
-    ("unknown non-ignorable field", 5),
-    ("invalid UTF-8", 6),
-    ("invalid GTID tag", 6),
-    ("stand-in: the tag breaks the tag rule", 6),
-    ("GTID_TAGGED_LOG_EVENT missing tag field", 7),
-    ("unexpected event type for GtidEvent", 8),
-    ("stand-in: unknown event type", 8),
-    ("payload_size (", 9),
-    ("Invalid length-encoded integer value", 10),
+    ("gtid_flags value out of u8 range", refusal::TOO_LARGE),
+    ("UUID byte ", refusal::TOO_LARGE),
+    ("immediate_server_version out of u32 range", refusal::TOO_LARGE),
+    ("original_server_version out of u32 range", refusal::TOO_LARGE),
+    ("negative gno value", refusal::NEGATIVE),
+    ("negative last_committed value", refusal::NEGATIVE),
+    ("negative sequence_number value", refusal::NEGATIVE),
+    ("unsupported tagged GTID serialization version", refusal::WRONG_VERSION),
+    ("unknown non-ignorable field", refusal::UNKNOWN_FIELD),
+    ("invalid UTF-8", refusal::BAD_TAG),
+    ("invalid GTID tag", refusal::BAD_TAG),
+    ("stand-in: the tag breaks the tag rule", refusal::BAD_TAG),
+    ("GTID_TAGGED_LOG_EVENT missing tag field", refusal::NO_TAG),
+    ("unexpected event type for GtidEvent", refusal::WRONG_TYPE),
+    ("stand-in: unknown event type", refusal::WRONG_TYPE),
+    ("payload_size (", refusal::SMALL_PAYLOAD),
+    ("Invalid length-encoded integer value", refusal::BAD_LEAD),
 ];
 
 fn refusal_of(error: io::Error) -> Refusal {
@@ -79,7 +80,7 @@ fn refusal_of(error: io::Error) -> Refusal {
     if kind == io::ErrorKind::UnexpectedEof {
         return Refusal {
             kind,
-            number: Some(1),
+            number: Some(refusal::ENDED),
         };
     }
     let text = error.to_string();
@@ -245,7 +246,7 @@ fn event_of(fields: &Fields) -> Option<GtidEvent> {
     let mut body = vec![fields.flags];
     body.extend_from_slice(&fields.uuid);
     body.extend_from_slice(&fields.gno.to_le_bytes());
-    let mut event = GtidEvent::deserialize(BinlogCtx::new(33), &mut ParseBuf(&body)).ok()?;
+    let mut event = GtidEvent::deserialize(BinlogCtx::new(GTID_EVENT), &mut ParseBuf(&body)).ok()?;
     match fields.typecode {
         None => (),
         Some(GtidEvent::LOGICAL_TIMESTAMP_TYPECODE) => event = event.with_lc_typecode(),
@@ -438,7 +439,7 @@ fn meets_great_count(body: &[u8]) -> Option<bool> {
 }
 
 fn previous_from<'a>(buf: &mut ParseBuf<'a>) -> io::Result<PreviousGtidsEvent<'a>> {
-    PreviousGtidsEvent::deserialize(BinlogCtx::new(35), buf)
+    PreviousGtidsEvent::deserialize(BinlogCtx::new(PREVIOUS_GTIDS_EVENT), buf)
 }
 
 pub fn read_previous(body: &[u8]) -> Told<Previous> {

@@ -10,3 +10,4 @@ pub mod proto;
 
 /// Not of the crate: its functions over bytes, with answers in the terms of docs/RULES.md.
 pub mod answers;
+pub mod numbers;
