@@ -1,7 +1,10 @@
 //! What is asked: the calls of docs/VECTORS.md, and the function of the crate that answers each.
 
 use crate::words;
-use theirs::answers::{self, Fields, Step, Told};
+use theirs::{
+    answers::{self, Fields, Step, Told},
+    numbers::UNDEFINED_SERVER_VERSION,
+};
 
 /// A row of the table: a call, and for some calls the crate's second function for the same thing.
 #[derive(Clone, Copy, PartialEq, Eq, Debug)]
@@ -184,6 +187,25 @@ impl Case {
                 unreachable!("a case without its record or its steps")
             }
         }
+    }
+}
+
+/// The record that 25 zeros hold.
+pub fn bare() -> Fields {
+    Fields {
+        flags: 0,
+        uuid: [0; 16],
+        gno: 0,
+        tag: Vec::new(),
+        typecode: None,
+        last_committed: 0,
+        sequence_number: 0,
+        immediate_timestamp: 0,
+        original_timestamp: 0,
+        tx_length: 0,
+        immediate_version: UNDEFINED_SERVER_VERSION,
+        original_version: UNDEFINED_SERVER_VERSION,
+        ticket: 0,
     }
 }
 

@@ -2,7 +2,7 @@
 //! on the question and on both answers. Where several fit, the first counts.
 
 use crate::{
-    case::{Case, Input, Kind},
+    case::{self, Case, Input, Kind},
     words,
 };
 use std::io::ErrorKind;
@@ -142,17 +142,10 @@ fn d5(case: &Case, ours: &str, theirs: &Told<String>) -> bool {
 /// The record that 25 bytes hold: all later fields at the reader's absent values.
 fn of_25_bytes(fields: &Fields) -> Fields {
     Fields {
-        tag: Vec::new(),
-        typecode: None,
-        last_committed: 0,
-        sequence_number: 0,
-        immediate_timestamp: 0,
-        original_timestamp: 0,
-        tx_length: 0,
-        immediate_version: UNDEFINED_SERVER_VERSION,
-        original_version: UNDEFINED_SERVER_VERSION,
-        ticket: 0,
-        ..fields.clone()
+        flags: fields.flags,
+        uuid: fields.uuid,
+        gno: fields.gno,
+        ..case::bare()
     }
 }
 

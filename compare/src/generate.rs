@@ -1,14 +1,14 @@
 //! The cases: a fixed part first (short integers exhaustively, and edges), then random ones without end.
 
 use crate::{
-    case::{Case, Input, Kind},
+    case::{Case, Input, Kind, bare},
     random::Random,
 };
 use theirs::{
     answers::{self, Fields, Step, Told},
     numbers::{
         ANONYMOUS_GTID_EVENT, GTID_EVENT, GTID_TAGGED_LOG_EVENT, MAX_BODY, MAX_TAG,
-        PREVIOUS_GTIDS_EVENT, UNDEFINED_SERVER_VERSION,
+        PREVIOUS_GTIDS_EVENT,
     },
 };
 
@@ -159,24 +159,6 @@ pub fn fixed(random: &mut Random, put: &mut dyn FnMut(Case)) {
         }
         put(Case::bytes(Kind::ReadPrevious, 0, vec![0; len], 0));
         put(Case::bytes(Kind::RewritePrevious, 0, vec![0; len], 100));
-    }
-}
-
-fn bare() -> Fields {
-    Fields {
-        flags: 0,
-        uuid: [0; 16],
-        gno: 0,
-        tag: Vec::new(),
-        typecode: None,
-        last_committed: 0,
-        sequence_number: 0,
-        immediate_timestamp: 0,
-        original_timestamp: 0,
-        tx_length: 0,
-        immediate_version: UNDEFINED_SERVER_VERSION,
-        original_version: UNDEFINED_SERVER_VERSION,
-        ticket: 0,
     }
 }
 

@@ -38,14 +38,19 @@ pub enum Checksums {
 /// use gtid_resume::{BinlogReader, Checksums, ResumeSet, Told};
 ///
 /// # fn event(event_type: u8, body: &[u8]) -> Vec<u8> {
-/// #     let mut event = vec![0; 19];
+/// #     let mut event = vec![0; gtid_resume::EVENT_HEADER_LEN];
+/// #     let size = (event.len() + body.len()) as u32;
 /// #     event[4] = event_type;
-/// #     event[9..13].copy_from_slice(&(19 + body.len() as u32).to_le_bytes());
+/// #     event[9..13].copy_from_slice(&size.to_le_bytes());
 /// #     event.extend(body);
 /// #     event
 /// # }
 /// # let gtid = gtid_resume::GtidEvent::new([7; 16], 6).write()?;
-/// # let file = [b"\xfebin".to_vec(), event(35, &[0; 8]), event(33, &gtid), event(33, &gtid), event(34, &gtid)].concat();
+/// # use gtid_resume::{ANONYMOUS_GTID_EVENT, GTID_EVENT, PREVIOUS_GTIDS_EVENT};
+/// # let mut file = [b"\xfebin".to_vec(), event(PREVIOUS_GTIDS_EVENT, &[0; 8])].concat();
+/// # for event_type in [GTID_EVENT, GTID_EVENT, ANONYMOUS_GTID_EVENT] {
+/// #     file.extend(event(event_type, &gtid));
+/// # }
 /// // an opening event, transaction 6, the same again, and one without an id
 /// let mut reader = BinlogReader::new(ResumeSet::empty(), Checksums::None);
 /// let told = reader.feed(&file).map(|walked| walked.map(|walked| walked.told));
@@ -73,7 +78,8 @@ pub enum Told {
 ///
 /// # let gtid = GtidEvent::new([7; 16], 6).write()?;
 /// # let mut file = b"\xfebin".to_vec();
-/// # file.extend([0, 0, 0, 0, 33, 0, 0, 0, 0, 19 + gtid.len() as u8, 0, 0, 0, 0, 0, 0, 0, 0, 0]);
+/// # let size = (gtid_resume::EVENT_HEADER_LEN + gtid.len()) as u8;
+/// # file.extend([0, 0, 0, 0, gtid_resume::GTID_EVENT, 0, 0, 0, 0, size, 0, 0, 0, 0, 0, 0, 0, 0, 0]);
 /// # file.extend(gtid);
 /// # file.extend([0; 7]);
 /// let mut reader = BinlogReader::new(ResumeSet::empty(), Checksums::None);
@@ -129,18 +135,21 @@ pub struct Walked {
 /// ```
 /// use gtid_resume::{BinlogReader, Checksums, ResumeSet, Told};
 ///
-/// # use gtid_resume::GtidEvent;
+/// # use gtid_resume::{GtidEvent, GTID_EVENT, PREVIOUS_GTIDS_EVENT};
+/// # const ROW: u8 = 30;
+/// # const XID: u8 = 16;
 /// # fn event(event_type: u8, body: &[u8]) -> Vec<u8> {
-/// #     let mut event = vec![0; 19];
+/// #     let mut event = vec![0; gtid_resume::EVENT_HEADER_LEN];
+/// #     let size = (event.len() + body.len()) as u32;
 /// #     event[4] = event_type;
-/// #     event[9..13].copy_from_slice(&(19 + body.len() as u32).to_le_bytes());
+/// #     event[9..13].copy_from_slice(&size.to_le_bytes());
 /// #     event.extend(body);
 /// #     event
 /// # }
 /// # let gtid = |gno| GtidEvent::new([7; 16], gno).write().unwrap();
-/// # let mut file = [b"\xfebin".to_vec(), event(35, &[0; 8])].concat();
+/// # let mut file = [b"\xfebin".to_vec(), event(PREVIOUS_GTIDS_EVENT, &[0; 8])].concat();
 /// # for gno in [1, 2] {
-/// #     file.extend([event(33, &gtid(gno)), event(30, b"28.4 mm"), event(16, &[0; 8])].concat());
+/// #     file.extend([event(GTID_EVENT, &gtid(gno)), event(ROW, b"28.4 mm"), event(XID, &[0; 8])].concat());
 /// # }
 /// # struct Tool(usize);
 /// # impl Tool {
@@ -389,14 +398,16 @@ impl fmt::Debug for BinlogReader {
 /// use gtid_resume::{BinlogReader, Checksums, ResumeSet, Told};
 ///
 /// # fn event(event_type: u8, body: &[u8]) -> Vec<u8> {
-/// #     let mut event = vec![0; 19];
+/// #     let mut event = vec![0; gtid_resume::EVENT_HEADER_LEN];
+/// #     let size = (event.len() + body.len()) as u32;
 /// #     event[4] = event_type;
-/// #     event[9..13].copy_from_slice(&(19 + body.len() as u32).to_le_bytes());
+/// #     event[9..13].copy_from_slice(&size.to_le_bytes());
 /// #     event.extend(body);
 /// #     event
 /// # }
 /// # let gtid = |gno| gtid_resume::GtidEvent::new([7; 16], gno).write().unwrap();
-/// # let file = [b"\xfebin".to_vec(), event(33, &gtid(1)), event(33, &gtid(2))].concat();
+/// # use gtid_resume::GTID_EVENT;
+/// # let file = [b"\xfebin".to_vec(), event(GTID_EVENT, &gtid(1)), event(GTID_EVENT, &gtid(2))].concat();
 /// let mut reader = BinlogReader::new(ResumeSet::empty(), Checksums::None);
 /// let first = reader.feed(&file).next().expect("the first of two")?; // and the rest is left
 /// assert!(first.set == *reader.set() && !reader.set().contains(&[7; 16], b"", 2));
