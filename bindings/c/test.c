@@ -53,6 +53,12 @@ static void write_longest_event(void)
     EXPECT(gtid_write(record, sizeof record, written, sizeof written, &len) == 0 && len == GTID_LONGEST_EVENT);
 }
 
+/* Both server versions of a record. */
+static void put_unknown_versions(uint8_t *record)
+{
+    put(record + 100, ((uint64_t)GTID_UNDEFINED_SERVER_VERSION << 32) + GTID_UNDEFINED_SERVER_VERSION);
+}
+
 /* A new record, of which no more is known than uuid and number: written as a short event, and read back equal; refused where it claims
  * server version 0. */
 static void write_new_event(void)
@@ -63,7 +69,7 @@ static void write_new_event(void)
     memset(record + 1, 7, 16);
     put(record + 17, 5);
     EXPECT(gtid_write(record, sizeof record, written, sizeof written, &len) == GTID_REFUSAL_NOT_WRITABLE && len == 0);
-    put(record + 100, ((uint64_t)GTID_UNDEFINED_SERVER_VERSION << 32) + GTID_UNDEFINED_SERVER_VERSION);
+    put_unknown_versions(record);
     EXPECT(gtid_write(record, sizeof record, written, sizeof written, &len) == 0 && len == SHORT_EVENT_LEN);
     EXPECT(gtid_read(GTID_TYPE_GTID, written, len, back, sizeof back, &used) == 0 && used == SHORT_EVENT_LEN);
     EXPECT(memcmp(back, record, sizeof record) == 0);
@@ -147,7 +153,7 @@ static size_t put_last_event(uint8_t *event, uint64_t gno)
     put(record + 17, gno);
     record[25] = GTID_MAX_TAG;
     put_tag(record + 26, GTID_MAX_ENTRIES - 1);
-    put(record + 100, ((uint64_t)GTID_UNDEFINED_SERVER_VERSION << 32) + GTID_UNDEFINED_SERVER_VERSION);
+    put_unknown_versions(record);
     EXPECT(gtid_write(record, sizeof record, event, GTID_LONGEST_EVENT, &len) == 0);
     return len;
 }
