@@ -47,25 +47,31 @@ mod ours {
         pub kind: u8,
     }
 
+    /// Of a call that hands out one number.
+    #[inline(always)]
+    fn answered(call: impl FnOnce(*mut usize) -> u8) -> Answer {
+        let mut number = 0;
+        let refusal = call(&raw mut number);
+        Answer {
+            refusal,
+            number,
+            kind: 0,
+        }
+    }
+
     macro_rules! over_output {
         ($name:ident, $call:ident) => {
             #[inline(always)]
             pub fn $name(input: &[u8], out: &mut [u8]) -> Answer {
-                let mut number = 0;
-                let refusal = unsafe {
+                answered(|number| unsafe {
                     linked::$call(
                         input.as_ptr(),
                         input.len(),
                         out.as_mut_ptr(),
                         out.len(),
-                        &raw mut number,
+                        number,
                     )
-                };
-                Answer {
-                    refusal,
-                    number,
-                    kind: 0,
-                }
+                })
             }
         };
     }
@@ -80,8 +86,7 @@ mod ours {
         ($name:ident, $call:ident) => {
             #[inline(always)]
             pub fn $name(first: &[u8], second: &[u8], out: &mut [u8]) -> Answer {
-                let mut number = 0;
-                let refusal = unsafe {
+                answered(|number| unsafe {
                     linked::$call(
                         first.as_ptr(),
                         first.len(),
@@ -89,14 +94,9 @@ mod ours {
                         second.len(),
                         out.as_mut_ptr(),
                         out.len(),
-                        &raw mut number,
+                        number,
                     )
-                };
-                Answer {
-                    refusal,
-                    number,
-                    kind: 0,
-                }
+                })
             }
         };
     }
@@ -107,22 +107,16 @@ mod ours {
 
     #[inline(always)]
     pub fn read(event_type: u8, body: &[u8], record: &mut [u8]) -> Answer {
-        let mut number = 0;
-        let refusal = unsafe {
+        answered(|used| unsafe {
             linked::gtid_read(
                 event_type,
                 body.as_ptr(),
                 body.len(),
                 record.as_mut_ptr(),
                 record.len(),
-                &raw mut number,
+                used,
             )
-        };
-        Answer {
-            refusal,
-            number,
-            kind: 0,
-        }
+        })
     }
 
     /// The refusal, the bytes used, and the fields that are there.
@@ -241,35 +235,28 @@ mod ours {
         (refusal, present)
     }
 
-    #[inline(always)]
-    pub fn within(first: &[u8], second: &[u8]) -> (u8, u8) {
-        let mut within = 0;
-        let refusal = unsafe {
-            linked::gtid_within(
-                first.as_ptr(),
-                first.len(),
-                second.as_ptr(),
-                second.len(),
-                &raw mut within,
-            )
+    /// The refusal, and what is told of two sets.
+    macro_rules! of_two_sets {
+        ($name:ident, $call:ident) => {
+            #[inline(always)]
+            pub fn $name(first: &[u8], second: &[u8]) -> (u8, u8) {
+                let mut told = 0;
+                let refusal = unsafe {
+                    linked::$call(
+                        first.as_ptr(),
+                        first.len(),
+                        second.as_ptr(),
+                        second.len(),
+                        &raw mut told,
+                    )
+                };
+                (refusal, told)
+            }
         };
-        (refusal, within)
     }
 
-    #[inline(always)]
-    pub fn head(first: &[u8], second: &[u8]) -> (u8, u8) {
-        let mut head = 0;
-        let refusal = unsafe {
-            linked::gtid_head(
-                first.as_ptr(),
-                first.len(),
-                second.as_ptr(),
-                second.len(),
-                &raw mut head,
-            )
-        };
-        (refusal, head)
-    }
+    of_two_sets!(within, gtid_within);
+    of_two_sets!(head, gtid_head);
 
     /// The refusal, and how many entries, intervals and ids the set has, the ids in two words.
     #[inline(always)]
