@@ -7,7 +7,7 @@ pub mod limits;
 pub mod walk;
 
 // Before its entries a set has a header of so many bytes.
-pub const HEADER: usize = 8;
+pub const SET_HEADER: usize = 8;
 
 // A set has so many entries at most,
 pub const MAX_ENTRIES: usize = 384;
@@ -19,7 +19,7 @@ pub const MAX_INTERVALS: usize = 2560;
 pub const MAX_OF_ENTRY: usize = 1024;
 
 // So the longest has 62,856 bytes (`longestSet`).
-pub const LONGEST_SET: usize = HEADER + MAX_ENTRIES * (16 + 1 + 32 + 8) + MAX_INTERVALS * 16;
+pub const LONGEST_SET: usize = SET_HEADER + MAX_ENTRIES * (16 + 1 + 32 + 8) + MAX_INTERVALS * 16;
 
 // What a lent set is: refused with 14, or in set form and within the limits.
 pub struct Checked {

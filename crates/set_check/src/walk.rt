@@ -2,7 +2,7 @@
 use crate::Checked;
 use crate::Cursor;
 use crate::EntryPlace;
-use crate::HEADER;
+use crate::SET_HEADER;
 use misc::bytes::left_at;
 use misc::le::number_at;
 ghost use mathlib.Core.Path.{_≡_};
@@ -55,7 +55,7 @@ pub fn entries_of(checked: Checked) -> Cursor
 {
     Cursor {
         tagged: checked.tagged,
-        at: HEADER,
+        at: SET_HEADER,
         left: checked.entries,
     }
 }
