@@ -49,7 +49,7 @@ pub struct Counts {
 // A report: how many sets it is over, and their lines at the front.
 pub struct Report {
     pub sets: usize,
-    pub lines: [Line; 64],
+    pub lines: [Line; MAX_SETS],
 }
 
 // What adding a set comes to: its line, whose refusal is the answer, and the report with it.
@@ -121,7 +121,7 @@ impl Report {
                 intervals: 0,
                 high: 0,
                 low: 0,
-            }; 64],
+            }; MAX_SETS],
         }
     }
 

@@ -1,6 +1,7 @@
 // The sums over lines.
 use crate::Counts;
 use crate::Line;
+use crate::MAX_SETS;
 use crate::Wide;
 use crate::ids::plus;
 ghost use mathlib.Core.Path.{_≡_};
@@ -48,7 +49,7 @@ fn with_line(sum: Counts, line: Line) -> Counts
 }
 
 // The sums of the first lines.
-pub(crate) fn sum_of(lines: [Line; 64], count: usize) -> Counts
+pub(crate) fn sum_of(lines: [Line; MAX_SETS], count: usize) -> Counts
     requires { ⌜ count ≤ 64 ⌝ }
     ensures { λ r. ⌜ r ≡ sumOf (take count lines) ⌝ }
 {

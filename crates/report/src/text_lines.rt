@@ -1,6 +1,7 @@
 // The lines of a report as text.
 use crate::Counts;
 use crate::Line;
+use crate::MAX_SETS;
 use crate::sums::counts_of;
 use misc::put::put_bytes;
 use text::digits::decimal_len;
@@ -68,7 +69,7 @@ fn put_line(line: Line, out: &mut [u8], at: usize) -> usize
 }
 
 // How long the first lines are.
-pub(crate) fn lines_len(lines: [Line; 64], count: usize) -> usize
+pub(crate) fn lines_len(lines: [Line; MAX_SETS], count: usize) -> usize
     requires { ⌜ count ≤ 64 ⌝ }
     ensures { λ r. ⌜ (r ≡ length (linesText (take count lines))) × (r ≤ 88 * count) ⌝ }
 {
@@ -82,7 +83,7 @@ pub(crate) fn lines_len(lines: [Line; 64], count: usize) -> usize
 }
 
 // Puts the first lines.
-pub(crate) fn put_lines(lines: [Line; 64], count: usize, out: &mut [u8], at: usize) -> usize
+pub(crate) fn put_lines(lines: [Line; MAX_SETS], count: usize, out: &mut [u8], at: usize) -> usize
     requires { ⌜ count ≤ 64 ⌝ }
     ensures { λ r. ⌜ WhereFits (now (out .entry)) at (linesText (take count lines)) (now (out .exit)) r ⌝ }
 {
