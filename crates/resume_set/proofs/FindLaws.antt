@@ -1,14 +1,14 @@
 -- Laws of `find`: entries before a key are passed, one after another.
-use Prim.Native.Nat.{ℕ, _+_, _-_, _^_, _<_, _≤_}
+use Prim.Native.Nat.{ℕ, _+_, _-_, _^_, _≤_}
 use mathlib.Core.Path.{_≡_, refl, sym, ap, _∙_}
-use mathlib.Core.Bool.{Bool, true, false, _||_, or-assoc}
-use mathlib.Core.List.{List, [], _∷_, _++_, append-assoc}
+use mathlib.Core.Bool.{Bool, true, false}
+use mathlib.Core.List.{List, [], _∷_, _++_}
 use native.Mathlib.Omega.{arith}
 use lib.Dec.{ltb}
+use borrow.Author.Tests.{ltb-false}
 use lib.ListN.{length, drop, length-append, length-drop}
 use lib.Seq.{append-snoc}
 use Rattle.misc.specs.Parse.{part}
-use Rattle.misc.proofs.ParseLaws.{part-length}
 use Rattle.packets.specs.Gno.{Interval}
 use Rattle.packets.specs.Key.{Key, order, orElse, orderRead, _≺_}
 use Rattle.packets.specs.declared.KeyOrder.{KeyOrder}
@@ -16,7 +16,6 @@ use Rattle.packets.specs.declared.KeyOrder.the-variants.{Before, Same, After}
 use Rattle.packets.proofs.Tests.{clash}
 use Rattle.packets.proofs.Keys.{flip, order-eq, order-flip, order-append, after-not-same}
 use Rattle.previous_gtids_event.specs.Entry.{Entry, entry, tagOf}
-use Rattle.previous_gtids_event.specs.Previous.{GoodKey}
 use Rattle.previous_gtids_event.specs.Rewrite.{entriesBytes, anyTag}
 use Rattle.gtid_sets.specs.Interval.{insert}
 use Rattle.gtid_sets.specs.Set.{has, join, SetForm}
@@ -24,225 +23,201 @@ use Rattle.gtid_sets.specs.Limits.{summed}
 use Rattle.gtid_sets.specs.Lent.{GoodKeys}
 use Rattle.gtid_sets.proofs.LimitLaws.{summed-append}
 use Rattle.gtid_sets.proofs.SetLaws.{join-before, join-into, join-after, above-misses, entry-has}
-use Rattle.previous_gtids_event.proofs.Reading.{key-whole}
-use Rattle.gtid_sets.proofs.ByteLaws.{entriesBytes-append}
-use Rattle.set_check.specs.Places.{intervalsAt, placeAt, placeIn}
+use Rattle.gtid_sets.proofs.ByteLaws.{body-least, entriesBytes-append}
+use Rattle.set_check.specs.Places.{intervalsAt}
 use Rattle.set_check.specs.declared.EntryPlace.{EntryPlace}
 use Rattle.packets.proofs.OrderLaws.{says-before, says-same, says-after}
-use Rattle.set_check.proofs.EntryPlaces.{EntryHere, place-here, untagged-parts, first-ok, first-here, first-intervals, first-next}
 use Rattle.set_check.specs.SetOf.{setOf, IsSet}
-use Rattle.resume_set.specs.Find.{FoundIs}
-use Rattle.resume_set.specs.declared.Found.{Found}
+use Rattle.resume_set.specs.Find.{absentAt, FoundIs}
+use Rattle.set_check.proofs.PlaceLaws.{intervals-count}
 use Rattle.set_check.proofs.SetOfLaws.{set-bytes}
+use Rattle.set_check.proofs.CursorLaws.{cursor-starts, Ahead, none-ahead}
+use Rattle.set_check.specs.Cursor.{beyondOf, entriesLeft, keyAt, CursorIs}
+use Rattle.set_check.specs.declared.Cursor.{Cursor}
+use Rattle.gtid_sets.proofs.Bools.{or-false-parts}
 
--- ---- entries one after another
+-- ---- entries before others
 
-any-append : (s t : List Entry) → anyTag (s ++ t) ≡ (anyTag s || anyTag t)
+any-parts : (s t : List Entry) → anyTag (s ++ t) ≡ false → (anyTag s ≡ false) × (anyTag t ≡ false)
 unfolding anyTag
-any-append [] t = refl
-any-append (entry k is ∷ s) t = rw (any-append s t) (sym (or-assoc (ltb 0 (length (tagOf k))) (anyTag s) (anyTag t)))
+any-parts [] t h = (refl, h)
+any-parts (entry k is ∷ s) t h =
+    let (p, q) = or-false-parts (ltb 0 (length (tagOf k))) (anyTag (s ++ t)) h in
+    let (x, y) = any-parts s t q in
+    (rw (p, x), y)
 
-good-snoc : (k : Key) (is : List Interval) (s : List Entry) → GoodKeys s → GoodKey k → GoodKeys (s ++ (entry k is ∷ []))
-good-snoc k is [] h g = (g, tt)
-good-snoc k is (entry j js ∷ s) h g = (h .0, good-snoc k is s (h .1) g)
+good-parts : (s t : List Entry) → GoodKeys (s ++ t) → GoodKeys s × GoodKeys t
+good-parts [] t h = (tt, h)
+good-parts (entry k is ∷ s) t h = let (x, y) = good-parts s t (h .1) in ((h .0, x), y)
 
--- the entries of front are before the key and end at a place; those of back stand from there on
-pub record Stand (bs : List ℕ) (w : Bool) (k : Key) (s : List Entry) (done at : ℕ) (front back : List Entry) : Type 0 where
-  pub entries : length s ≡ length front + length back
-  pub total : (f : ℕ → ℕ) → summed f s ≡ summed f front + summed f back
-  pub count : length front ≡ done
-  pub bytes : drop 8 bs ≡ entriesBytes w front ++ drop at bs
-  pub rest : drop at bs ≡ entriesBytes w back
-  pub joins : (a b : ℕ) → join k a b s ≡ front ++ join k a b back
-  pub member : (n : ℕ) → has s k n ≡ has back k n
-  pub formed : SetForm back
-  pub keyed : GoodKeys back
-  pub before-keyed : GoodKeys front
-  pub before-tags : w ≡ false → anyTag front ≡ false
-  pub tags : w ≡ false → anyTag back ≡ false
-  pub small : length bs ≤ 2 ^ 40
-  pub place : 8 + length (entriesBytes w front) ≡ at
-  pub inside : at ≤ length bs
-
-pub record Passed (bs : List ℕ) (w : Bool) (k : Key) (s : List Entry) (done at : ℕ) : Type 0 where
+-- so many entries of the set are before the key; the others are left
+pub record Passed (bs : List ℕ) (w : Bool) (n : ℕ) (k : Key) (done : ℕ) (c : Cursor) : Type 0 where
+  pub set : IsSet bs w n
   pub front : List Entry
-  pub back : List Entry
-  pub stand : Stand bs w k s done at front back
+  pub count : done ≡ length front
+  pub all : setOf bs ≡ front ++ entriesLeft bs c
+  pub joins : (a b : ℕ) → join k a b (setOf bs) ≡ front ++ join k a b (entriesLeft bs c)
+  pub member : (m : ℕ) → has (setOf bs) k m ≡ has (entriesLeft bs c) k m
+  pub left : CursorIs bs c
+  pub alike : c .tagged ≡ w
 
-pub passed-none : (bs : List ℕ) (w : Bool) (n : ℕ) (k : Key) → IsSet bs w n → Passed bs w k (setOf bs) 0 8
-unfolding entriesBytes anyTag
-passed-none bs w n k h =
-    let s : List Entry = setOf bs in
+pub passed-none : (bs : List ℕ) (k : Key) (c : Cursor) → IsSet bs (c .tagged) (c .left) → c .at ≡ 8 → Passed bs (c .tagged) (c .left) k 0 c
+passed-none bs k c set start =
+    let (left, are) = cursor-starts bs (c .tagged) (c .left) set in
+    let same : entriesLeft bs c ≡ setOf bs = rw start are in
     record {
+      set = set;
       front = [];
-      back = s;
-      stand = record {
-        entries = omega arith;
-        total = λ f. omega arith;
-        count = refl;
-        bytes = refl;
-        rest = set-bytes bs w n h .1;
-        joins = λ a b. refl;
-        member = λ n. refl;
-        formed = h .formed;
-        keyed = h .keyed;
-        before-keyed = tt;
-        before-tags = λ _. refl;
-        tags = λ f. h .tags ∙ f;
-        small = h .small;
-        place = refl;
-        inside = set-bytes bs w n h .0;
-      };
+      count = refl;
+      all = sym same;
+      joins = λ a b. ap (join k a b) (sym same);
+      member = λ m. rw same;
+      left = rw (← start) at left;
+      alike = refl;
     }
 
--- one entry at least is left
-pub record Ahead (bs : List ℕ) (w : Bool) (k : Key) (s : List Entry) (done at : ℕ) : Type 0 where
-  pub front : List Entry
-  pub key : Key
-  pub is : List Interval
-  pub back : List Entry
-  pub stand : Stand bs w k s done at front (entry key is ∷ back)
+no-tag : (k : Key) (is : List Interval) (s : List Entry) → anyTag (entry k is ∷ s) ≡ false → length (tagOf k) ≡ 0
+unfolding anyTag
+no-tag k is s h = omega (arith, ltb-false 0 (length (tagOf k)) (or-false-parts (ltb 0 (length (tagOf k))) (anyTag s) h .0))
 
-module _ (bs : List ℕ) (w : Bool) (k : Key) (s : List Entry) (done at : ℕ) where
-  pub ahead : Passed bs w k s done at → done < length s → Ahead bs w k s done at
-  ahead p h = go (p .back) (p .stand)
-    where
-      go : (back : List Entry) → Stand bs w k s done at (p .front) back → Ahead bs w k s done at
-      go [] x = absurd (omega (arith, x .entries, x .count))
-      go (entry j is ∷ t) x = record { front = p .front; key = j; is = is; back = t; stand = x }
+module _ (bs : List ℕ) (w : Bool) (n : ℕ) (k : Key) (done : ℕ) (c : Cursor) (x : Passed bs w n k done c) where
+  abbrev left : List Entry
+  left = entriesLeft bs c
 
-  abbrev absentAt : Found
-  absentAt = record { index = done; at = at; here = false; count = 0; first = at; next = at }
+  front-bytes : drop 8 bs ≡ entriesBytes w (x .front) ++ drop (c .at) bs
+  front-bytes =
+      set-bytes bs w n (x .set) .1
+      ∙ ap (entriesBytes w) (x .all)
+      ∙ entriesBytes-append w (x .front) left
+      ∙ ap (λ (v : Bool). entriesBytes w (x .front) ++ entriesBytes v left) (sym (x .alike))
+      ∙ ap (λ (y : List ℕ). entriesBytes w (x .front) ++ y) (sym (x .left .bytes))
 
-  -- the key is not there, and goes between front and back
-  absent : (front back : List Entry) → Stand bs w k s done at front back
-      → ((a b : ℕ) → join k a b back ≡ entry k (insert a b []) ∷ back) → ((n : ℕ) → has back k n ≡ false) → FoundIs bs w k s absentAt
-  absent front back x joins misses = record {
-    front = front;
-    back = back;
-    joins = λ a b. x .joins a b ∙ rw (joins a b);
-    member = λ n. x .member n ∙ misses n;
+  front-length : 8 + length (entriesBytes w (x .front)) ≡ c .at
+  front-length = omega (
+    arith,
+    sym (length-drop 8 bs) ∙ ap length front-bytes ∙ length-append (entriesBytes w (x .front)) (drop (c .at) bs),
+    length-drop (c .at) bs,
+    x .left .inside,
+    set-bytes bs w n (x .set) .0,
+  )
+
+  front-tags : w ≡ false → anyTag (x .front) ≡ false
+  front-tags f = any-parts (x .front) left (ap anyTag (sym (x .all)) ∙ x .set .tags ∙ f) .0
+
+  front-keyed : GoodKeys (x .front)
+  front-keyed = good-parts (x .front) left (rw (x .all) at (x .set .keyed)) .0
+
+  entries : length (setOf bs) ≡ length (x .front) + length left
+  entries = ap length (x .all) ∙ length-append (x .front) left
+
+  total : (f : ℕ → ℕ) → summed f (setOf bs) ≡ summed f (x .front) + summed f left
+  total f = ap (summed f) (x .all) ∙ summed-append f (x .front) left
+
+  -- entries take up bytes
+  pub few-done : done ≤ 2 ^ 40
+  few-done = omega (arith, x .count, entries, body-least (setOf bs) (x .set .keyed), ap length (x .set .written), x .set .small)
+
+  -- the key is not there, and goes before what is left
+  absent : ((a b : ℕ) → join k a b left ≡ entry k (insert a b []) ∷ left) → ((m : ℕ) → has left k m ≡ false)
+      → FoundIs bs w k (setOf bs) (absentAt done (c .at))
+  absent joins misses = record {
+    front = x .front;
+    back = left;
+    joins = λ a b. x .joins a b ∙ ap (λ (y : List Entry). x .front ++ y) (joins a b);
+    member = λ m. x .member m ∙ misses m;
     gapped = tt;
-    index = sym (x .count);
-    entries = omega (arith, x .entries);
-    total = λ f z. omega (arith, x .total f, z);
-    front-bytes = x .bytes;
-    back-bytes = x .rest;
-    place = omega (arith, x .place);
+    index = x .count;
+    entries = omega (arith, entries);
+    total = λ f z. omega (arith, total f, z);
+    front-bytes = front-bytes;
+    back-bytes = x .left .bytes ∙ ap (λ (v : Bool). entriesBytes v left) (x .alike);
+    place = omega (arith, front-length);
     order = omega arith;
     end = omega arith;
-    inside = x .inside;
-    tags = (x .before-tags, x .tags);
-    keyed = (x .before-keyed, x .keyed);
+    inside = x .left .inside;
+    tags = (front-tags, λ f. x .left .tags (x .alike ∙ f));
+    keyed = (front-keyed, x .left .keyed);
     plain = λ e. clash e refl;
-    length-front = x .place;
+    length-front = front-length;
   }
 
-  pub passed-all : Passed bs w k s done at → length s ≤ done → FoundIs bs w k s absentAt
-  passed-all p h = go (p .back) (p .stand)
-    where
-      go : (back : List Entry) → Stand bs w k s done at (p .front) back → FoundIs bs w k s absentAt
-      go [] x = absent (p .front) [] x (λ a b. refl) (λ n. refl)
-      go (entry j is ∷ t) x = absurd (omega (arith, x .entries, x .count))
+  pub passed-all : c .left ≡ 0 → FoundIs bs w k (setOf bs) (absentAt done (c .at))
+  passed-all e =
+      let none = none-ahead bs c e in
+      absent (λ a b. ap (join k a b) none ∙ ap (λ (y : List Entry). entry k (insert a b []) ∷ y) (sym none)) (λ m. ap (λ (y : List Entry). has y k m) none)
 
-  module _ (x : Ahead bs w k s done at) where
-    abbrev v : Stand bs w k s done at (x .front) (entry (x .key) (x .is) ∷ x .back)
-    v = x .stand
+  module _ (p : EntryPlace) (h : Ahead bs c p) where
+    abbrev key : Key
+    key = keyAt bs c p
 
-    here : EntryHere bs at (x .key) (x .is) (entriesBytes w (x .back)) (placeAt w bs at)
-    here = first-here bs w at (x .key) (x .is) (x .back) (v .rest) (v .formed) (v .keyed) (v .tags) (v .small)
+    abbrev is : List Interval
+    is = intervalsAt (p .count) bs (p .first)
 
-    module _ (p : EntryPlace) (e : p ≡ placeIn w bs at) where
-      same-place : p ≡ placeAt w bs at
-      same-place = e ∙ place-here bs w at (here .inside)
+    abbrev back : List Entry
+    back = entriesLeft bs (beyondOf c p)
 
-      pub stands : EntryHere bs at (x .key) (x .is) (entriesBytes w (x .back)) p
-      stands = rw same-place here
+    formed : SetForm (entry key is ∷ back)
+    formed = rw (h .is) at (x .left .formed)
 
-      same-intervals : intervalsAt (p .count) bs (p .first) ≡ x .is
-      same-intervals =
-          rw same-place (first-intervals bs w at (x .key) (x .is) (x .back) (v .rest) (v .formed) (v .keyed) (v .tags) (v .small))
+    module _ (u t : List ℕ) (made : k ≡ u ++ t) (long : length u ≡ 16) (told : KeyOrder)
+        (says : told ≡ orderRead (orElse (order (part bs (c .at) 16) u) (order (part bs (p .«tag_at») (p .«tag_len»)) t))) where
+      found : orderRead (order key k) ≡ told
+      found = sym (
+          says
+          ∙ ap orderRead (sym (order-append (part bs (c .at) 16) u (part bs (p .«tag_at») (p .«tag_len»)) t (h .uuid ∙ sym long)))
+          ∙ ap (λ (y : Key). orderRead (order key y)) (sym made)
+          )
 
-      next-bytes : drop (p .next) bs ≡ entriesBytes w (x .back)
-      next-bytes = rw same-place (first-next bs w at (x .key) (x .is) (x .back) (v .rest) (v .formed) (v .keyed) (v .tags) (v .small))
+      -- the entry is before the key
+      pub passed-next : told ≡ Before → Passed bs w n k (done + 1) (beyondOf c p)
+      passed-next before =
+          let lower : key ≺ k = says-before (order key k) (found ∙ before) in
+          record {
+            set = x .set;
+            front = x .front ++ (entry key is ∷ []);
+            count = omega (arith, x .count, length-append (x .front) (entry key is ∷ []));
+            all = x .all ∙ ap (λ (y : List Entry). x .front ++ y) (h .is) ∙ sym (append-snoc (x .front) (entry key is) back);
+            joins = λ a b.
+                x .joins a b
+                ∙ ap (λ (y : List Entry). x .front ++ y) (ap (join k a b) (h .is) ∙ join-after k key a b is back lower)
+                ∙ sym (append-snoc (x .front) (entry key is) (join k a b back));
+            member = λ m. x .member m ∙ ap (λ (y : List Entry). has y k m) (h .is) ∙ rw (after-not-same key k lower);
+            left = h .next;
+            alike = x .alike;
+          }
 
-      module _ (u t : List ℕ) (made : k ≡ u ++ t) (long : length u ≡ 16) (told : KeyOrder)
-          (is : told ≡ orderRead (orElse (order (part bs at 16) u) (order (part bs (p .«tag_at») (p .«tag_len»)) t))) where
-        found : orderRead (order (x .key) k) ≡ told
-        found = sym (
-            is
-            ∙ ap orderRead (sym (order-append (part bs at 16) u (part bs (p .«tag_at») (p .«tag_len»)) t
-            (part-length 16 bs at (omega (arith, stands .place, stands .first-is, stands .next-is, stands .inside)) ∙ sym long)))
-            ∙ rw (made, stands .uuid-there, stands .tag-there, ← key-whole (x .key))
-            )
+      -- the entry is the key's
+      pub found-here : told ≡ Same
+          → FoundIs bs w k (setOf bs) (record { index = done; at = c .at; here = true; count = p .count; first = p .first; next = p .next })
+      found-here same =
+          let mine : key ≡ k = order-eq key k (says-same (order key k) (found ∙ same)) in
+          let f : SetForm (entry k is ∷ back) = rw mine at formed in
+          let all : left ≡ entry k is ∷ back = h .is ∙ ap (λ (y : Key). entry y is ∷ back) mine in
+          record {
+            front = x .front;
+            back = back;
+            joins = λ a b. x .joins a b ∙ ap (λ (y : List Entry). x .front ++ y) (ap (join k a b) all ∙ join-into k a b is back);
+            member = λ m. x .member m ∙ ap (λ (y : List Entry). has y k m) all ∙ entry-has k is back m f;
+            gapped = h .gapped;
+            index = x .count;
+            entries = omega (arith, entries, ap length all);
+            total = λ f _. omega (arith, total f, ap (summed f) all, ap f (intervals-count (p .count) bs (p .first)));
+            front-bytes = front-bytes;
+            back-bytes = h .next .bytes ∙ ap (λ (v : Bool). entriesBytes v back) (x .alike);
+            place = omega (arith, front-length);
+            order = omega (arith, h .next-is, h .grows);
+            end = h .next-is;
+            inside = h .inside;
+            tags = (front-tags, λ f. h .next .tags (x .alike ∙ f));
+            keyed = (front-keyed, h .next .keyed);
+            plain = λ _ f. no-tag k is back (ap anyTag (sym all) ∙ x .left .tags (x .alike ∙ f));
+            length-front = front-length;
+          }
 
-        -- the entry is before the key
-        pub passed-next : told ≡ Before → Passed bs w k s (done + 1) (p .next)
-        unfolding entriesBytes
-        passed-next before =
-            let lower : x .key ≺ k = says-before (order (x .key) k) (found ∙ before) in
-            let e : Entry = entry (x .key) (x .is) in
-            let all : entriesBytes w (x .front ++ (e ∷ [])) ++ drop (p .next) bs ≡ entriesBytes w (x .front) ++ drop at bs =
-            rw (entriesBytes-append w (x .front) (e ∷ []), append-assoc (entriesBytes w (x .front)) (entriesBytes w (e ∷ [])) (drop (p .next) bs), v .rest, next-bytes)
-            (ap (λ (y : List ℕ). entriesBytes w (x .front) ++ y) (sym (entriesBytes-append w (e ∷ []) (x .back)))) in
-            let size : length (entriesBytes w (e ∷ [])) + length (entriesBytes w (x .back)) ≡ length bs - at =
-            sym (length-append (entriesBytes w (e ∷ [])) (entriesBytes w (x .back))) ∙ ap length (sym (entriesBytes-append w (e ∷ []) (x .back))) ∙ ap length (sym (v .rest)) ∙ length-drop at bs in
-            let left : length (entriesBytes w (x .back)) ≡ length bs - p .next = ap length (sym next-bytes) ∙ length-drop (p .next) bs in
-            let h = stands in
-            record {
-              front = x .front ++ (e ∷ []);
-              back = x .back;
-              stand = record {
-                entries = rw (length-append (x .front) (e ∷ [])) (omega (arith, v .entries));
-                total = λ f. rw (summed-append f (x .front) (e ∷ [])) (omega (arith, v .total f));
-                count = rw (length-append (x .front) (e ∷ [])) (omega (arith, v .count));
-                bytes = v .bytes ∙ sym all;
-                rest = next-bytes;
-                joins = λ a b. v .joins a b ∙ rw (join-after k (x .key) a b (x .is) (x .back) lower) (sym (append-snoc (x .front) e (join k a b (x .back))));
-                member = λ n. v .member n ∙ rw (after-not-same (x .key) k lower);
-                formed = v .formed .3;
-                keyed = v .keyed .1;
-                before-keyed = good-snoc (x .key) (x .is) (x .front) (v .before-keyed) (v .keyed .0);
-                before-tags = λ f. any-append (x .front) (e ∷ []) ∙ rw (v .before-tags f, untagged-parts (x .key) (x .is) (x .back) (v .tags f) .0);
-                tags = λ f. untagged-parts (x .key) (x .is) (x .back) (v .tags f) .1;
-                small = v .small;
-                place = rw (entriesBytes-append w (x .front) (e ∷ []), length-append (entriesBytes w (x .front)) (entriesBytes w (e ∷ []))) (omega (arith, v .place, size, left, h .inside, v .inside));
-                inside = h .inside;
-              };
-            }
-
-        -- the entry is the key's
-        pub found-here : told ≡ Same
-            → FoundIs bs w k s (record { index = done; at = at; here = true; count = p .count; first = p .first; next = p .next })
-        found-here same =
-            let mine : x .key ≡ k = order-eq (x .key) k (says-same (order (x .key) k) (found ∙ same)) in
-            let f : SetForm (entry k (x .is) ∷ x .back) = rw mine at (v .formed) in
-            let h = stands in
-            record {
-              front = x .front;
-              back = x .back;
-              joins = λ a b. v .joins a b ∙ rw (mine, join-into k a b (x .is) (x .back), same-intervals);
-              member = λ n. v .member n ∙ rw (mine, entry-has k (x .is) (x .back) n f, same-intervals);
-              gapped = rw same-intervals (v .formed .1);
-              index = sym (v .count);
-              entries = omega (arith, v .entries);
-              total = λ f _. rw (h .count) (omega (arith, v .total f));
-              front-bytes = v .bytes;
-              back-bytes = next-bytes;
-              place = omega (arith, v .place);
-              order = omega (arith, h .place, h .first-is);
-              end = h .next-is;
-              inside = h .inside;
-              keyed = (v .before-keyed, v .keyed .1);
-              tags = (v .before-tags, λ f. untagged-parts (x .key) (x .is) (x .back) (v .tags f) .1);
-              plain = λ _ f. rw mine at (first-ok bs w at (x .key) (x .is) (x .back) (v .rest) (v .formed) (v .keyed) (v .tags) (v .small) .plain f);
-              length-front = v .place;
-            }
-
-        -- the entry is after the key
-        pub found-absent : told ≡ After → FoundIs bs w k s (record { index = done; at = at; here = false; count = 0; first = at; next = at })
-        found-absent after =
-            let higher : k ≺ x .key = order-flip (x .key) k ∙ ap flip (says-after (order (x .key) k) (found ∙ after)) in
-            absent (x .front) (entry (x .key) (x .is) ∷ x .back) v
-            (λ a b. join-before k (x .key) a b (x .is) (x .back) higher)
-            (λ n. above-misses k (entry (x .key) (x .is) ∷ x .back) n higher (v .formed))
+      -- the entry is after the key
+      pub found-absent : told ≡ After → FoundIs bs w k (setOf bs) (absentAt done (c .at))
+      found-absent after =
+          let higher : k ≺ key = order-flip key k ∙ ap flip (says-after (order key k) (found ∙ after)) in
+          absent
+          (λ a b. ap (join k a b) (h .is) ∙ join-before k key a b is back higher ∙ ap (λ (y : List Entry). entry k (insert a b []) ∷ y) (sym (h .is)))
+          (λ m. ap (λ (y : List Entry). has y k m) (h .is) ∙ above-misses k (entry key is ∷ back) m higher formed)

@@ -29,6 +29,10 @@ abbrev pub added : Bool → ℕ
 added true = 0
 added false = 1
 
+-- it isn't there, and goes behind so many entries, which end at a place
+abbrev pub absentAt : ℕ → ℕ → Found
+absentAt index at = record { index = index; at = at; here = false; count = 0; first = at; next = at }
+
 -- the intervals that the key has there, none if it is not there
 abbrev pub old : List ℕ → Found → List Interval
 old bs r = intervalsAt (r .count) bs (r .first)

@@ -2,22 +2,39 @@
 use crate::Found;
 use packets::KeyOrder;
 use packets::parts_order;
-use set_check::walk::place_at;
+use set_check::Cursor;
+use set_check::walk::beyond;
+use set_check::walk::entry_here;
 ghost use mathlib.Core.Path.{_≡_};
 ghost use mathlib.Core.List.{_++_};
 ghost use lib.ListN.{length};
 ghost use Rattle.set_check.specs.SetOf.{setOf, IsSet};
-ghost use Rattle.resume_set.specs.Find.{FoundIs};
+ghost use Rattle.resume_set.specs.Find.{absentAt, FoundIs};
 
-pub(crate) fn find(set: &[u8], tagged: bool, count: usize, uuid: &[u8], tag: &[u8]) -> Found
-    requires { ⌜ IsSet (now set) tagged count ⌝ }
-    requires { ⌜ length (now uuid) ≡ 16 ⌝ }
-    ensures { λ r. ⌜ FoundIs (now (set .entry)) tagged (now (uuid .entry) ++ now (tag .entry)) (setOf (now (set .entry))) r ⌝ }
+// The key isn't there: it goes behind so many entries, which end at a place.
+fn absent(index: usize, at: usize) -> Found
+    ensures { λ r. ⌜ r ≡ absentAt index at ⌝ }
 {
-    let mut at: usize = 8;
+    Found {
+        index,
+        at,
+        here: false,
+        count: 0,
+        first: at,
+        next: at,
+    }
+}
+
+pub(crate) fn find(set: &[u8], from: Cursor, uuid: &[u8], tag: &[u8]) -> Found
+    requires { ⌜ IsSet (now set) (from .tagged) (from .left) × (from .at ≡ 8) ⌝ }
+    requires { ⌜ length (now uuid) ≡ 16 ⌝ }
+    ensures { λ r. ⌜ FoundIs (now (set .entry)) (from .tagged) (now (uuid .entry) ++ now (tag .entry)) (setOf (now (set .entry))) r ⌝ }
+{
+    let mut rest = from;
     let mut done: usize = 0;
-    while done < count {
-        let place = place_at(set, at, tagged);
+    while 0 < rest.left {
+        let at = rest.at;
+        let place = entry_here(set, rest);
         let tag_at = place.tag_at;
         let tag_end = tag_at + place.tag_len;
         let order = parts_order(&set[at..at + 16], &set[tag_at..tag_end], uuid, tag);
@@ -34,25 +51,11 @@ pub(crate) fn find(set: &[u8], tagged: bool, count: usize, uuid: &[u8], tag: &[u
                 };
             }
             KeyOrder::After => {
-                return Found {
-                    index: done,
-                    at,
-                    here: false,
-                    count: 0,
-                    first: at,
-                    next: at,
-                };
+                return absent(done, at);
             }
         }
-        at = place.next;
+        rest = beyond(rest, place);
         done += 1;
     }
-    Found {
-        index: done,
-        at,
-        here: false,
-        count: 0,
-        first: at,
-        next: at,
-    }
+    absent(done, rest.at)
 }

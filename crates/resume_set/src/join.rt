@@ -10,6 +10,8 @@ use misc::Wrote;
 use misc::bytes::write_bytes;
 use misc::refusal::NO_ROOM;
 use previous_gtids_event::rewrite::put_header;
+use set_check::Cursor;
+use set_check::HEADER;
 use set_check::limits::judge;
 use set_check::limits::over;
 ghost use mathlib.Core.Path.{_≡_};
@@ -52,7 +54,12 @@ pub(crate) fn plan_join(
     requires { ⌜ a < b ⌝ }
     ensures { λ r. ⌜ PlanIs (now (set .entry)) (now (uuid .entry)) (now (tag .entry)) a b r ⌝ }
 {
-    let found = find(set, tagged, count, uuid, tag);
+    let entries = Cursor {
+        tagged,
+        at: HEADER,
+        left: count,
+    };
+    let found = find(set, entries, uuid, tag);
     let splice = splice_at(set, found.first, found.count, a, b);
     let tags = tagged | (0 < tag.len());
     let widen = tags & !tagged;

@@ -12,6 +12,7 @@ use packets::is_gno;
 use packets::none_or_tag;
 use set_check::Checked;
 use set_check::check::check;
+use set_check::walk::entries_of;
 ghost use mathlib.Core.Path.{_≡_};
 ghost use mathlib.Core.List.{_++_};
 ghost use Prim.Native.Nat.{_≤_};
@@ -143,7 +144,7 @@ pub fn contains(set: &[u8], uuid: &[u8], tag: &[u8], gno: u64) -> Contained
             present: false,
         };
     }
-    let found = find(set, checked.tagged, checked.entries, uuid, tag);
+    let found = find(set, entries_of(checked), uuid, tag);
     let before = intervals::earlier_at(set, found.first, found.count, gno);
     Contained {
         refusal: 0,

@@ -1,5 +1,5 @@
 -- `resume_set::contains` meets its contract.
-use mathlib.Core.Path.{sym, _∙_}
+use mathlib.Core.Path.{refl, sym, _∙_}
 use native.Mathlib.Omega.{arith}
 use denote.Ref.{now}
 use borrow.Author.Tests.{not-true, not-false}
@@ -37,10 +37,14 @@ is-gno-requires c κs = search needs
 returns-3 : tie.Need-returns-3
 returns-3 c =
     let a = c .before .before .before .before .before .before .before .before .before .args in
-    no-id (now (a .set)) (now (a .uuid)) (now (a .tag)) (a .gno) (fits (c .before .before .before .before) .lent) (c .before .before .before .if2 .left) _ _ (c .before .before .none-or-tag .ensures) (c .before .is-gno .ensures) (not-true _ (c .if3 .taken))
+    no-id (now (a .set)) (now (a .uuid)) (now (a .tag)) (a .gno) (fits (c .before .before .before .before) .lent) (c .before .before .before .if2 .left) _ _
+    (c .before .before .none-or-tag .ensures) (c .before .is-gno .ensures) (not-true _ (c .if3 .taken))
+
+entries-of-requires : tie.Need-entries-of-requires
+entries-of-requires c κs = search needs
 
 find-requires : tie.Need-find-requires
-find-requires c κs = (fits (c .before .before .before .before) .set, c .before .before .before .if2 .left)
+find-requires c κs = rw (c .entries-of .ensures) ((fits (c .before .before .before .before .before) .set, refl), c .before .before .before .before .if2 .left)
 
 earlier-at-requires : tie.Need-earlier-at-requires
 earlier-at-requires c κs = let f = c .find .ensures in omega (arith, f .end, f .inside)
@@ -50,8 +54,12 @@ covers-at-requires c κs = let f = c .before .find .ensures in (omega (arith, f 
 
 returns-4 : tie.Need-returns-4
 returns-4 c =
-    let a = c .before .before .before .before .before .before .before .before .before .before .before .before .args in
-    is-asked (now (a .set)) (now (a .uuid)) (now (a .tag)) (a .gno) (fits (c .before .before .before .before .before .before .before) .lent) (c .before .before .before .before .before .before .if2 .left) _ _ (c .before .before .before .before .before .none-or-tag .ensures) (c .before .before .before .before .is-gno .ensures) (c .covers-at .result) (not-false _ (c .before .before .before .if3 .left)) (c .covers-at .ensures ∙ sym (c .before .before .find .ensures .member (a .gno)))
+    let a = c .before .before .before .before .before .before .before .before .before .before .before .before .before .args in
+    is-asked (now (a .set)) (now (a .uuid)) (now (a .tag)) (a .gno) (fits (c .before .before .before .before .before .before .before .before) .lent)
+    (c .before .before .before .before .before .before .before .if2 .left) _ _ (c .before .before .before .before .before .before .none-or-tag .ensures)
+    (c .before .before .before .before .before .is-gno .ensures)
+    (c .covers-at .result) (not-false _ (c .before .before .before .before .if3 .left))
+    (c .covers-at .ensures ∙ sym (c .before .before .find .ensures .member (a .gno)))
 
 pub contains-spec : {M : Type 1} → statement M
 contains-spec =
@@ -63,6 +71,7 @@ contains-spec =
     none-or-tag-requires
     is-gno-requires
     returns-3
+    entries-of-requires
     find-requires
     earlier-at-requires
     covers-at-requires
