@@ -1,40 +1,37 @@
 -- What functions inside promise of parts of a set.
-use Prim.Native.Nat.{ℕ, _+_, _*_, _≤_}
-use mathlib.Core.Path.{_≡_}
-use mathlib.Core.Bool.{Bool}
+use Prim.Native.Nat.{ℕ, _+_, _*_, _^_, _≤_}
 use mathlib.Core.List.{List, [], _∷_, _++_}
-use lib.ListN.{length, take}
+use lib.ListN.{length}
+use Rattle.misc.specs.Parse.{part}
+use Rattle.packets.specs.Gno.{Interval}
 use Rattle.previous_gtids_event.specs.Entry.{Entry, entry}
-use Rattle.previous_gtids_event.specs.Rewrite.{anyTag}
-use Rattle.previous_gtids_event.specs.declared.EntryRead.{EntryRead}
-use Rattle.gtid_sets.specs.Lent.{Lent, form, unfit, lentSet}
 use Rattle.set_check.specs.Places.{intervalsAt}
+use Rattle.set_check.specs.declared.EntryPlace.{EntryPlace}
 use Rattle.text.specs.Digits.{decimal}
+use Rattle.text.specs.Keys.{tagText}
 use Rattle.text.specs.Lines.{newline}
-use Rattle.listing.specs.SetText.{entriesWord, intervalsWord}
+use Rattle.listing.specs.SetText.{intervalsText, entriesWord, intervalsWord}
 
--- an entry of a set as it was read, with its intervals there
-pub record EntryOf (set : List ℕ) (e : EntryRead) : Type 0 where
-  pub small : length set ≤ 65536
-  pub uuid : length (e .uuid) ≡ 16
-  pub tag : length (e .tag) ≡ 32
+-- the parts of an entry lie inside the set, and its tag is no longer than tags are
+pub record EntryThere (set : List ℕ) (e : EntryPlace) : Type 0 where
+  pub small : length set ≤ 2 ^ 40
+  pub tag : e .«tag_at» + e .«tag_len» ≤ length set
   pub short : e .«tag_len» ≤ 32
-  pub inside : e .first + 16 * e .intervals ≤ length set
+  pub inside : e .first + 16 * e .count ≤ length set
 
--- the entry that it is
-abbrev pub entryIn : List ℕ → EntryRead → Entry
-entryIn set e = entry (e .uuid ++ take (e .«tag_len») (e .tag)) (intervalsAt (e .intervals) set (e .first))
+abbrev pub tagIn : List ℕ → EntryPlace → List ℕ
+tagIn set e = part set (e .«tag_at») (e .«tag_len»)
 
--- the entries of a lent set
-abbrev pub lentEntries : Lent → List Entry
-lentEntries unfit = []
-lentEntries (form s) = s
+abbrev pub intervalsIn : List ℕ → EntryPlace → List Interval
+intervalsIn set e = intervalsAt (e .count) set (e .first)
 
--- the bytes are a set, with tags or not and with so many entries
-pub record SetOf (set : List ℕ) (tagged : Bool) (count : ℕ) : Type 0 where
-  pub lent : lentSet set ≡ form (lentEntries (lentSet set))
-  pub tags : anyTag (lentEntries (lentSet set)) ≡ tagged
-  pub counted : length (lentEntries (lentSet set)) ≡ count
+-- the entry whose uuid stands at a place, and the others of its parts where they are found
+abbrev pub entryIn : List ℕ → ℕ → EntryPlace → Entry
+entryIn set at e = entry (part set at 16 ++ tagIn set e) (intervalsIn set e)
+
+-- how long its line is: 36 bytes for the uuid and one for the newline
+abbrev pub lineLength : List ℕ → EntryPlace → ℕ
+lineLength set e = 36 + length (tagText (tagIn set e)) + length (intervalsText (intervalsIn set e)) + 1
 
 -- the line of counts
 abbrev pub headText : List ℕ → ℕ → ℕ → List ℕ

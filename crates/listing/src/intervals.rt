@@ -3,16 +3,17 @@ use misc::le::number_at;
 use text::intervals::interval_len;
 use text::intervals::put_interval;
 ghost use mathlib.Core.Path.{_≡_};
-ghost use Prim.Native.Nat.{_+_, _*_, _≤_};
+ghost use Prim.Native.Nat.{_+_, _*_, _^_, _≤_};
 ghost use lib.ListN.{length};
 ghost use Rattle.misc.specs.Output.{WhereFits};
 ghost use Rattle.set_check.specs.Places.{intervalsAt};
 ghost use Rattle.listing.specs.SetText.{intervalsText};
 
-// How long the text of the intervals at a place is.
+// How long the text of the intervals at a place is. One takes 42 bytes at most, a colon, a dash and two numbers of 20 digits; in a set that
+// is not far longer than any set, so many bytes can be counted.
 pub(crate) fn intervals_len(set: &[u8], first: usize, count: usize) -> usize
     requires { ⌜ first + 16 * count ≤ length (now set) ⌝ }
-    requires { ⌜ length (now set) ≤ 65536 ⌝ }
+    requires { ⌜ length (now set) ≤ 2 ^ 40 ⌝ }
     ensures { λ r. ⌜ (r ≡ length (intervalsText (intervalsAt count (now (set .entry)) first))) × (r ≤ 42 * count) ⌝ }
 {
     let mut len: usize = 0;

@@ -8,5 +8,14 @@ pub mod event_text;
 mod intervals;
 pub mod set_text;
 
+// The longest line of counts: 14 bytes for its first word, 9 and 11 for the others, 3 and 4 for the counts, and 1 for the newline.
+const COUNTS_LINE: usize = 14 + 9 + 3 + 11 + 4 + 1;
+
+// The longest line of an entry without its intervals: the uuid, the tag after a colon, and the newline.
+const ENTRY_LINE: usize = 36 + 1 + 32 + 1;
+
+// The longest interval of a set: a colon, and two numbers of 19 digits with a dash between them.
+const INTERVAL: usize = 1 + 19 + 1 + 19;
+
 // The bytes of the longest text, as in specs/EventText.antt.
-pub const LONGEST_TEXT: usize = 42 + MAX_ENTRIES * 70 + MAX_INTERVALS * 40;
+pub const LONGEST_TEXT: usize = COUNTS_LINE + MAX_ENTRIES * ENTRY_LINE + MAX_INTERVALS * INTERVAL;

@@ -1,48 +1,47 @@
 -- `listing::set_text::entries_len` meets its contract.
+use mathlib.Core.Path.{ap}
 use native.Mathlib.Omega.{arith}
-use lib.ListN.{length}
 use borrow.Author.Needs.{needs}
-use Rattle.gtid_sets.specs.Lent.{lentSet}
-use Rattle.listing.specs.Inside.{lentEntries}
-use Rattle.listing.specs.SetText.{entriesText}
-use Rattle.listing.proofs.EntryTextLaws.{Counting, counting-none, counting-all, counting-turn, next-entry, next-size}
+use Rattle.set_check.specs.declared.Cursor.{Cursor}
+use Rattle.listing.proofs.EntryTextLaws.{Counting, counting-none, counting-all, counting-short, counting-turn, next-there}
 use Rattle.listing.proofs.set_text.entries_len.Statement.{statement}
 use Rattle.listing.proofs.set_text.entries_len.Tie as tie
 
 abbrev Inv-loop : tie.InvT-loop
-Inv-loop set tagged count len₀ at₀ left₀ len at left = Counting set tagged (length (entriesText (lentEntries (lentSet set)))) len at left
+Inv-loop set len₀ rest₀ len rest = Counting set rest₀ rest len
 
 abbrev μ-loop : tie.MeasureT-loop
-μ-loop set tagged count len₀ at₀ left₀ len at left = left
+μ-loop set len₀ rest₀ len rest = rest .left
 
 loop-holds : tie.Need-loop-holds Inv-loop μ-loop
-loop-holds c = counting-none _ _ _ (c .before .pre)
+loop-holds c = counting-none _ _ (c .before .pre)
 
-entry-at-requires : tie.Need-entry-at-requires Inv-loop μ-loop
-entry-at-requires c κs = search needs
+entry-here-requires : tie.Need-entry-here-requires Inv-loop μ-loop
+entry-here-requires c κs = search needs
 
 entry-len-requires : tie.Need-entry-len-requires Inv-loop μ-loop
-entry-len-requires c κs = next-entry _ _ _ _ (c .before .before .loop .inv .ahead) (omega arith) _ (c .entry-at .ensures)
+entry-len-requires c κs = next-there _ _ _ (c .before .before .before .loop .inv .is) (omega arith) (c .entry-here .ensures) .1
 
 add-len : tie.Need-add-len Inv-loop μ-loop
 add-len c =
-    let g = c .before .before .before .loop .inv in
-    let size = next-size _ _ _ _ (g .ahead) (omega arith) _ (c .before .entry-at .ensures) in
-    record { fits = omega (arith, g .most, g .ahead .small, c .entry-len .ensures .1) }
+    let g = c .before .before .before .before .loop .inv in
+    let short = counting-short _ _ _ _ g _ (omega arith) (c .before .entry-here .ensures) _ (c .entry-len .ensures .0) (c .entry-len .ensures .1) in
+    record { fits = omega (arith, short, g .is .small) }
 
-sub-left : tie.Need-sub-left Inv-loop μ-loop
-sub-left c = omega arith
+beyond-requires : tie.Need-beyond-requires Inv-loop μ-loop
+beyond-requires c κs = search needs
 
 loop-less : tie.Need-loop-less Inv-loop μ-loop
-loop-less c = omega arith
+loop-less c = omega (arith, ap (λ (x : Cursor). x .left) (c .beyond .ensures))
 
 loop-again : tie.Need-loop-again Inv-loop μ-loop
 loop-again c =
-    let l = c .before .before .before .loop in
-    counting-turn _ _ _ _ _ _ (l .inv) (omega arith) _ (c .before .entry-at .ensures) _ (c .entry-len .ensures .0) (c .entry-len .ensures .1)
+    let told = c .before .before .entry-here .ensures in
+    let size = c .before .entry-len .ensures in
+    counting-turn _ _ _ _ (c .before .before .before .before .before .loop .inv) _ (omega arith) told _ (size .0) (size .1) _ (c .beyond .ensures)
 
 returns : tie.Need-returns Inv-loop μ-loop
-returns c = counting-all _ _ _ _ _ _ (c .before .loop .inv) (omega arith)
+returns c = counting-all _ _ _ _ (c .before .before .loop .inv) (omega arith)
 
 pub entries-len-spec : {M : Type 1} → statement M
 entries-len-spec =
@@ -51,10 +50,10 @@ entries-len-spec =
     Inv-loop
     μ-loop
     loop-holds
-    entry-at-requires
+    entry-here-requires
     entry-len-requires
     add-len
-    sub-left
+    beyond-requires
     loop-less
     loop-again
     returns)

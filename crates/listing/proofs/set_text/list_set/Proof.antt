@@ -2,8 +2,7 @@
 use native.Mathlib.Omega.{arith}
 use denote.Ref.{now}
 use borrow.Author.Needs.{needs}
-use Rattle.listing.proofs.SetTextLaws.{list-refused, checked-set, list-short, list-fits}
-use Rattle.listing.proofs.EntryTextLaws.{set-ahead}
+use Rattle.listing.proofs.SetTextLaws.{list-refused, all-ahead, list-short, list-fits}
 use Rattle.listing.proofs.set_text.list_set.Statement.{statement}
 use Rattle.listing.proofs.set_text.list_set.Tie as tie
 
@@ -31,27 +30,32 @@ decimal-len-requires-2 c κs = search needs
 add-head-3 : tie.Need-add-head-3
 add-head-3 c = search needs
 
+entries-of-requires : tie.Need-entries-of-requires
+entries-of-requires c κs = search needs
+
 entries-len-requires : tie.Need-entries-len-requires
 entries-len-requires c κs =
-    let a = c .before .before .before .before .before .before .before .args in
-    let said = c .before .before .before .check in
-    checked-set (now (a .word)) (now (a .set)) (now (a .out)) (said .result) (said .ensures) (omega arith)
+    let a = c .before .before .before .before .before .before .before .before .args in
+    let said = c .before .before .before .before .check in
+    all-ahead (now (a .word)) (now (a .set)) (now (a .out)) (said .result) (said .ensures) (omega arith) _ (c .entries-of .ensures) .0
 
 add-len : tie.Need-add-len
 add-len c =
-    let a = c .before .before .before .before .before .before .before .before .args in
-    let said = c .before .before .before .before .check in
-    let is = checked-set (now (a .word)) (now (a .set)) (now (a .out)) (said .result) (said .ensures) (omega arith) in
-    record { fits = omega (arith, set-ahead (now (a .set)) (said .result .tagged) (said .result .entries) is .0 .small, c .entries-len .ensures .1) }
+    let a = c .before .before .before .before .before .before .before .before .before .args in
+    let said = c .before .before .before .before .before .check in
+    let (is, same) =
+    all-ahead (now (a .word)) (now (a .set)) (now (a .out)) (said .result) (said .ensures) (omega arith) _ (c .before .entries-of .ensures) in
+    record { fits = omega (arith, is .small, c .entries-len .ensures .1) }
 
 returns-2 : tie.Need-returns-2
 returns-2 c =
     let lines = c .before in
-    let total = lines .before in
+    let begins = lines .before in
+    let total = begins .before in
     let entries = total .before in
     let said = entries .before .before .check in
     let a = entries .before .before .before .before .before .before .args in
-    list-short (now (a .word)) (now (a .set)) (now (a .out)) (said .result) (said .ensures) (omega arith) _ _ _
+    list-short (now (a .word)) (now (a .set)) (now (a .out)) (said .result) (said .ensures) (omega arith) _ (begins .entries-of .ensures) _ _ _
     (entries .decimal-len .ensures .0) (total .decimal-len2 .ensures .0) (lines .entries-len .ensures .0) (omega arith)
 
 put-head-requires : tie.Need-put-head-requires
@@ -59,9 +63,10 @@ put-head-requires c κs = search needs
 
 put-entries-requires : tie.Need-put-entries-requires
 put-entries-requires c κs =
-    let a = c .before .before .before .before .before .before .before .before .before .before .before .before .before .before .args in
-    let said = c .before .before .before .before .before .before .before .before .before .before .check in
-    checked-set (now (a .word)) (now (a .set)) (now (a .out)) (said .result) (said .ensures) (omega arith)
+    let begins = c .before .before .before .before .before .before .before in
+    let said = begins .before .before .before .before .check in
+    let a = begins .before .before .before .before .before .before .before .before .args in
+    all-ahead (now (a .word)) (now (a .set)) (now (a .out)) (said .result) (said .ensures) (omega arith) _ (begins .entries-of .ensures) .0
 
 same-length : tie.Need-same-length
 same-length c = search needs
@@ -71,11 +76,12 @@ returns-3 c =
     let rest = c .before .before in
     let head = rest .before .before .before .before in
     let lines = head .before .before .before in
-    let total = lines .before in
+    let begins = lines .before in
+    let total = begins .before in
     let entries = total .before in
     let said = entries .before .before .check in
     let a = entries .before .before .before .before .before .before .args in
-    list-fits (now (a .word)) (now (a .set)) (now (a .out)) (said .result) (said .ensures) (omega arith) _ _ _
+    list-fits (now (a .word)) (now (a .set)) (now (a .out)) (said .result) (said .ensures) (omega arith) _ (begins .entries-of .ensures) _ _ _
     (entries .decimal-len .ensures .0) (total .decimal-len2 .ensures .0) (lines .entries-len .ensures .0) (omega arith)
     (head .put-head .ensures) (rest .put-entries .ensures)
 
@@ -90,6 +96,7 @@ list-set-spec =
     add-head-2
     decimal-len-requires-2
     add-head-3
+    entries-of-requires
     entries-len-requires
     add-len
     returns-2
