@@ -1,7 +1,7 @@
 -- Laws of a rewrite: what its first pass gathers, the run of entries that its second pass writes, and the answer.
 use mathlib.Core.Path.{_≡_, refl, sym, ap, subst, _∙_}
 use mathlib.Core.Bool.{Bool, true, false, _||_, or-assoc, or-false}
-use mathlib.Core.List.{List, [], _++_, append-assoc}
+use mathlib.Core.List.{List, [], _++_}
 use Prim.Native.Nat.{ℕ, suc, _+_, _-_, _*_, _≤_, _<_}
 use native.Mathlib.Nat.{zero-add, add-zero, add-assoc}
 use native.Mathlib.Omega.{arith}
@@ -20,7 +20,7 @@ use Rattle.packets.specs.Gno.{Interval}
 use Rattle.packets.specs.Key.{Key}
 use Rattle.previous_gtids_event.specs.Entry.{Entry, entry, uuidOf, tagOf}
 use Rattle.previous_gtids_event.specs.Previous.{entryAt}
-use Rattle.previous_gtids_event.specs.Rewrite.{tagBytes, entryBytes, entriesBytes, anyTag, headerBytes, bodyBytes, rewritten}
+use Rattle.previous_gtids_event.specs.Rewrite.{tagBytes, headRun, entryBytes, entriesBytes, anyTag, headerBytes, bodyBytes, rewritten}
 use Rattle.previous_gtids_event.specs.Inside.{sizesOf, refusedSizes, entryBytesOf, entriesBytesOf}
 use Rattle.previous_gtids_event.specs.declared.EntryPlace.{EntryPlace}
 use Rattle.previous_gtids_event.specs.declared.Sizes.{Sizes}
@@ -104,25 +104,30 @@ tag-wanted tags t e = rw e
 pub tag-unwanted : (tags : Bool) (t : List ℕ) → tags ≡ false → [] ≡ tagBytes tags t
 tag-unwanted tags t e = rw e
 
--- three parts of the body make an entry
+-- what is left of a room behind a tag
+pub behind-tag : (tags : Bool) (t : List ℕ) (room : ℕ) → tags ≡ true → room - length (varlenBytes (length t)) - length t ≡ room - length (tagBytes tags t)
+behind-tag tags t room e = rw (e, length-append (varlenBytes (length t)) t) (omega arith)
+
+pub behind-none : (tags : Bool) (t : List ℕ) (room : ℕ) → tags ≡ false → room ≡ room - length (tagBytes tags t)
+behind-none tags t room e = rw e (omega arith)
+
+-- a head and the intervals behind it make an entry
 module _ (tagged : Bool) (s : List ℕ) (from : ℕ) (r : EntryPlace) (told : PlaceTold tagged s from r) (tags : Bool) (are-bytes : Bytes s) where
-  pub entry-put : {l l₁ l₂ l₃ : List ℕ} {at at₁ at₂ at₃ : ℕ}
-      → WhereFits l at (part s from (from + 16 - from)) l₁ at₁
-      → WhereFits l₁ at₁ (tagBytes tags (part s (r .first - 8 - r .«tag_len») (r .first - 8 - (r .first - 8 - r .«tag_len»)))) l₂ at₂
-      → WhereFits l₂ at₂ (part s (r .first - 8) (r .next - (r .first - 8))) l₃ at₃
-      → (r .next ≡ usedOf (entryAt tagged s from)) × WhereFits l at (entryBytesOf tags (entryAt tagged s from)) l₃ at₃
-  entry-put {l} {l₁} {l₂} {l₃} {at} {at₁} {at₂} {at₃} p q w =
-      let uuid : 16 ≡ from + 16 - from = omega arith in
-      let tag : r .«tag_len» ≡ r .first - 8 - (r .first - 8 - r .«tag_len») = omega (arith, place-order told) in
-      let rest = part s (r .first - 8) (r .next - (r .first - 8)) in
-      let all : entryBytesOf tags (entryAt tagged s from)
-      ≡ part s from (from + 16 - from) ++ tagBytes tags (part s (r .first - 8 - r .«tag_len») (r .first - 8 - (r .first - 8 - r .«tag_len»))) ++ rest =
-      ap (entryBytesOf tags) (told .is)
-      ∙ entry-bytes tagged s from r told tags are-bytes
-      ∙ ap (λ (n : ℕ). part s from n ++ (tagBytes tags (part s (r .first - 8 - r .«tag_len») (r .«tag_len»)) ++ rest)) uuid
-      ∙ ap (λ (n : ℕ). part s from (from + 16 - from) ++ (tagBytes tags (part s (r .first - 8 - r .«tag_len») n) ++ rest)) tag
-      ∙ sym (append-assoc (part s from (from + 16 - from)) _ rest) in
-      (sym (ap usedOf (told .is)), subst (λ (bs : List ℕ). WhereFits l at bs l₃ at₃) (sym all) (p also q also w))
+  pub entry-put : {l l₁ l₂ : List ℕ} {at at₁ at₂ : ℕ}
+      → WhereFits l at
+      (headRun (part s from (from + 16 - from)) tags (part s (r .first - 8 - r .«tag_len») (r .first - 8 - (r .first - 8 - r .«tag_len»))) (r .intervals))
+      l₁ at₁
+      → WhereFits l₁ at₁ (part s (r .first) (r .next - r .first)) l₂ at₂
+      → (r .next ≡ usedOf (entryAt tagged s from)) × WhereFits l at (entryBytesOf tags (entryAt tagged s from)) l₂ at₂
+  entry-put {l} {l₁} {l₂} {at} {at₁} {at₂} p q =
+      let t = r .first - 8 - r .«tag_len» in
+      let head : ℕ → ℕ → List ℕ = λ u n. headRun (part s from u) tags (part s t n) (r .intervals) in
+      let uuid : from + 16 - from ≡ 16 = omega arith in
+      let tag : r .first - 8 - t ≡ r .«tag_len» = omega (arith, place-order told) in
+      let named : WhereFits l at (head 16 (r .first - 8 - t)) l₁ at₁ = subst (λ (n : ℕ). WhereFits l at (head n (r .first - 8 - t)) l₁ at₁) uuid p in
+      let counted : WhereFits l at (head 16 (r .«tag_len»)) l₁ at₁ = subst (λ (n : ℕ). WhereFits l at (head 16 n) l₁ at₁) tag named in
+      let all = ap (entryBytesOf tags) (told .is) ∙ entry-bytes tagged s from r told tags are-bytes in
+      (sym (ap usedOf (told .is)), subst (λ (bs : List ℕ). WhereFits l at bs l₂ at₂) (sym all) (counted also q))
 
 -- whoever writes the entries that are left writes all of them
 pub record PutSoFar (item : ℕ → Parse Entry) (tags : Bool) (out₀ : List ℕ) (at : ℕ) (wanted : List ℕ) (left next : ℕ) (out : List ℕ) (put : ℕ) : Type 0 where

@@ -20,6 +20,10 @@ abbrev pub tagBytes : Bool → List ℕ → List ℕ
 tagBytes false tag = []
 tagBytes true tag = varlenBytes (length tag) ++ tag
 
+-- an entry's head: uuid, tag and how many intervals follow
+abbrev pub headRun : List ℕ → Bool → List ℕ → ℕ → List ℕ
+headRun uuid tags tag n = uuid ++ tagBytes tags tag ++ leBytes 8 n
+
 unfoldable pub entryBytes : Bool → Entry → List ℕ
 entryBytes tagged (entry k is) = uuidOf k ++ (tagBytes tagged (tagOf k) ++ (leBytes 8 (length is) ++ intervalsBytes is))
 

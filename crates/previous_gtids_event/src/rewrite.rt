@@ -6,20 +6,21 @@ use crate::TOP_ONE;
 use crate::read::header_of;
 use crate::read::place_at;
 use misc::Wrote;
+use misc::bytes::left_at;
 use misc::put::put_bytes;
 use misc::put::put_sized;
 use misc::put::put_u64_le;
 use misc::refusal::NO_ROOM;
 use misc::varlen::varlen_uint_size;
 ghost use mathlib.Core.Path.{_≡_};
-ghost use Prim.Native.Nat.{_+_, _≤_};
+ghost use Prim.Native.Nat.{_+_, _-_, _≤_};
 ghost use lib.ListN.{length};
 ghost use Rattle.misc.specs.Pick.{pick};
 ghost use Rattle.misc.specs.Parse.{many, refusalOf};
 ghost use Rattle.misc.specs.Body.{usedOf};
 ghost use Rattle.misc.specs.Output.{outputOf, answerOf, putAt, putEnd, WhereFits};
 ghost use Rattle.previous_gtids_event.specs.Previous.{entryAt, previous};
-ghost use Rattle.previous_gtids_event.specs.Rewrite.{tagBytes, headerBytes, rewritten};
+ghost use Rattle.previous_gtids_event.specs.Rewrite.{tagBytes, headRun, headerBytes, rewritten};
 ghost use Rattle.previous_gtids_event.specs.Inside.{sizesOf, refusedSizes, entryBytesOf, entriesBytesOf};
 
 fn refused_sizes(refusal: u8) -> Sizes
@@ -81,38 +82,78 @@ pub fn put_tag(tag: &[u8], tags: bool, out: &mut [u8], at: usize) -> usize
     at
 }
 
-// The entry at a place of the body, which has been read before: its uuid, its tag, and then the count and the intervals as
-// they stand there.
+// What is left of a room behind so many bytes, nothing if it is too small for them.
+fn left_of(room: usize, len: usize) -> usize
+    ensures { λ r. ⌜ r ≡ room - len ⌝ }
+{
+    if room < len {
+        return 0;
+    }
+    room - len
+}
+
+// What is left of a room behind a tag.
+fn left_behind_tag(tag: &[u8], tags: bool, room: usize) -> usize
+    ensures { λ r. ⌜ r ≡ room - length (tagBytes tags (now (tag .entry))) ⌝ }
+{
+    if tags {
+        let len = tag.len();
+        return left_of(left_of(room, varlen_uint_size(len as u64)), len);
+    }
+    room
+}
+
+// The head of an entry: its uuid, its tag, and how many intervals follow.
+pub fn put_head(uuid: &[u8], tag: &[u8], tags: bool, count: u64, out: &mut [u8], at: usize) -> usize
+    ensures { λ r. ⌜ r ≡ putEnd (now (out .entry)) at (headRun (now (uuid .entry)) tags (now (tag .entry)) count) ⌝ }
+    ensures { λ _. ⌜ now (out .exit) ≡ putAt (now (out .entry)) at (headRun (now (uuid .entry)) tags (now (tag .entry)) count) ⌝ }
+{
+    let room = left_of(left_at(out, at), uuid.len());
+    if left_behind_tag(tag, tags, room) < 8 {
+        return at;
+    }
+    let after_uuid = put_bytes(uuid, out, at);
+    let after_tag = put_tag(tag, tags, out, after_uuid);
+    put_u64_le(count, out, after_tag)
+}
+
+// The entry at a place of the body, which has been read before: its head, and then the intervals as they stand there.
 fn put_entry(body: &[u8], from: usize, tagged: bool, tags: bool, out: &mut [u8], at: usize) -> Put
     requires { ⌜ refusalOf (entryAt tagged (now body) from) ≡ 0 ⌝ }
     ensures { λ r. ⌜ r .next ≡ usedOf (entryAt tagged (now (body .entry)) from) ⌝ }
     ensures { λ r. ⌜ WhereFits (now (out .entry)) at (entryBytesOf tags (entryAt tagged (now (body .entry)) from)) (now (out .exit)) (r .at) ⌝ }
 {
     let place = place_at(body, from, tagged);
+    let first = place.first;
     let next = place.next;
-    let counted = place.first - 8;
-    let tag = counted - place.tag_len;
-    let named = from + 16;
-    let after_uuid = put_bytes(&body[from..named], out, at);
-    let after_tag = put_tag(&body[tag..counted], tags, out, after_uuid);
-    let put = put_bytes(&body[counted..next], out, after_tag);
+    let tag_end = first - 8;
+    let tag = tag_end - place.tag_len;
+    let uuid_end = from + 16;
+    let head = put_head(
+        &body[from..uuid_end],
+        &body[tag..tag_end],
+        tags,
+        place.intervals,
+        out,
+        at,
+    );
+    let put = put_bytes(&body[first..next], out, head);
     Put { next, at: put }
 }
 
-// The second pass: entries one after another, which have been read before.
+// The second pass: the entries behind the header, which have been read before.
 fn put_entries(
     body: &[u8],
-    from: usize,
     tagged: bool,
     count: u64,
     tags: bool,
     out: &mut [u8],
     at: usize,
 ) -> usize
-    requires { ⌜ refusalOf (many (entryAt tagged (now body)) count from) ≡ 0 ⌝ }
-    ensures { λ r. ⌜ WhereFits (now (out .entry)) at (entriesBytesOf tags (many (entryAt tagged (now (body .entry))) count from)) (now (out .exit)) r ⌝ }
+    requires { ⌜ refusalOf (many (entryAt tagged (now body)) count 8) ≡ 0 ⌝ }
+    ensures { λ r. ⌜ WhereFits (now (out .entry)) at (entriesBytesOf tags (many (entryAt tagged (now (body .entry))) count 8)) (now (out .exit)) r ⌝ }
 {
-    let mut next = from;
+    let mut next = 8;
     let mut put = at;
     let mut done: u64 = 0;
     while done < count {
@@ -165,7 +206,7 @@ fn rewrite_entries(body: &[u8], tagged: bool, count: u64, out: &mut [u8]) -> Wro
         };
     }
     let first = put_header(sizes.entries, tags, out, 0);
-    let end = put_entries(body, 8, tagged, count, tags, out, first);
+    let end = put_entries(body, tagged, count, tags, out, first);
     Wrote {
         refusal: 0,
         len: end,

@@ -13,17 +13,20 @@ use Rattle.previous_gtids_event.proofs.rewrite.put_entries.Statement.{s
 use Rattle.previous_gtids_event.proofs.rewrite.put_entries.Tie as tie
 
 abbrev Inv-loop : tie.InvT-loop
-Inv-loop body from tagged count tags out₀ at next₀ put₀ done₀ out next put done = (done ≤ count) × (length out ≡ length out₀) × PutSoFar (entryAt tagged body) tags out₀ at (entriesBytesOf tags (many (entryAt tagged body) count from)) (count - done) next out put
+Inv-loop body tagged count tags out₀ at next₀ put₀ done₀ out next put done =
+    (done ≤ count)
+    × (length out ≡ length out₀)
+    × PutSoFar (entryAt tagged body) tags out₀ at (entriesBytesOf tags (many (entryAt tagged body) count 8)) (count - done) next out put
 
 abbrev μ-loop : tie.MeasureT-loop
-μ-loop body from tagged count tags out₀ at next₀ put₀ done₀ out next put done = count - done
+μ-loop body tagged count tags out₀ at next₀ put₀ done₀ out next put done = count - done
 
 -- the invariant in a turn: one entry at least is left
 so-far : (c : tie.In-loop Inv-loop μ-loop)
     → let a = c .before .before .before .before .args in
     let l = c .before .loop in
     PutSoFar (entryAt (a .tagged) (now (a .body))) (a .tags) (now (a .out)) (a .at)
-    (entriesBytesOf (a .tags) (many (entryAt (a .tagged) (now (a .body))) (a .count) (a .from))) (suc (a .count - (l .done + 1))) (l .next) (l .out) (l .put)
+    (entriesBytesOf (a .tags) (many (entryAt (a .tagged) (now (a .body))) (a .count) 8)) (suc (a .count - (l .done + 1))) (l .next) (l .out) (l .put)
 so-far c =
     let a = c .before .before .before .before .args in
     let l = c .before .loop in
@@ -49,7 +52,8 @@ loop-again : tie.Need-loop-again Inv-loop μ-loop
 loop-again c =
     let l = c .before .before .before .before .before .loop in
     let e = c .before .before .put-entry in
-    (omega arith, e .kept .1 .1 .1 .1 .0 ∙ l .inv .1, put-next _ _ _ _ _ _ _ _ _ (so-far (c .before .before .before .before)) _ _ _ (e .ensures .0) (e .ensures .1))
+    let next = put-next _ _ _ _ _ _ _ _ _ (so-far (c .before .before .before .before)) _ _ _ (e .ensures .0) (e .ensures .1) in
+    (omega arith, e .kept .1 .1 .1 .1 .0 ∙ l .inv .1, next)
 
 same-length : tie.Need-same-length Inv-loop μ-loop
 same-length c = c .before .loop .inv .1

@@ -22,79 +22,79 @@ told c =
 place-at-requires : tie.Need-place-at-requires
 place-at-requires c κs = search needs
 
-sub-counted : tie.Need-sub-counted
-sub-counted c = omega (arith, place-order (told (c .before)))
+sub-tag-end : tie.Need-sub-tag-end
+sub-tag-end c = omega (arith, place-order (told c))
 
 sub-tag : tie.Need-sub-tag
-sub-tag c = omega (arith, place-order (told (c .before .before)))
+sub-tag c = omega (arith, place-order (told (c .before)))
 
-add-named : tie.Need-add-named
-add-named c = omega (arith, place-order (told (c .before .before)))
+add-uuid-end : tie.Need-add-uuid-end
+add-uuid-end c = omega (arith, place-order (told (c .before)))
+
+sub-put-head : tie.Need-sub-put-head
+sub-put-head c = search needs
+
+part-put-head-start : tie.Need-part-put-head-start
+part-put-head-start c = search needs
+
+part-put-head-end : tie.Need-part-put-head-end
+part-put-head-end c = omega (arith, place-order (told (c .before)))
+
+sub-put-head-2 : tie.Need-sub-put-head-2
+sub-put-head-2 c = search needs
+
+part-put-head-start-2 : tie.Need-part-put-head-start-2
+part-put-head-start-2 c = search needs
+
+part-put-head-end-2 : tie.Need-part-put-head-end-2
+part-put-head-end-2 c = omega (arith, place-order (told (c .before .before)))
+
+put-head-requires : tie.Need-put-head-requires
+put-head-requires c κs = search needs
 
 sub-put-bytes : tie.Need-sub-put-bytes
-sub-put-bytes c = search needs
+sub-put-bytes c = omega (arith, place-order (told (c .before .before .before .before .before .before .before)))
 
 part-put-bytes-start : tie.Need-part-put-bytes-start
-part-put-bytes-start c = search needs
+part-put-bytes-start c = omega (arith, place-order (told (c .before .before .before .before .before .before .before)))
 
 part-put-bytes-end : tie.Need-part-put-bytes-end
-part-put-bytes-end c = omega (arith, place-order (told (c .before .before)))
+part-put-bytes-end c = omega (arith, place-order (told (c .before .before .before .before .before .before .before)))
 
 put-bytes-requires : tie.Need-put-bytes-requires
 put-bytes-requires c κs = search needs
-
-sub-put-tag : tie.Need-sub-put-tag
-sub-put-tag c = search needs
-
-part-put-tag-start : tie.Need-part-put-tag-start
-part-put-tag-start c = search needs
-
-part-put-tag-end : tie.Need-part-put-tag-end
-part-put-tag-end c = omega (arith, place-order (told (c .before .before .before .before .before .before .before)))
-
-put-tag-requires : tie.Need-put-tag-requires
-put-tag-requires c κs = search needs
-
-sub-put-bytes-2 : tie.Need-sub-put-bytes-2
-sub-put-bytes-2 c = omega (arith, place-order (told (c .before .before .before .before .before .before .before .before .before .before .before .before)))
-
-part-put-bytes-start-2 : tie.Need-part-put-bytes-start-2
-part-put-bytes-start-2 c = omega (arith, place-order (told (c .before .before .before .before .before .before .before .before .before .before .before .before)))
-
-part-put-bytes-end-2 : tie.Need-part-put-bytes-end-2
-part-put-bytes-end-2 c = omega (arith, place-order (told (c .before .before .before .before .before .before .before .before .before .before .before .before)))
-
-put-bytes-requires-2 : tie.Need-put-bytes-requires-2
-put-bytes-requires-2 c κs = search needs
 
 same-length : tie.Need-same-length
 same-length c = search needs
 
 returns : tie.Need-returns
 returns c =
-    let a = c .before .before .before .before .before .before .before .before .before .before .before .before .before .before .before .before .before .before .before .before .args in
-    entry-put (a .tagged) (now (a .body)) (a .from) _ (told (c .before .before .before .before .before .before .before .before .before .before .before .before .before .before .before .before .before)) (a .tags) (λ i. c .before .before .before .before .before .before .before .before .before .before .before .before .before .before .before .before .before .before .before .shared-slice-known .given i .fits)
-    (put-placed (c .before .before .before .before .before .before .before .before .before .before .before .before .put-bytes .ensures)) (put-placed (c .before .before .before .before .before .before .before .put-tag .ensures)) (put-placed (c .before .before .put-bytes2 .ensures))
+    let intervals = c .before .before in
+    let head = intervals .before .before .before .before .before in
+    let place = head .before .before .before .before .before in
+    let known = place .before .before in
+    let a = known .before .args in
+    entry-put (a .tagged) (now (a .body)) (a .from) _ (told place) (a .tags) (λ i. known .shared-slice-known .given i .fits)
+    (put-placed (head .put-head .ensures)) (put-placed (intervals .put-bytes .ensures))
 
 pub put-entry-spec : {M : Type 1} → statement M
 put-entry-spec =
     tie.close
     (tie.spec
     place-at-requires
-    sub-counted
+    sub-tag-end
     sub-tag
-    add-named
+    add-uuid-end
+    sub-put-head
+    part-put-head-start
+    part-put-head-end
+    sub-put-head-2
+    part-put-head-start-2
+    part-put-head-end-2
+    put-head-requires
     sub-put-bytes
     part-put-bytes-start
     part-put-bytes-end
     put-bytes-requires
-    sub-put-tag
-    part-put-tag-start
-    part-put-tag-end
-    put-tag-requires
-    sub-put-bytes-2
-    part-put-bytes-start-2
-    part-put-bytes-end-2
-    put-bytes-requires-2
     same-length
     returns)
