@@ -4,7 +4,7 @@ use mathlib.Core.Bool.{Bool, true, false}
 use mathlib.Core.List.{List, [], _∷_, _++_, append-assoc}
 use Prim.Native.Nat.{ℕ, zero, suc, _+_, _≤_}
 use native.Mathlib.Omega.{arith}
-use lib.ListN.{length, take, drop, getD, length-drop}
+use lib.ListN.{length, take, drop, getD, drop-of-length-le}
 use lib.Seq.{split-at, length-take-le}
 use Rattle.misc.specs.Refusal.{badTag}
 use Rattle.misc.specs.Parse.{Bytes, parsed, many, part, bytesAt}
@@ -21,6 +21,7 @@ use Rattle.previous_gtids_event.specs.Entry.{Entry, entry}
 use Rattle.packets.specs.Tag.{noneOrTag}
 use Rattle.previous_gtids_event.specs.Previous.{tagAt, keyAt, Head, head, headAt, intervalAt, intervalsAfter, entryAt, saysTagged, saysCount}
 use Rattle.previous_gtids_event.specs.Layout.{HeaderLaid, TagLaid, IntervalsLaid, EntryLaid, EntriesLaid}
+use Rattle.previous_gtids_event.proofs.Reading.{intervals-parsed}
 use Rattle.previous_gtids_event.proofs.Laying.{header-meant}
 
 -- ---- the header: any eight bytes are one
@@ -32,13 +33,9 @@ by-top bottom count (suc k) six = (true, leOf count, HeaderLaid.tagged bottom (s
 some-header : (bs : List ℕ) → length bs ≡ 8 → (t : Bool) × (n : ℕ) × HeaderLaid t n bs
 some-header [] e = absurd (omega arith)
 some-header (b ∷ bs) e =
-    let none : drop 7 bs ≡ [] = nothing (drop 7 bs) (rw length-drop (omega arith)) in
+    let none : drop 7 bs ≡ [] = drop-of-length-le bs {i = 7} (omega arith) in
     let whole : bs ≡ take 6 bs ++ (getD bs 6 0 ∷ []) = split-at bs 6 0 (omega arith) ∙ ap (λ (l : List ℕ). take 6 bs ++ (getD bs 6 0 ∷ l)) none in
     rw whole (by-top b (take 6 bs) (getD bs 6 0) (length-take-le 6 bs (omega arith)))
-  where
-    nothing : (l : List ℕ) → length l ≡ 0 → l ≡ []
-    nothing [] h = refl
-    nothing (x ∷ l) h = absurd (omega arith)
 
 pub header-spelt : (h : ℕ) (bs : List ℕ) → length bs ≡ 8 → leOf bs ≡ h → Bytes bs → HeaderLaid (saysTagged h) (saysCount h) bs
 header-spelt h bs eight spelt are =
@@ -63,13 +60,13 @@ module _ (s : List ℕ) (are : Bytes s) where
       let (end, r, same) = mapped-parsed (interval start) (leAt 8 s m) i next q in
       (start, end, m, p, r, same)
 
-  pub intervals-found : (n at : ℕ) (is : List Interval) (next : ℕ) → at ≤ length s → many (intervalAt s) n at ≡ parsed is next
-      → (length is ≡ n) × Found (IntervalsLaid is) s at next
+  intervals-found : (n at : ℕ) (is : List Interval) (next : ℕ) → at ≤ length s → many (intervalAt s) n at ≡ parsed is next
+      → Found (IntervalsLaid is) s at next
   unfolding many
   intervals-found zero at is next h e =
       let none : [] ≡ is = cc in
       let same : at ≡ next = cc in
-      rw (← none, ← same) (refl, record { bytes = []; holds = IntervalsLaid.none; is = refl; inside = h })
+      rw (← none, ← same) (record { bytes = []; holds = IntervalsLaid.none; is = refl; inside = h })
   intervals-found (suc n) at is next h e =
       let (i, m, p, q) = then-parsed (intervalAt s at) _ is next e in
       let (rest, last, r, t) = then-parsed (many (intervalAt s) n m) _ is next q in
@@ -79,17 +76,13 @@ module _ (s : List ℕ) (are : Bytes s) where
       go start end k m rest last first second (intervals-found n m rest last (second .inside) r) (cc) (cc)
     where
       go : (start end k m : ℕ) (rest : List Interval) (last : ℕ) → Found (Number 8 start) s at k → Found (Number 8 end) s k m
-          → (length rest ≡ n) × Found (IntervalsLaid rest) s m last → interval start end ∷ rest ≡ is → last ≡ next
-          → (length is ≡ suc n) × Found (IntervalsLaid is) s at next
-      go start end k m rest last first second (size, others) list place = rw (← list, ← place) (
-        ap suc size,
-        record {
-          bytes = first .bytes ++ (second .bytes ++ others .bytes);
-          holds = IntervalsLaid.more (first .holds) (second .holds) (others .holds);
-          is = first .is ∙ ap (λ (l : List ℕ). first .bytes ++ l) (second .is ∙ ap (λ (l : List ℕ). second .bytes ++ l) (others .is)) ∙ simp append-assoc;
-          inside = others .inside;
-        },
-      )
+          → Found (IntervalsLaid rest) s m last → interval start end ∷ rest ≡ is → last ≡ next → Found (IntervalsLaid is) s at next
+      go start end k m rest last first second others list place = rw (← list, ← place) (record {
+        bytes = first .bytes ++ (second .bytes ++ others .bytes);
+        holds = IntervalsLaid.more (first .holds) (second .holds) (others .holds);
+        is = first .is ∙ ap (λ (l : List ℕ). first .bytes ++ l) (second .is ∙ ap (λ (l : List ℕ). second .bytes ++ l) (others .is)) ∙ simp append-assoc;
+        inside = others .inside;
+      })
 
   -- ---- keys
 
@@ -170,7 +163,8 @@ module _ (s : List ℕ) (are : Bytes s) (tagged : Bool) where
       go (head k n) first p q =
           let (is, list, same) = mapped-parsed (entry k) (many (intervalAt s) n first) e next q in
           let x = head-found at k n first p in
-          let (size, intervals) = intervals-found s are n first is next (x .count .inside) list in
+          let size = intervals-parsed s n first is next (x .count .inside) list .0 in
+          let intervals = intervals-found s are n first is next (x .count .inside) list in
           let counted : Number 8 (length is) (x .count .bytes) = rw size (x .count .holds) in
           as-read (part s at 16) (x .key .tag) same (x .key .is) (record {
             bytes = part s at 16 ++ (x .key .laid .bytes ++ (x .count .bytes ++ intervals .bytes));

@@ -27,11 +27,11 @@ use Rattle.previous_gtids_event.specs.Entry.{Entry, entry, uuidOf, tagOf
 use Rattle.packets.specs.Tag.{noneOrTag}
 use Rattle.previous_gtids_event.specs.Previous.{tagAt, keyAt, Head, head, headAt, intervalAt, intervalsAfter, entryAt, saysTagged, saysCount, entriesAfter, previous}
 use Rattle.previous_gtids_event.specs.Answers.{previousRead, headerRead, entryRead, intervalRead}
-use Rattle.previous_gtids_event.specs.Inside.{tagRead, headRead, entryPlace}
+use Rattle.previous_gtids_event.specs.Inside.{tagRead, headRead, wholeRead}
 use Rattle.previous_gtids_event.specs.declared.HeaderRead.{HeaderRead}
 use Rattle.previous_gtids_event.specs.declared.TagRead.{TagRead}
 use Rattle.previous_gtids_event.specs.declared.HeadRead.{HeadRead}
-use Rattle.previous_gtids_event.specs.declared.EntryPlace.{EntryPlace}
+use Rattle.previous_gtids_event.specs.declared.WholeRead.{WholeRead}
 use Rattle.previous_gtids_event.specs.declared.EntryRead.{EntryRead}
 
 -- ---- from an answer back to what was read: 0 says that it was, and any other number that it was refused
@@ -103,7 +103,7 @@ module _ (s : List ℕ) where
   length-intervals zero at = refl
   length-intervals (suc n) at = ap suc (length-intervals n (at + 16))
 
-  intervals-parsed : (n at : ℕ) (is : List Interval) (next : ℕ) → at ≤ length s → many (intervalAt s) n at ≡ parsed is next
+  pub intervals-parsed : (n at : ℕ) (is : List Interval) (next : ℕ) → at ≤ length s → many (intervalAt s) n at ≡ parsed is next
       → (length is ≡ n) × (intervalsOf s n at ≡ is) × (next ≡ at + 16 * n) × (next ≤ length s)
   intervals-parsed n at is next i e =
       split (at + 16 * n) (length s)
@@ -286,34 +286,32 @@ entry-there tagged s at k is next e =
         }
 
 -- ---- the whole body
-module _ (s : List ℕ) where
-  -- what the answer for the header tells
-  header-says : (p : Parse ℕ) → headerRead p .refusal ≡ refusalOf p
-  header-says (refuse x) = refl
-  header-says (parsed h next) = refl
+pub header-says : (p : Parse ℕ) → headerRead p .refusal ≡ refusalOf p
+header-says (refuse x) = refl
+header-says (parsed h next) = refl
 
-  module _ (r : HeaderRead) (is : r ≡ headerRead (ofBody s (leAt 8 s 0))) where
-    pub headless : (r .refusal ≡ 0 → ⊥) → (x : Refusal) × (previous s ≡ refuse x) × (r .refusal ≡ number x)
-    unfolding previous
-    headless z =
-        let (x, e, told) = was-not-read headerRead (λ y. y .refusal) header-says (ofBody s (leAt 8 s 0)) r is z in
-        (x, body-then s (leAt 8 s 0) (entriesAfter s) ∙ ap (λ (q : Parse ℕ). andThen q (entriesAfter s)) e, ap (λ (y : HeaderRead). y .refusal) told)
+module _ (s : List ℕ) (r : HeaderRead) (is : r ≡ headerRead (ofBody s (leAt 8 s 0))) where
+  pub headless : (r .refusal ≡ 0 → ⊥) → (x : Refusal) × (previous s ≡ refuse x) × (r .refusal ≡ number x)
+  unfolding previous
+  headless z =
+      let (x, e, told) = was-not-read headerRead (λ y. y .refusal) header-says (ofBody s (leAt 8 s 0)) r is z in
+      (x, body-then s (leAt 8 s 0) (entriesAfter s) ∙ ap (λ (q : Parse ℕ). andThen q (entriesAfter s)) e, ap (λ (y : HeaderRead). y .refusal) told)
 
-    pub headed : r .refusal ≡ 0 → (previous s ≡ many (entryAt (r .tagged) s) (r .entries) 8) × (8 ≤ length s) × (length s ≤ 65536)
-    unfolding previous
-    headed z =
-        let (h, next, e, told) = was-read headerRead (λ y. y .refusal) header-says (ofBody s (leAt 8 s 0)) r is z in
-        let small : length s ≤ 65536 =
-        split (length s) 65536 (λ k. k) (λ k. never (sym (body-too-long s (leAt 8 s 0) k) ∙ e)) in
-        let f = le-forward s 0 8 (sym (body-fits s (leAt 8 s 0) small) ∙ e) in
-        let eight : next ≡ 8 = omega arith in (
-          body-then s (leAt 8 s 0) (entriesAfter s)
-              ∙ ap (λ (q : Parse ℕ). andThen q (entriesAfter s)) e
-              ∙ ap (λ (n : ℕ). many (entryAt (saysTagged h) s) (saysCount h) n) eight
-              ∙ sym (ap (λ (y : HeaderRead). many (entryAt (y .tagged) s) (y .entries) 8) told),
-          omega arith,
-          small,
-        )
+  pub headed : r .refusal ≡ 0 → (previous s ≡ many (entryAt (r .tagged) s) (r .entries) 8) × (8 ≤ length s) × (length s ≤ 65536)
+  unfolding previous
+  headed z =
+      let (h, next, e, told) = was-read headerRead (λ y. y .refusal) header-says (ofBody s (leAt 8 s 0)) r is z in
+      let small : length s ≤ 65536 =
+      split (length s) 65536 (λ k. k) (λ k. never (sym (body-too-long s (leAt 8 s 0) k) ∙ e)) in
+      let f = le-forward s 0 8 (sym (body-fits s (leAt 8 s 0) small) ∙ e) in
+      let eight : next ≡ 8 = omega arith in (
+        body-then s (leAt 8 s 0) (entriesAfter s)
+            ∙ ap (λ (q : Parse ℕ). andThen q (entriesAfter s)) e
+            ∙ ap (λ (n : ℕ). many (entryAt (saysTagged h) s) (saysCount h) n) eight
+            ∙ sym (ap (λ (y : HeaderRead). many (entryAt (y .tagged) s) (y .entries) 8) told),
+        omega arith,
+        small,
+      )
 
 -- what is read ends within the body
 many-inside : {A : Type 0} (l : ℕ) (item : ℕ → Parse A) → ((at : ℕ) (a : A) (next : ℕ) → item at ≡ parsed a next → next ≤ l)
@@ -364,9 +362,9 @@ pub head-says : (p : Parse Head) → headRead p .refusal ≡ refusalOf p
 head-says (refuse x) = refl
 head-says (parsed (head k n) first) = refl
 
-pub place-says : (p : Parse Entry) → entryPlace p .refusal ≡ refusalOf p
-place-says (refuse x) = refl
-place-says (parsed (entry k is) next) = refl
+pub whole-says : (p : Parse Entry) → wholeRead p .refusal ≡ refusalOf p
+whole-says (refuse x) = refl
+whole-says (parsed (entry k is) next) = refl
 
 module _ (tagged : Bool) (s : List ℕ) (at : ℕ) where
   -- the tag and the count make the head
@@ -399,26 +397,26 @@ module _ (tagged : Bool) (s : List ℕ) (at : ℕ) where
     pub head-inside : r .first ≤ length s
     head-inside = head-there tagged s at (head-told .0) (r .intervals) (r .first) (head-told .1) .inside
 
-    pub place-cut : length s < r .first + 16 * r .intervals → entryAt tagged s at ≡ refuse ended
-    place-cut h = entry-cut tagged s at (head-told .0) (r .intervals) (r .first) (head-told .1) head-inside h
+    pub whole-cut : length s < r .first + 16 * r .intervals → entryAt tagged s at ≡ refuse ended
+    whole-cut h = entry-cut tagged s at (head-told .0) (r .intervals) (r .first) (head-told .1) head-inside h
 
-    pub place-answer : r .first + 16 * r .intervals ≤ length s
+    pub whole-answer : r .first + 16 * r .intervals ≤ length s
         → record { refusal = 0; «tag_len» = r .«tag_len»; intervals = r .intervals; first = r .first; next = r .first + 16 * r .intervals }
-        ≡ entryPlace (entryAt tagged s at)
-    place-answer h =
+        ≡ wholeRead (entryAt tagged s at)
+    whole-answer h =
         let (k, e, len) = head-told in
-        ap (λ (l : ℕ). laid l (r .intervals) (r .first)) len ∙ sym (ap entryPlace (entry-here tagged s at k (r .intervals) (r .first) e h) ∙ place k (r .intervals) (r .first))
+        ap (λ (l : ℕ). laid l (r .intervals) (r .first)) len ∙ sym (ap wholeRead (entry-here tagged s at k (r .intervals) (r .first) e h) ∙ place k (r .intervals) (r .first))
       where
-        laid : ℕ → ℕ → ℕ → EntryPlace
+        laid : ℕ → ℕ → ℕ → WholeRead
         laid l n first = record { refusal = 0; «tag_len» = l; intervals = n; first = first; next = first + 16 * n }
 
-        place : (k : Key) (n first : ℕ) → entryPlace (parsed (entry k (intervalsOf s n first)) (first + 16 * n)) ≡ laid (length (tagOf k)) n first
+        place : (k : Key) (n first : ℕ) → wholeRead (parsed (entry k (intervalsOf s n first)) (first + 16 * n)) ≡ laid (length (tagOf k)) n first
         place k n first =
             let start : first + 16 * n - 16 * n ≡ first = omega arith in
             rw (length-intervals s n first, start)
 
 -- what the answer for a whole entry tells
-pub record PlaceTold (tagged : Bool) (s : List ℕ) (at : ℕ) (r : EntryPlace) : Type 0 where
+pub record WholeTold (tagged : Bool) (s : List ℕ) (at : ℕ) (r : WholeRead) : Type 0 where
   pub key : Key
   pub list : List Interval
   pub is : entryAt tagged s at ≡ parsed (entry key list) (r .next)
@@ -427,37 +425,37 @@ pub record PlaceTold (tagged : Bool) (s : List ℕ) (at : ℕ) (r : EntryPlace) 
   pub count : r .intervals ≡ length list
   pub first : r .first ≡ there .first
 
-module _ (tagged : Bool) (s : List ℕ) (at : ℕ) (r : EntryPlace) (is : r ≡ entryPlace (entryAt tagged s at)) where
-  pub place-told : r .refusal ≡ 0 → PlaceTold tagged s at r
-  place-told z =
-      let (e, next, p, told) = was-read entryPlace (λ y. y .refusal) place-says (entryAt tagged s at) r is z in
+module _ (tagged : Bool) (s : List ℕ) (at : ℕ) (r : WholeRead) (is : r ≡ wholeRead (entryAt tagged s at)) where
+  pub whole-told : r .refusal ≡ 0 → WholeTold tagged s at r
+  whole-told z =
+      let (e, next, p, told) = was-read wholeRead (λ y. y .refusal) whole-says (entryAt tagged s at) r is z in
       go e next p told
     where
-      go : (e : Entry) (next : ℕ) → entryAt tagged s at ≡ parsed e next → r ≡ entryPlace (parsed e next) → PlaceTold tagged s at r
+      go : (e : Entry) (next : ℕ) → entryAt tagged s at ≡ parsed e next → r ≡ wholeRead (parsed e next) → WholeTold tagged s at r
       go (entry k is) next p told =
-          let end : r .next ≡ next = ap (λ (y : EntryPlace). y .next) told in
+          let end : r .next ≡ next = ap (λ (y : WholeRead). y .next) told in
           let whole : entryAt tagged s at ≡ parsed (entry k is) (r .next) = p ∙ ap (parsed (entry k is)) (sym end) in
           let there = entry-there tagged s at k is (r .next) whole in
-          let first : r .first ≡ next - 16 * length is = ap (λ (y : EntryPlace). y .first) told in
+          let first : r .first ≡ next - 16 * length is = ap (λ (y : WholeRead). y .first) told in
           record {
             key = k;
             list = is;
             is = whole;
             there = there;
-            tag-len = ap (λ (y : EntryPlace). y .«tag_len») told;
-            count = ap (λ (y : EntryPlace). y .intervals) told;
+            tag-len = ap (λ (y : WholeRead). y .«tag_len») told;
+            count = ap (λ (y : WholeRead). y .intervals) told;
             first = omega (arith, there .end);
           }
 
-  pub place-refused : (r .refusal ≡ 0 → ⊥) → (x : Refusal) × (entryAt tagged s at ≡ refuse x) × (r .refusal ≡ number x)
-  place-refused z =
-      let (x, e, told) = was-not-read entryPlace (λ y. y .refusal) place-says (entryAt tagged s at) r is z in
-      (x, e, ap (λ (y : EntryPlace). y .refusal) told)
+  pub whole-refused : (r .refusal ≡ 0 → ⊥) → (x : Refusal) × (entryAt tagged s at ≡ refuse x) × (r .refusal ≡ number x)
+  whole-refused z =
+      let (x, e, told) = was-not-read wholeRead (λ y. y .refusal) whole-says (entryAt tagged s at) r is z in
+      (x, e, ap (λ (y : WholeRead). y .refusal) told)
 
 -- the parts of an entry lie in the body, one behind the other
-pub place-order : {tagged : Bool} {s : List ℕ} {at : ℕ} {r : EntryPlace} → PlaceTold tagged s at r
+pub whole-order : {tagged : Bool} {s : List ℕ} {at : ℕ} {r : WholeRead} → WholeTold tagged s at r
     → (at + 16 + r .«tag_len» + 8 ≤ r .first) × (r .first ≤ r .next) × (r .next ≤ length s)
-place-order told =
+whole-order told =
     let there = told .there in (
       omega (arith, told .first, told .tag-len, there .head .tag .after, there .head .eight),
       omega (arith, told .first, there .end),
@@ -473,7 +471,7 @@ kept-short : (w : ℕ) (bs : List ℕ) → length bs ≤ w → kept w bs ≡ pad
 kept-short w bs h = rw (take-all w bs h)
 
 -- the entry's answer, from its parts
-pub entry-answer : (tagged : Bool) (s : List ℕ) (at : ℕ) (r : EntryPlace) (told : PlaceTold tagged s at r) (uuid tag : List ℕ)
+pub entry-answer : (tagged : Bool) (s : List ℕ) (at : ℕ) (r : WholeRead) (told : WholeTold tagged s at r) (uuid tag : List ℕ)
     → uuid ≡ kept 16 (drop at s) → tag ≡ kept 32 (part s (r .first - 8 - r .«tag_len») (r .«tag_len»))
     → record { refusal = 0; uuid = uuid; tag = tag; «tag_len» = r .«tag_len»; intervals = r .intervals; first = r .first; next = r .next }
     ≡ entryRead (entryAt tagged s at)

@@ -22,9 +22,9 @@ use Rattle.previous_gtids_event.specs.Entry.{Entry, entry, uuidOf, tagOf
 use Rattle.previous_gtids_event.specs.Previous.{entryAt}
 use Rattle.previous_gtids_event.specs.Rewrite.{tagBytes, headRun, entryBytes, entriesBytes, anyTag, headerBytes, bodyBytes, rewritten}
 use Rattle.previous_gtids_event.specs.Inside.{sizesOf, refusedSizes, entryBytesOf, entriesBytesOf}
-use Rattle.previous_gtids_event.specs.declared.EntryPlace.{EntryPlace}
+use Rattle.previous_gtids_event.specs.declared.WholeRead.{WholeRead}
 use Rattle.previous_gtids_event.specs.declared.Sizes.{Sizes}
-use Rattle.previous_gtids_event.proofs.Reading.{PlaceTold, place-order, was-read, was-not-read}
+use Rattle.previous_gtids_event.proofs.Reading.{WholeTold, whole-order, was-read, was-not-read}
 use Rattle.previous_gtids_event.proofs.Writing.{entry-length, length-header, entry-bytes}
 
 -- ---- the first pass
@@ -47,7 +47,7 @@ unfolding anyTag entriesBytes
 sizes-end n any plain full at = simp (add-zero, or-false)
 
 -- what an entry adds: `size` bytes, and where tags are wanted its tag and the `v` bytes of that one's length
-pub record Sized (tagged : Bool) (s : List ℕ) (at : ℕ) (r : EntryPlace) (size v : ℕ) : Type 0 where
+pub record Sized (tagged : Bool) (s : List ℕ) (at : ℕ) (r : WholeRead) (size v : ℕ) : Type 0 where
   pub entry : Entry
   pub is : entryAt tagged s at ≡ parsed entry (r .next)
   pub more : (n : ℕ) (any : Bool) (plain full : ℕ) (p : Parse (List Entry))
@@ -76,7 +76,7 @@ sizes-next k is size v len l f g n any plain full (parsed es next) =
       or-assoc,
     )
 
-pub sized : (tagged : Bool) (s : List ℕ) (at : ℕ) (r : EntryPlace) → PlaceTold tagged s at r → (v : ℕ) → v ≡ length (varlenBytes (r .«tag_len»))
+pub sized : (tagged : Bool) (s : List ℕ) (at : ℕ) (r : WholeRead) → WholeTold tagged s at r → (v : ℕ) → v ≡ length (varlenBytes (r .«tag_len»))
     → Sized tagged s at r (24 + 16 * r .intervals) v
 sized tagged s at r told v e =
     let k = told .key in
@@ -112,7 +112,7 @@ pub behind-none : (tags : Bool) (t : List ℕ) (room : ℕ) → tags ≡ false �
 behind-none tags t room e = rw e (omega arith)
 
 -- a head and the intervals behind it make an entry
-module _ (tagged : Bool) (s : List ℕ) (from : ℕ) (r : EntryPlace) (told : PlaceTold tagged s from r) (tags : Bool) (are-bytes : Bytes s) where
+module _ (tagged : Bool) (s : List ℕ) (from : ℕ) (r : WholeRead) (told : WholeTold tagged s from r) (tags : Bool) (are-bytes : Bytes s) where
   pub entry-put : {l l₁ l₂ : List ℕ} {at at₁ at₂ : ℕ}
       → WhereFits l at
       (headRun (part s from (from + 16 - from)) tags (part s (r .first - 8 - r .«tag_len») (r .first - 8 - (r .first - 8 - r .«tag_len»))) (r .intervals))
@@ -123,7 +123,7 @@ module _ (tagged : Bool) (s : List ℕ) (from : ℕ) (r : EntryPlace) (told : Pl
       let t = r .first - 8 - r .«tag_len» in
       let head : ℕ → ℕ → List ℕ = λ u n. headRun (part s from u) tags (part s t n) (r .intervals) in
       let uuid : from + 16 - from ≡ 16 = omega arith in
-      let tag : r .first - 8 - t ≡ r .«tag_len» = omega (arith, place-order told) in
+      let tag : r .first - 8 - t ≡ r .«tag_len» = omega (arith, whole-order told) in
       let named : WhereFits l at (head 16 (r .first - 8 - t)) l₁ at₁ = subst (λ (n : ℕ). WhereFits l at (head n (r .first - 8 - t)) l₁ at₁) uuid p in
       let counted : WhereFits l at (head 16 (r .«tag_len»)) l₁ at₁ = subst (λ (n : ℕ). WhereFits l at (head 16 n) l₁ at₁) tag named in
       let all = ap (entryBytesOf tags) (told .is) ∙ entry-bytes tagged s from r told tags are-bytes in

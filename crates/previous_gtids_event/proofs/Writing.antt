@@ -16,8 +16,8 @@ use Rattle.packets.specs.Gno.{Interval, interval}
 use Rattle.packets.specs.Key.{Key}
 use Rattle.previous_gtids_event.specs.Entry.{entry, uuidOf, tagOf}
 use Rattle.previous_gtids_event.specs.Rewrite.{intervalsBytes, tagBytes, headRun, entryBytes, headerBytes}
-use Rattle.previous_gtids_event.specs.declared.EntryPlace.{EntryPlace}
-use Rattle.previous_gtids_event.proofs.Reading.{intervalOf, intervalsOf, PlaceTold}
+use Rattle.previous_gtids_event.specs.declared.WholeRead.{WholeRead}
+use Rattle.previous_gtids_event.proofs.Reading.{intervalOf, intervalsOf, WholeTold}
 
 -- ---- lengths
 pub length-intervals-bytes : (is : List Interval) → length (intervalsBytes is) ≡ 16 * length is
@@ -103,7 +103,7 @@ module _ (s : List ℕ) (are-bytes : Bytes s) where
       )
 
 -- an entry that was read, as its place says: its head, and the intervals as they stand
-pub entry-bytes : (tagged : Bool) (s : List ℕ) (at : ℕ) (r : EntryPlace) (told : PlaceTold tagged s at r) (tags : Bool)
+pub entry-bytes : (tagged : Bool) (s : List ℕ) (at : ℕ) (r : WholeRead) (told : WholeTold tagged s at r) (tags : Bool)
     → Bytes s
     → entryBytes tags (entry (told .key) (told .list))
     ≡ headRun (part s at 16) tags (part s (r .first - 8 - r .«tag_len») (r .«tag_len»)) (r .intervals) ++ part s (r .first) (r .next - r .first)

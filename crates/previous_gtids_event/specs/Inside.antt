@@ -10,7 +10,7 @@ use Rattle.previous_gtids_event.specs.Previous.{Head, head}
 use Rattle.previous_gtids_event.specs.Rewrite.{entryBytes, entriesBytes, anyTag}
 use Rattle.previous_gtids_event.specs.declared.TagRead.{TagRead}
 use Rattle.previous_gtids_event.specs.declared.HeadRead.{HeadRead}
-use Rattle.previous_gtids_event.specs.declared.EntryPlace.{EntryPlace}
+use Rattle.previous_gtids_event.specs.declared.WholeRead.{WholeRead}
 use Rattle.previous_gtids_event.specs.declared.Sizes.{Sizes}
 
 abbrev pub refusedTag : ℕ → TagRead
@@ -27,12 +27,12 @@ abbrev pub headRead : Parse Head → HeadRead
 headRead (refuse r) = refusedHead (number r)
 headRead (parsed (head k count) first) = record { refusal = 0; «tag_len» = length (tagOf k); intervals = count; first = first }
 
-abbrev pub refusedPlace : ℕ → EntryPlace
-refusedPlace refusal = record { refusal = refusal; «tag_len» = 0; intervals = 0; first = 0; next = 0 }
+abbrev pub refusedWhole : ℕ → WholeRead
+refusedWhole refusal = record { refusal = refusal; «tag_len» = 0; intervals = 0; first = 0; next = 0 }
 
-abbrev pub entryPlace : Parse Entry → EntryPlace
-entryPlace (refuse r) = refusedPlace (number r)
-entryPlace (parsed (entry k is) next) =
+abbrev pub wholeRead : Parse Entry → WholeRead
+wholeRead (refuse r) = refusedWhole (number r)
+wholeRead (parsed (entry k is) next) =
     record { refusal = 0; «tag_len» = length (tagOf k); intervals = length is; first = next - 16 * length is; next = next }
 
 -- ---- entries that are to be written

@@ -64,7 +64,7 @@ pub(crate) struct HeadRead {
 }
 
 // Where a whole entry lies: its head, and the place behind its last interval.
-pub(crate) struct EntryPlace {
+pub(crate) struct WholeRead {
     pub(crate) refusal: u8,
     pub(crate) tag_len: usize,
     pub(crate) intervals: u64,

@@ -1,6 +1,5 @@
 // Reading a body: whole, or one entry or interval at a time.
 use crate::COUNT_TOP;
-use crate::EntryPlace;
 use crate::EntryRead;
 use crate::HeadRead;
 use crate::HeaderRead;
@@ -8,6 +7,7 @@ use crate::IntervalRead;
 use crate::PreviousRead;
 use crate::TOP_ONE;
 use crate::TagRead;
+use crate::WholeRead;
 use misc::MAX_BODY;
 use misc::bytes::left_at;
 use misc::le::read_u64_le;
@@ -27,7 +27,7 @@ ghost use Rattle.misc.specs.Body.{ofBody, usedOf, unreadOf, onward};
 ghost use Rattle.misc.specs.Le.{leAt};
 ghost use Rattle.previous_gtids_event.specs.Previous.{tagAt, headAt, intervalAt, entryAt, previous};
 ghost use Rattle.previous_gtids_event.specs.Answers.{previousRead, refusedPrevious, headerRead, refusedHeader, entryRead, refusedEntry, intervalRead, refusedInterval};
-ghost use Rattle.previous_gtids_event.specs.Inside.{tagRead, refusedTag, headRead, refusedHead, entryPlace, refusedPlace};
+ghost use Rattle.previous_gtids_event.specs.Inside.{tagRead, refusedTag, headRead, refusedHead, wholeRead, refusedWhole};
 
 fn refused_tag(refusal: u8) -> TagRead
     ensures { λ r. ⌜ r ≡ refusedTag refusal ⌝ }
@@ -114,10 +114,10 @@ fn head_at(body: &[u8], at: usize, tagged: bool) -> HeadRead
     }
 }
 
-fn refused_place(refusal: u8) -> EntryPlace
-    ensures { λ r. ⌜ r ≡ refusedPlace refusal ⌝ }
+fn refused_whole(refusal: u8) -> WholeRead
+    ensures { λ r. ⌜ r ≡ refusedWhole refusal ⌝ }
 {
-    EntryPlace {
+    WholeRead {
         refusal,
         tag_len: 0,
         intervals: 0,
@@ -127,21 +127,21 @@ fn refused_place(refusal: u8) -> EntryPlace
 }
 
 // Where the entry at a place lies, once all the intervals that its head announces are there: so many lie in what is left.
-pub(crate) fn place_at(body: &[u8], at: usize, tagged: bool) -> EntryPlace
-    ensures { λ r. ⌜ r ≡ entryPlace (entryAt tagged (now (body .entry)) at) ⌝ }
+pub(crate) fn whole_at(body: &[u8], at: usize, tagged: bool) -> WholeRead
+    ensures { λ r. ⌜ r ≡ wholeRead (entryAt tagged (now (body .entry)) at) ⌝ }
 {
     let head = head_at(body, at, tagged);
     let refusal = head.refusal;
     if refusal != 0 {
-        return refused_place(refusal);
+        return refused_whole(refusal);
     }
     let intervals = head.intervals;
     let first = head.first;
     let room = left_at(body, first) / 16;
     if (room as u64) < intervals {
-        return refused_place(ENDED);
+        return refused_whole(ENDED);
     }
-    EntryPlace {
+    WholeRead {
         refusal: 0,
         tag_len: head.tag_len,
         intervals,
@@ -171,13 +171,13 @@ pub fn entry_at(body: &[u8], at: usize, tagged: bool) -> EntryRead
     if MAX_BODY < body.len() {
         return refused_entry(TOO_LONG);
     }
-    let place = place_at(body, at, tagged);
-    let refusal = place.refusal;
+    let whole = whole_at(body, at, tagged);
+    let refusal = whole.refusal;
     if refusal != 0 {
         return refused_entry(refusal);
     }
-    let tag_len = place.tag_len;
-    let first = place.first;
+    let tag_len = whole.tag_len;
+    let first = whole.first;
     let counted = first - 8;
     let tag = counted - tag_len;
     EntryRead {
@@ -185,9 +185,9 @@ pub fn entry_at(body: &[u8], at: usize, tagged: bool) -> EntryRead
         uuid: uuid_bytes(&body[at..]),
         tag: tag_bytes(&body[tag..counted]),
         tag_len,
-        intervals: place.intervals,
+        intervals: whole.intervals,
         first,
-        next: place.next,
+        next: whole.next,
     }
 }
 
@@ -276,12 +276,12 @@ fn entries_at(body: &[u8], from: usize, tagged: bool, count: u64) -> PreviousRea
     let mut at = from;
     let mut done: u64 = 0;
     while done < count {
-        let place = place_at(body, at, tagged);
-        let refusal = place.refusal;
+        let whole = whole_at(body, at, tagged);
+        let refusal = whole.refusal;
         if refusal != 0 {
             return refused_previous(refusal);
         }
-        at = place.next;
+        at = whole.next;
         done += 1;
     }
     PreviousRead {

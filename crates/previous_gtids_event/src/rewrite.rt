@@ -4,7 +4,7 @@ use crate::Put;
 use crate::Sizes;
 use crate::TOP_ONE;
 use crate::read::header_of;
-use crate::read::place_at;
+use crate::read::whole_at;
 use misc::Wrote;
 use misc::bytes::left_at;
 use misc::put::put_bytes;
@@ -47,17 +47,17 @@ fn sizes_at(body: &[u8], from: usize, tagged: bool, count: u64) -> Sizes
     let mut plain: usize = 0;
     let mut full: usize = 0;
     while done < count {
-        let place = place_at(body, at, tagged);
-        let refusal = place.refusal;
+        let whole = whole_at(body, at, tagged);
+        let refusal = whole.refusal;
         if refusal != 0 {
             return refused_sizes(refusal);
         }
-        let tag_len = place.tag_len;
-        let size = 24 + 16 * (place.intervals as usize);
+        let tag_len = whole.tag_len;
+        let size = 24 + 16 * (whole.intervals as usize);
         any = any | (0 < tag_len);
         plain += size;
         full += size + varlen_uint_size(tag_len as u64) + tag_len;
-        at = place.next;
+        at = whole.next;
         done += 1;
     }
     Sizes {
@@ -123,17 +123,17 @@ fn put_entry(body: &[u8], from: usize, tagged: bool, tags: bool, out: &mut [u8],
     ensures { λ r. ⌜ r .next ≡ usedOf (entryAt tagged (now (body .entry)) from) ⌝ }
     ensures { λ r. ⌜ WhereFits (now (out .entry)) at (entryBytesOf tags (entryAt tagged (now (body .entry)) from)) (now (out .exit)) (r .at) ⌝ }
 {
-    let place = place_at(body, from, tagged);
-    let first = place.first;
-    let next = place.next;
+    let whole = whole_at(body, from, tagged);
+    let first = whole.first;
+    let next = whole.next;
     let tag_end = first - 8;
-    let tag = tag_end - place.tag_len;
+    let tag = tag_end - whole.tag_len;
     let uuid_end = from + 16;
     let head = put_head(
         &body[from..uuid_end],
         &body[tag..tag_end],
         tags,
-        place.intervals,
+        whole.intervals,
         out,
         at,
     );

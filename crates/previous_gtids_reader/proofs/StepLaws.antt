@@ -20,7 +20,7 @@ use Rattle.previous_gtids_event.specs.Previous.{entryAt}
 use Rattle.previous_gtids_event.specs.Answers.{headerRead, entryRead}
 use Rattle.previous_gtids_event.specs.declared.HeaderRead.{HeaderRead}
 use Rattle.previous_gtids_event.specs.declared.EntryRead.{EntryRead}
-use Rattle.previous_gtids_event.proofs.Reading.{was-read, was-not-read, headed}
+use Rattle.previous_gtids_event.proofs.Reading.{was-read, was-not-read, header-says, headed}
 use Rattle.previous_gtids_reader.specs.declared.Cursor.{Cursor}
 use Rattle.previous_gtids_reader.specs.declared.Step.{Step}
 use Rattle.previous_gtids_reader.specs.Steps.{cursorAt, refusedCursor, cursorOf, startOf, refusedStep, endStep, entryStep, stepped, headedStep, stepOf, onwards, cursorAfter, stepAfter}
@@ -28,10 +28,6 @@ use Rattle.previous_gtids_reader.specs.Steps.{cursorAt, refusedCursor, c
 -- what the body's header says
 abbrev pub says : List ℕ → HeaderRead
 says s = headerRead (ofBody s (leAt 8 s 0))
-
-header-says : (p : Parse ℕ) → headerRead p .refusal ≡ refusalOf p
-header-says (refuse x) = refl
-header-says (parsed h next) = refl
 
 entry-says : (p : Parse Entry) → entryRead p .refusal ≡ refusalOf p
 entry-says (refuse x) = refl

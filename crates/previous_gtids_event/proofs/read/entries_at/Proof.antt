@@ -10,7 +10,7 @@ use Rattle.previous_gtids_event.proofs.Counting.{readAfter, read-none, 
 use Rattle.previous_gtids_event.specs.Answers.{previousRead, refusedPrevious}
 use Rattle.previous_gtids_event.specs.Previous.{entryAt}
 use Rattle.previous_gtids_event.specs.Entry.{entry}
-use Rattle.previous_gtids_event.proofs.Reading.{place-told, place-refused}
+use Rattle.previous_gtids_event.proofs.Reading.{whole-told, whole-refused}
 use Rattle.previous_gtids_event.proofs.read.entries_at.Statement.{statement}
 use Rattle.previous_gtids_event.proofs.read.entries_at.Tie as tie
 
@@ -26,8 +26,8 @@ loop-holds c =
     let all : a .count - 0 ≡ a .count = omega arith in
     (omega arith, rw all (read-none (many (entryAt (a .tagged) (now (a .body))) (a .count) (a .from))))
 
-place-at-requires : tie.Need-place-at-requires Inv-loop μ-loop
-place-at-requires c κs = search needs
+whole-at-requires : tie.Need-whole-at-requires Inv-loop μ-loop
+whole-at-requires c κs = search needs
 
 refused-previous-requires : tie.Need-refused-previous-requires Inv-loop μ-loop
 refused-previous-requires c κs = search needs
@@ -36,7 +36,7 @@ returns : tie.Need-returns Inv-loop μ-loop
 returns c =
     let a = c .before .before .before .before .before .before .args in
     let l = c .before .before .before .before .loop in
-    let (x, e, n) = place-refused (a .tagged) (now (a .body)) (l .at) _ (c .before .before .place-at .ensures) (c .before .if1 .taken) in
+    let (x, e, n) = whole-refused (a .tagged) (now (a .body)) (l .at) _ (c .before .before .whole-at .ensures) (c .before .if1 .taken) in
     c .refused-previous .ensures ∙ ap refusedPrevious n
     ∙ sym (walk-refused readAfter (entryAt (a .tagged) (now (a .body))) (a .count) _ (l .done) (l .at) (l .done) (l .inv .1) (omega arith) x e)
 
@@ -50,7 +50,7 @@ loop-again : tie.Need-loop-again Inv-loop μ-loop
 loop-again c =
     let a = c .before .before .before .before .before .args in
     let l = c .before .before .before .loop in
-    let t = place-told (a .tagged) (now (a .body)) (l .at) _ (c .before .place-at .ensures) (c .if1 .left) in
+    let t = whole-told (a .tagged) (now (a .body)) (l .at) _ (c .before .whole-at .ensures) (c .if1 .left) in
     (omega arith, walk-next readAfter (entryAt (a .tagged) (now (a .body))) (a .count) _ (l .done) (l .at) (l .done) (l .inv .1) (omega arith) _ _ (t .is) _ (read-next (l .done) (entry (t .key) (t .list))))
 
 returns-2 : tie.Need-returns-2 Inv-loop μ-loop
@@ -66,7 +66,7 @@ entries-at-spec =
     Inv-loop
     μ-loop
     loop-holds
-    place-at-requires
+    whole-at-requires
     refused-previous-requires
     returns
     add-done

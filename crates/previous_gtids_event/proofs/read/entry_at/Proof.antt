@@ -10,18 +10,18 @@ use Rattle.misc.proofs.BodyLaws.{body-fits, body-too-long}
 use Rattle.packets.specs.Kept.{kept}
 use Rattle.previous_gtids_event.specs.Answers.{entryRead, refusedEntry}
 use Rattle.previous_gtids_event.specs.Previous.{entryAt}
-use Rattle.previous_gtids_event.proofs.Reading.{PlaceTold, place-told, place-refused, entry-answer}
+use Rattle.previous_gtids_event.proofs.Reading.{WholeTold, whole-told, whole-refused, entry-answer}
 use borrow.Author.Needs.{needs}
 use Rattle.previous_gtids_event.proofs.read.entry_at.Statement.{statement}
 use Rattle.previous_gtids_event.proofs.read.entry_at.Tie as tie
 
 -- what the entry's place tells, once it is no refusal
-told : (c : tie.Else2) → let a = c .before .before .before .before .args in PlaceTold (a .tagged) (now (a .body)) (a .at) (c .before .place-at .result)
-told c = let a = c .before .before .before .before .args in place-told (a .tagged) (now (a .body)) (a .at) _ (c .before .place-at .ensures) (c .if2 .left)
+told : (c : tie.Else2) → let a = c .before .before .before .before .args in WholeTold (a .tagged) (now (a .body)) (a .at) (c .before .whole-at .result)
+told c = let a = c .before .before .before .before .args in whole-told (a .tagged) (now (a .body)) (a .at) _ (c .before .whole-at .ensures) (c .if2 .left)
 
 -- its parts lie in the body, one behind the other
 order : (c : tie.Else2) → let a = c .before .before .before .before .args in
-    let r = c .before .place-at .result in
+    let r = c .before .whole-at .result in
     (a .at + 16 + r .«tag_len» + 8 ≤ r .first) × (r .first ≤ length (now (a .body)))
 order c =
     let t = told c in
@@ -37,8 +37,8 @@ returns c =
     let s = now (a .body) in
     c .refused-entry .ensures ∙ ap entryRead (sym (body-too-long s (entryAt (a .tagged) s (a .at)) (omega arith)))
 
-place-at-requires : tie.Need-place-at-requires
-place-at-requires c κs = search needs
+whole-at-requires : tie.Need-whole-at-requires
+whole-at-requires c κs = search needs
 
 refused-entry-requires-2 : tie.Need-refused-entry-requires-2
 refused-entry-requires-2 c κs = search needs
@@ -47,7 +47,7 @@ returns-2 : tie.Need-returns-2
 returns-2 c =
     let a = c .before .before .before .before .before .args in
     let s = now (a .body) in
-    let (x, e, n) = place-refused (a .tagged) s (a .at) _ (c .before .before .place-at .ensures) (c .before .if2 .taken) in
+    let (x, e, n) = whole-refused (a .tagged) s (a .at) _ (c .before .before .whole-at .ensures) (c .before .if2 .taken) in
     c .refused-entry2 .ensures ∙ ap refusedEntry n ∙ ap entryRead (sym (body-fits s (entryAt (a .tagged) s (a .at)) (omega arith) ∙ e))
 
 sub-counted : tie.Need-sub-counted
@@ -84,7 +84,7 @@ returns-3 : tie.Need-returns-3
 returns-3 c =
     let a = c .before .before .before .before .before .before .before .before .args in
     let s = now (a .body) in
-    let r = c .before .before .before .before .before .place-at .result in
+    let r = c .before .before .before .before .before .whole-at .result in
     let size : r .first - 8 - (r .first - 8 - r .«tag_len») ≡ r .«tag_len» = omega (arith, order (c .before .before .before .before)) in
     let rest = take-all (length s - a .at) (drop (a .at) s) (rw length-drop (omega arith)) in
     entry-answer (a .tagged) s (a .at) r (told (c .before .before .before .before)) _ _
@@ -98,7 +98,7 @@ entry-at-spec =
     (tie.spec
     refused-entry-requires
     returns
-    place-at-requires
+    whole-at-requires
     refused-entry-requires-2
     returns-2
     sub-counted

@@ -2,34 +2,34 @@
 use denote.Ref.{now}
 use native.Mathlib.Omega.{arith}
 use mathlib.Core.Path.{ap, _∙_}
-use Rattle.previous_gtids_event.specs.declared.EntryPlace.{EntryPlace}
+use Rattle.previous_gtids_event.specs.declared.WholeRead.{WholeRead}
 use Rattle.previous_gtids_event.specs.Previous.{entryAt}
 use Rattle.previous_gtids_event.proofs.Rewriting.{entry-put}
-use Rattle.previous_gtids_event.proofs.Reading.{PlaceTold, place-told, place-says, place-order}
+use Rattle.previous_gtids_event.proofs.Reading.{WholeTold, whole-told, whole-says, whole-order}
 use borrow.Author.Needs.{needs}
 use Rattle.misc.proofs.OutputLaws.{put-placed}
 use Rattle.previous_gtids_event.proofs.rewrite.put_entry.Statement.{statement}
 use Rattle.previous_gtids_event.proofs.rewrite.put_entry.Tie as tie
 
 -- what the entry's place tells: the entry has been read before
-told : (c : tie.After-place-at) → let a = c .before .before .before .args in PlaceTold (a .tagged) (now (a .body)) (a .from) (c .place-at .result)
+told : (c : tie.After-whole-at) → let a = c .before .before .before .args in WholeTold (a .tagged) (now (a .body)) (a .from) (c .whole-at .result)
 told c =
     let a = c .before .before .before .args in
-    let r = c .place-at in
-    place-told (a .tagged) (now (a .body)) (a .from) _ (r .ensures)
-    (ap (λ (y : EntryPlace). y .refusal) (r .ensures) ∙ place-says (entryAt (a .tagged) (now (a .body)) (a .from)) ∙ c .before .before .before .pre)
+    let r = c .whole-at in
+    whole-told (a .tagged) (now (a .body)) (a .from) _ (r .ensures)
+    (ap (λ (y : WholeRead). y .refusal) (r .ensures) ∙ whole-says (entryAt (a .tagged) (now (a .body)) (a .from)) ∙ c .before .before .before .pre)
 
-place-at-requires : tie.Need-place-at-requires
-place-at-requires c κs = search needs
+whole-at-requires : tie.Need-whole-at-requires
+whole-at-requires c κs = search needs
 
 sub-tag-end : tie.Need-sub-tag-end
-sub-tag-end c = omega (arith, place-order (told c))
+sub-tag-end c = omega (arith, whole-order (told c))
 
 sub-tag : tie.Need-sub-tag
-sub-tag c = omega (arith, place-order (told (c .before)))
+sub-tag c = omega (arith, whole-order (told (c .before)))
 
 add-uuid-end : tie.Need-add-uuid-end
-add-uuid-end c = omega (arith, place-order (told (c .before)))
+add-uuid-end c = omega (arith, whole-order (told (c .before)))
 
 sub-put-head : tie.Need-sub-put-head
 sub-put-head c = search needs
@@ -38,7 +38,7 @@ part-put-head-start : tie.Need-part-put-head-start
 part-put-head-start c = search needs
 
 part-put-head-end : tie.Need-part-put-head-end
-part-put-head-end c = omega (arith, place-order (told (c .before)))
+part-put-head-end c = omega (arith, whole-order (told (c .before)))
 
 sub-put-head-2 : tie.Need-sub-put-head-2
 sub-put-head-2 c = search needs
@@ -47,19 +47,19 @@ part-put-head-start-2 : tie.Need-part-put-head-start-2
 part-put-head-start-2 c = search needs
 
 part-put-head-end-2 : tie.Need-part-put-head-end-2
-part-put-head-end-2 c = omega (arith, place-order (told (c .before .before)))
+part-put-head-end-2 c = omega (arith, whole-order (told (c .before .before)))
 
 put-head-requires : tie.Need-put-head-requires
 put-head-requires c κs = search needs
 
 sub-put-bytes : tie.Need-sub-put-bytes
-sub-put-bytes c = omega (arith, place-order (told (c .before .before .before .before .before .before .before)))
+sub-put-bytes c = omega (arith, whole-order (told (c .before .before .before .before .before .before .before)))
 
 part-put-bytes-start : tie.Need-part-put-bytes-start
-part-put-bytes-start c = omega (arith, place-order (told (c .before .before .before .before .before .before .before)))
+part-put-bytes-start c = omega (arith, whole-order (told (c .before .before .before .before .before .before .before)))
 
 part-put-bytes-end : tie.Need-part-put-bytes-end
-part-put-bytes-end c = omega (arith, place-order (told (c .before .before .before .before .before .before .before)))
+part-put-bytes-end c = omega (arith, whole-order (told (c .before .before .before .before .before .before .before)))
 
 put-bytes-requires : tie.Need-put-bytes-requires
 put-bytes-requires c κs = search needs
@@ -81,7 +81,7 @@ pub put-entry-spec : {M : Type 1} → statement M
 put-entry-spec =
     tie.close
     (tie.spec
-    place-at-requires
+    whole-at-requires
     sub-tag-end
     sub-tag
     add-uuid-end

@@ -10,7 +10,7 @@ use Rattle.misc.proofs.Walk.{SoFar, walk-next, walk-refused, walk-end}
 use Rattle.previous_gtids_event.specs.Inside.{sizesOf, refusedSizes}
 use Rattle.previous_gtids_event.specs.Previous.{entryAt}
 use Rattle.previous_gtids_event.proofs.Rewriting.{gathered, sizesAfter, sizes-none, sizes-end, Sized, sized}
-use Rattle.previous_gtids_event.proofs.Reading.{place-told, place-refused, place-order}
+use Rattle.previous_gtids_event.proofs.Reading.{whole-told, whole-refused, whole-order}
 use Rattle.previous_gtids_event.proofs.rewrite.sizes_at.Statement.{statement}
 use Rattle.previous_gtids_event.proofs.rewrite.sizes_at.Tie as tie
 
@@ -21,20 +21,20 @@ abbrev μ-loop : tie.MeasureT-loop
 μ-loop body from tagged count at₀ done₀ any₀ plain₀ full₀ at done any plain full = count - done
 
 -- the entry's parts lie in the body
-order : (c : tie.Else1 Inv-loop μ-loop) → let r = c .before .place-at .result in
+order : (c : tie.Else1 Inv-loop μ-loop) → let r = c .before .whole-at .result in
     (c .before .before .before .loop .at + 16 + r .«tag_len» + 8 + 16 * r .intervals ≤ r .next) × (r .next ≤ length (now (c .before .before .before .before .before .args .body)))
 order c =
     let a = c .before .before .before .before .before .args in
-    let t = place-told (a .tagged) (now (a .body)) (c .before .before .before .loop .at) _ (c .before .place-at .ensures) (c .if1 .left) in
-    (omega (arith, place-order t, t .first, t .count, t .there .end), t .there .inside)
+    let t = whole-told (a .tagged) (now (a .body)) (c .before .before .before .loop .at) _ (c .before .whole-at .ensures) (c .if1 .left) in
+    (omega (arith, whole-order t, t .first, t .count, t .there .end), t .there .inside)
 
 -- what it adds
 more : (c : tie.After-varlen-uint-size Inv-loop μ-loop) → let a = c .before .before .before .before .before .before .args in
-    let r = c .before .before .place-at .result in
+    let r = c .before .before .whole-at .result in
     Sized (a .tagged) (now (a .body)) (c .before .before .before .before .loop .at) r (24 + 16 * r .intervals) (c .varlen-uint-size .result)
 more c =
     let a = c .before .before .before .before .before .before .args in
-    sized (a .tagged) (now (a .body)) (c .before .before .before .before .loop .at) _ (place-told (a .tagged) (now (a .body)) (c .before .before .before .before .loop .at) _ (c .before .before .place-at .ensures) (c .before .if1 .left)) _ (c .varlen-uint-size .ensures .0)
+    sized (a .tagged) (now (a .body)) (c .before .before .before .before .loop .at) _ (whole-told (a .tagged) (now (a .body)) (c .before .before .before .before .loop .at) _ (c .before .before .whole-at .ensures) (c .before .if1 .left)) _ (c .varlen-uint-size .ensures .0)
 
 loop-holds : tie.Need-loop-holds Inv-loop μ-loop
 loop-holds c =
@@ -42,8 +42,8 @@ loop-holds c =
     let all : a .count - 0 ≡ a .count = omega arith in
     (omega arith, c .before .pre .0, omega arith, omega arith, omega arith, rw all (sizes-none (many (entryAt (a .tagged) (now (a .body))) (a .count) (a .from))))
 
-place-at-requires : tie.Need-place-at-requires Inv-loop μ-loop
-place-at-requires c κs = search needs
+whole-at-requires : tie.Need-whole-at-requires Inv-loop μ-loop
+whole-at-requires c κs = search needs
 
 refused-sizes-requires : tie.Need-refused-sizes-requires Inv-loop μ-loop
 refused-sizes-requires c κs = search needs
@@ -52,7 +52,7 @@ returns : tie.Need-returns Inv-loop μ-loop
 returns c =
     let a = c .before .before .before .before .before .before .args in
     let l = c .before .before .before .before .loop in
-    let (x, e, n) = place-refused (a .tagged) (now (a .body)) (l .at) _ (c .before .before .place-at .ensures) (c .before .if1 .taken) in
+    let (x, e, n) = whole-refused (a .tagged) (now (a .body)) (l .at) _ (c .before .before .whole-at .ensures) (c .before .if1 .taken) in
     let same = c .refused-sizes .ensures in (
       same ∙ ap refusedSizes n ∙ sym (walk-refused sizesAfter (entryAt (a .tagged) (now (a .body))) (a .count) _ (gathered (l .done) (l .any) (l .plain) (l .full)) (l .at) (l .done) (l .inv .5) (omega arith) x e),
       rw same (omega arith, omega arith, omega arith),
@@ -115,7 +115,7 @@ sizes-at-spec =
     Inv-loop
     μ-loop
     loop-holds
-    place-at-requires
+    whole-at-requires
     refused-sizes-requires
     returns
     mul-size
