@@ -6,6 +6,8 @@ use misc::refusal::BAD_TAG;
 use packets::is_tag;
 use packets::tag_bytes;
 
+pub mod field_id;
+
 pub const LOGICAL_TIMESTAMP_TYPECODE: u8 = 2;
 
 pub const UNDEFINED_SERVER_VERSION: u32 = 999_999;
@@ -15,6 +17,21 @@ pub const GTID_EVENT: u8 = 33;
 pub const ANONYMOUS_GTID_EVENT: u8 = 34;
 
 pub const GTID_TAGGED_LOG_EVENT: u8 = 42;
+
+// The first byte of a tagged event.
+pub const TAGGED_SERIALIZATION_VERSION_V2: u8 = 2;
+
+// How many bytes parts of an untagged event take.
+pub const ENCODED_SID_LENGTH: usize = 16;
+
+pub const IMMEDIATE_COMMIT_TIMESTAMP_LENGTH: usize = 7;
+
+pub const IMMEDIATE_SERVER_VERSION_LENGTH: usize = 4;
+
+// The greatest numbers that a record holds of flags, of a byte of the uuid, and of a server version.
+pub const MOST_OF_BYTE: u64 = 0xff;
+
+pub const MOST_OF_VERSION: u64 = 0xffff_ffff;
 
 // A GTID event. The tag stands in the first tag_len bytes of its field; 0 is no tag. Typecode 0 is none.
 pub struct GtidEvent {

@@ -1,5 +1,5 @@
 -- Laws of the fields (`specs/Fields.antt`), in the form in which the functions over one field and over all of them use them.
-use mathlib.Core.Path.{_≡_, refl, ap, _∙_}
+use mathlib.Core.Path.{_≡_, refl, sym, ap, subst, _∙_}
 use mathlib.Core.Bool.{true, false}
 use mathlib.Core.List.{List, [], _++_, append-assoc, append-nil}
 use Prim.Native.Nat.{ℕ, zero, suc, _+_, _-_, _≤_, _<_}
@@ -100,8 +100,8 @@ answered o is told = rw is told
 
 -- ---- which field: k is the id of one that the table has
 pub at-id : (s : List ℕ) (last : ℕ) (f : Fields) (at id k : ℕ) → id ≡ k → {r : ℕ} {g : Fields} {next : ℕ}
-    → Told (valueAt (kindOf k) last k s f at) r g next → Told (valueAt (kindOf id) last id s f at) r g next
-at-id s last f at id k e told = rw e told
+    → Told (valueAt (kindOf k) last id s f at) r g next → Told (valueAt (kindOf id) last id s f at) r g next
+at-id s last f at id k e {r} {g} {next} told = subst (λ (n : ℕ). Told (valueAt (kindOf n) last id s f at) r g next) (sym e) told
 
 -- an id that is none of the n lowest
 abbrev Passed : ℕ → ℕ → Type 0

@@ -9,7 +9,10 @@ ghost use Rattle.misc.specs.Varlen.{varlenAt};
 ghost use Rattle.gtid_event_read.specs.Fields.{kindOf, noFields, withNumber, withUuid, withTagBytes, limitedAt, uuidAt, tagAt, valueAt, fieldAt, fieldsOf};
 ghost use Rattle.gtid_event_read.specs.Told.{Told, ToldPart};
 use crate::Fields;
+use gtid_event::MOST_OF_BYTE;
+use gtid_event::MOST_OF_VERSION;
 use gtid_event::UNDEFINED_SERVER_VERSION;
+use gtid_event::field_id;
 use misc::ReadUint;
 use misc::bytes::left_at;
 use misc::refusal::BAD_TAG;
@@ -41,7 +44,8 @@ pub(crate) struct StringRead {
     pub end: usize,
 }
 
-// An integer that is at most `limit`.
+// An integer that is at most `limit`: the greatest that the part of the record holds which keeps it. What a success tells (`limitedAt`
+// judges every value that it gives) makes the casts into that part exact: of a uuid's bytes here, of flags and versions in `record_of`.
 fn read_limited(s: &[u8], at: usize, limit: u64) -> ReadUint
     ensures { λ r. ⌜ Told (limitedAt limit (now (s .entry)) at) (r .refusal) (r .value) (r .next) ⌝ }
 {
@@ -64,7 +68,7 @@ fn read_serialized_uuid(s: &[u8], at: usize) -> UuidRead
     let mut next = at;
     let mut i = 0;
     while i < 16 {
-        let byte = read_limited(s, next, 255);
+        let byte = read_limited(s, next, MOST_OF_BYTE);
         if byte.refusal != 0 {
             return UuidRead {
                 refusal: byte.refusal,
@@ -115,14 +119,14 @@ impl Fields {
     fn none() -> Self
         ensures { λ r. ⌜ r ≡ noFields ⌝ }
     {
-        let mut numbers = [0u64; 12];
-        numbers[9] = UNDEFINED_SERVER_VERSION as u64;
+        let mut numbers = [0u64; field_id::FIELDS];
+        numbers[field_id::IMMEDIATE_SERVER_VERSION] = UNDEFINED_SERVER_VERSION as u64;
         Self {
             numbers,
             sid: [0u8; 16],
             tag: [0u8; 32],
             tag_len: 0,
-            present: [false; 12],
+            present: [false; field_id::FIELDS],
         }
     }
 
@@ -145,7 +149,7 @@ impl Fields {
     {
         let uuid = read.uuid;
         self.sid = uuid;
-        self.present[1] = true;
+        self.present[field_id::SID] = true;
         FieldsRead {
             refusal: read.refusal,
             fields: self,
@@ -168,7 +172,7 @@ impl Fields {
             let bytes = tag_bytes(tag);
             self.tag = bytes;
             self.tag_len = tag.len() as u8;
-            self.present[3] = true;
+            self.present[field_id::TAG] = true;
             return FieldsRead {
                 refusal: 0,
                 fields: self,
@@ -204,8 +208,7 @@ impl Fields {
     }
 }
 
-// The value of the field `id`: 0 flags, 1 uuid, 2 gno, 3 tag, 4 last_committed, 5 sequence_number, 6 and 7 immediate and
-// original timestamp, 8 transaction length, 9 and 10 immediate and original server version, 11 ticket.
+// The value of the field `id`.
 fn read_value(
     s: &[u8],
     last_non_ignorable_field_id: u64,
@@ -215,19 +218,20 @@ fn read_value(
 ) -> FieldsRead
     ensures { λ r. ⌜ Told (valueAt (kindOf id) «last_non_ignorable_field_id» id (now (s .entry)) f at) (r .refusal) (r .fields) (r .next) ⌝ }
 {
-    match id {
-        0 => f.number(0, read_limited(s, at, 0xff)),
-        1 => f.uuid(read_serialized_uuid(s, at)),
-        2 => f.number(2, read_varlen_natural(s, at)),
-        3 => f.tag(s, at),
-        4 => f.number(4, read_varlen_natural(s, at)),
-        5 => f.number(5, read_varlen_natural(s, at)),
-        6 => f.number(6, read_varlen_uint(s, at)),
-        7 => f.number(7, read_varlen_uint(s, at)),
-        8 => f.number(8, read_varlen_uint(s, at)),
-        9 => f.number(9, read_limited(s, at, 0xffff_ffff)),
-        10 => f.number(10, read_limited(s, at, 0xffff_ffff)),
-        11 => f.number(11, read_varlen_uint(s, at)),
+    let field = id as usize;
+    match field {
+        field_id::GTID_FLAGS => f.number(field, read_limited(s, at, MOST_OF_BYTE)),
+        field_id::SID => f.uuid(read_serialized_uuid(s, at)),
+        field_id::GNO => f.number(field, read_varlen_natural(s, at)),
+        field_id::TAG => f.tag(s, at),
+        field_id::LAST_COMMITTED => f.number(field, read_varlen_natural(s, at)),
+        field_id::SEQUENCE_NUMBER => f.number(field, read_varlen_natural(s, at)),
+        field_id::IMMEDIATE_COMMIT_TIMESTAMP => f.number(field, read_varlen_uint(s, at)),
+        field_id::ORIGINAL_COMMIT_TIMESTAMP => f.number(field, read_varlen_uint(s, at)),
+        field_id::TRANSACTION_LENGTH => f.number(field, read_varlen_uint(s, at)),
+        field_id::IMMEDIATE_SERVER_VERSION => f.number(field, read_limited(s, at, MOST_OF_VERSION)),
+        field_id::ORIGINAL_SERVER_VERSION => f.number(field, read_limited(s, at, MOST_OF_VERSION)),
+        field_id::COMMIT_GROUP_TICKET => f.number(field, read_varlen_uint(s, at)),
         _ => f.unknown(id, last_non_ignorable_field_id, s.len()),
     }
 }

@@ -7,6 +7,7 @@ use gtid_event::ANONYMOUS_GTID_EVENT;
 use gtid_event::GTID_EVENT;
 use gtid_event::GTID_TAGGED_LOG_EVENT;
 use gtid_event::GtidEvent;
+use gtid_event::field_id;
 use misc::MAX_BODY;
 use misc::refusal::ABSENT_ID;
 use misc::refusal::TOO_LONG;
@@ -28,11 +29,11 @@ pub struct GtidRead {
 // The fields of a tagged event that were read so far: the numbers by the ids of their fields, the uuid and the tag, and which
 // of the twelve fields were there.
 pub struct Fields {
-    pub numbers: [u64; 12],
+    pub numbers: [u64; field_id::FIELDS],
     pub sid: [u8; 16],
     pub tag: [u8; 32],
     pub tag_len: u8,
-    pub present: [bool; 12],
+    pub present: [bool; field_id::FIELDS],
 }
 
 impl GtidRead {

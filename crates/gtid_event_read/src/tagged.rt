@@ -10,13 +10,13 @@ use crate::Fields;
 use crate::GtidRead;
 use crate::field::read_fields;
 use gtid_event::GtidEvent;
+use gtid_event::TAGGED_SERIALIZATION_VERSION_V2;
+use gtid_event::field_id;
 use misc::refusal::ENDED;
 use misc::refusal::NO_TAG;
 use misc::refusal::SMALL_PAYLOAD;
 use misc::refusal::WRONG_VERSION;
 use misc::varlen::read_varlen_uint;
-
-const TAGGED_SERIALIZATION_VERSION_V2: u8 = 2;
 
 // The original where it was sent, otherwise the immediate.
 fn sent_or(sent: bool, original: u64, immediate: u64) -> u64
@@ -35,29 +35,37 @@ fn record_of(f: Fields) -> GtidEvent
     let tag = f.tag;
     let present = f.present;
     GtidEvent {
-        flags: numbers[0] as u8,
+        flags: numbers[field_id::GTID_FLAGS] as u8,
         sid,
-        gno: numbers[2],
+        gno: numbers[field_id::GNO],
         tag,
         tag_len: f.tag_len,
         lc_typecode: 0,
-        last_committed: numbers[4],
-        sequence_number: numbers[5],
-        immediate_commit_timestamp: numbers[6],
-        original_commit_timestamp: sent_or(present[7], numbers[7], numbers[6]),
-        tx_length: numbers[8],
-        immediate_server_version: numbers[9] as u32,
-        original_server_version: sent_or(present[10], numbers[10], numbers[9]) as u32,
-        commit_group_ticket: numbers[11],
+        last_committed: numbers[field_id::LAST_COMMITTED],
+        sequence_number: numbers[field_id::SEQUENCE_NUMBER],
+        immediate_commit_timestamp: numbers[field_id::IMMEDIATE_COMMIT_TIMESTAMP],
+        original_commit_timestamp: sent_or(
+            present[field_id::ORIGINAL_COMMIT_TIMESTAMP],
+            numbers[field_id::ORIGINAL_COMMIT_TIMESTAMP],
+            numbers[field_id::IMMEDIATE_COMMIT_TIMESTAMP],
+        ),
+        tx_length: numbers[field_id::TRANSACTION_LENGTH],
+        immediate_server_version: numbers[field_id::IMMEDIATE_SERVER_VERSION] as u32,
+        original_server_version: sent_or(
+            present[field_id::ORIGINAL_SERVER_VERSION],
+            numbers[field_id::ORIGINAL_SERVER_VERSION],
+            numbers[field_id::IMMEDIATE_SERVER_VERSION],
+        ) as u32,
+        commit_group_ticket: numbers[field_id::COMMIT_GROUP_TICKET],
     }
 }
 
 // Which fields were there, from the last on: bit k tells of the field with the id k.
-fn bits_of(present: [bool; 12]) -> u16
+fn bits_of(present: [bool; field_id::FIELDS]) -> u16
     ensures { λ r. ⌜ r ≡ bitsOf present ⌝ }
 {
     let mut bits: u16 = 0;
-    let mut left = 12;
+    let mut left = field_id::FIELDS;
     while 0 < left {
         left -= 1;
         bits = 2 * bits + present[left] as u16;
@@ -71,7 +79,7 @@ fn finished(f: Fields, used: usize) -> GtidRead
     ensures { λ r. ⌜ r ≡ gtidRead (finished used (parsed f 0)) ⌝ }
 {
     let present = f.present;
-    if present[3] {
+    if present[field_id::TAG] {
         return GtidRead {
             refusal: 0,
             used,

@@ -6,7 +6,10 @@ ghost use Rattle.gtid_event_read.specs.Untagged.{pair, timestampsAt, len
 ghost use Rattle.gtid_event_read.specs.Read.{untaggedRead};
 ghost use Rattle.gtid_event_read.specs.Told.{Told, openedIn, laterAt};
 use crate::GtidRead;
+use gtid_event::ENCODED_SID_LENGTH;
 use gtid_event::GtidEvent;
+use gtid_event::IMMEDIATE_COMMIT_TIMESTAMP_LENGTH;
+use gtid_event::IMMEDIATE_SERVER_VERSION_LENGTH;
 use gtid_event::LOGICAL_TIMESTAMP_TYPECODE;
 use gtid_event::UNDEFINED_SERVER_VERSION;
 use misc::ReadUint;
@@ -23,11 +26,7 @@ use misc::refusal::ENDED;
 use packets::uuid_bytes;
 
 // Flags, uuid and gno.
-const OPENING_LENGTH: usize = 25;
-
-const IMMEDIATE_COMMIT_TIMESTAMP_LENGTH: usize = 7;
-
-const IMMEDIATE_SERVER_VERSION_LENGTH: usize = 4;
+const OPENING_LENGTH: usize = 1 + ENCODED_SID_LENGTH + 8;
 
 // The immediate and the original commit timestamp.
 pub(crate) struct Timestamps {

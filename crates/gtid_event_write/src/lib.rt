@@ -1,5 +1,4 @@
 // Writing a GTID record, and its length.
-mod field_id;
 mod put;
 pub mod size;
 mod tagged;

@@ -7,7 +7,7 @@ ghost use Rattle.gtid_event_write.specs.Layout.{numberBytes, unlessBytes
 use misc::put::put_byte;
 use misc::put::put_varlen_uint;
 
-// An integer below 128, as ids are: one byte.
+// An integer below 128: one byte.
 pub(crate) fn put_small(value: u8, out: &mut [u8], at: usize) -> usize
     requires { ⌜ value < 128 ⌝ }
     ensures { λ r. ⌜ WhereFits (now (out .entry)) at (varlenBytes value) (now (out .exit)) r ⌝ }
@@ -26,17 +26,25 @@ pub(crate) fn put_item(b: u8, out: &mut [u8], at: usize) -> usize
     put_byte(b / 64, out, after_low)
 }
 
+// The id of a field.
+pub(crate) fn put_id(id: usize, out: &mut [u8], at: usize) -> usize
+    requires { ⌜ id < 128 ⌝ }
+    ensures { λ r. ⌜ WhereFits (now (out .entry)) at (varlenBytes id) (now (out .exit)) r ⌝ }
+{
+    put_small(id as u8, out, at)
+}
+
 // A field: its id, and its value.
-pub(crate) fn put_number(id: u8, value: u64, out: &mut [u8], at: usize) -> usize
+pub(crate) fn put_number(id: usize, value: u64, out: &mut [u8], at: usize) -> usize
     requires { ⌜ id < 128 ⌝ }
     ensures { λ r. ⌜ WhereFits (now (out .entry)) at (numberBytes id value) (now (out .exit)) r ⌝ }
 {
-    let after_id = put_small(id, out, at);
+    let after_id = put_id(id, out, at);
     put_varlen_uint(value, out, after_id)
 }
 
 // A field that is left out where its value is the one that the reader assumes.
-pub(crate) fn put_unless(id: u8, value: u64, assumed: u64, out: &mut [u8], at: usize) -> usize
+pub(crate) fn put_unless(id: usize, value: u64, assumed: u64, out: &mut [u8], at: usize) -> usize
     requires { ⌜ id < 128 ⌝ }
     ensures { λ r. ⌜ WhereFits (now (out .entry)) at (unlessBytes id value assumed) (now (out .exit)) r ⌝ }
 {

@@ -8,7 +8,7 @@ ghost use Rattle.misc.specs.Output.{bytes, outputOf, answerOf, Placed, WhereFit
 ghost use Rattle.misc.specs.Varlen.{varlenBytes};
 ghost use Rattle.gtid_event_write.specs.Layout.{identityBytes, clockBytes, restBytes, fieldBytes, taggedBytes};
 ghost use Rattle.gtid_event_write.specs.Writable.{writableTagged};
-use crate::field_id;
+use crate::put::put_id;
 use crate::put::put_item;
 use crate::put::put_number;
 use crate::put::put_serialized_uuid;
@@ -16,13 +16,13 @@ use crate::put::put_small;
 use crate::put::put_unless;
 use crate::size::record_size;
 use gtid_event::GtidEvent;
+use gtid_event::TAGGED_SERIALIZATION_VERSION_V2;
+use gtid_event::field_id;
 use misc::Wrote;
 use misc::put::put_byte;
 use misc::put::put_bytes;
 use misc::put::put_sized;
 use misc::refusal::NO_ROOM;
-
-const TAGGED_SERIALIZATION_VERSION_V2: u8 = 2;
 
 // The server marks all fields as ignorable.
 const LAST_NON_IGNORABLE_FIELD_ID: u8 = 0;
@@ -37,7 +37,7 @@ fn put_tag(tag: [u8; 32], tag_len: u8, out: &mut [u8], at: usize) -> usize
     ensures { λ r. ⌜ WhereFits (now (out .entry)) at (varlenBytes 3 ++ varlenBytes «tag_len» ++ take «tag_len» tag) (now (out .exit)) r ⌝ }
 {
     let len = tag_len as usize;
-    let after_id = put_small(field_id::TAG, out, at);
+    let after_id = put_id(field_id::TAG, out, at);
     put_sized(&tag[..len], out, after_id)
 }
 
@@ -48,9 +48,9 @@ fn put_identity(event: GtidEvent, out: &mut [u8], at: usize) -> usize
 {
     let sid = event.sid;
     let tag = event.tag;
-    let after_flags_id = put_small(field_id::GTID_FLAGS, out, at);
+    let after_flags_id = put_id(field_id::GTID_FLAGS, out, at);
     let after_flags = put_item(event.flags, out, after_flags_id);
-    let after_sid_id = put_small(field_id::SID, out, after_flags);
+    let after_sid_id = put_id(field_id::SID, out, after_flags);
     let after_sid = put_serialized_uuid(sid, out, after_sid_id);
     let after_gno = put_number(field_id::GNO, event.gno * 2, out, after_sid);
     put_tag(tag, event.tag_len, out, after_gno)

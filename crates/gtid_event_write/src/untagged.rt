@@ -6,7 +6,10 @@ ghost use lib.ListN.{length};
 ghost use Rattle.misc.specs.Output.{bytes, outputOf, answerOf, WhereFits};
 ghost use Rattle.gtid_event_write.specs.Writable.{writableUntagged};
 ghost use Rattle.gtid_event_write.specs.Layout.{pairBytes, openingBytes, laterBytes, untaggedBytes};
+use gtid_event::ENCODED_SID_LENGTH;
 use gtid_event::GtidEvent;
+use gtid_event::IMMEDIATE_COMMIT_TIMESTAMP_LENGTH;
+use gtid_event::IMMEDIATE_SERVER_VERSION_LENGTH;
 use gtid_event::LOGICAL_TIMESTAMP_TYPECODE;
 use misc::Wrote;
 use misc::lenenc::lenenc_int_len;
@@ -17,12 +20,6 @@ use misc::put::put_u32_le;
 use misc::put::put_u56_le;
 use misc::put::put_u64_le;
 use misc::refusal::NO_ROOM;
-
-const ENCODED_SID_LENGTH: usize = 16;
-
-const IMMEDIATE_COMMIT_TIMESTAMP_LENGTH: usize = 7;
-
-const IMMEDIATE_SERVER_VERSION_LENGTH: usize = 4;
 
 fn put_timestamps(immediate: u64, original: u64, out: &mut [u8], at: usize) -> usize
     requires { ⌜ immediate < 2 ^ 55 ⌝ }

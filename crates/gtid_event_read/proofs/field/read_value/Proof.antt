@@ -84,17 +84,20 @@ unknown-requires c κs = search needs
 returns : tie.Need-returns
 returns c =
     let a = c .before .before .before .before .args in
-    at-id (a .s .now) (a .last-non-ignorable-field-id) (a .f) (a .at) (a .id) 0 (c .before .before .match .keys1) (answered _ (c .number .ensures) (maps (c .before .read-limited .ensures) (withNumber 0 (a .f))))
+    at-id (a .s .now) (a .last-non-ignorable-field-id) (a .f) (a .at) (a .id) 0 (c .before .before .match .keys1)
+    (answered _ (c .number .ensures) (maps (c .before .read-limited .ensures) (withNumber (a .id) (a .f))))
 
 returns-2 : tie.Need-returns-2
 returns-2 c =
     let a = c .before .before .before .before .args in
-    at-id (a .s .now) (a .last-non-ignorable-field-id) (a .f) (a .at) (a .id) 1 (c .before .before .match .keys2) (answered _ (c .uuid .ensures) (maps (c .before .read-serialized-uuid .ensures) (withUuid (a .f))))
+    at-id (a .s .now) (a .last-non-ignorable-field-id) (a .f) (a .at) (a .id) 1 (c .before .before .match .keys2)
+    (answered _ (c .uuid .ensures) (maps (c .before .read-serialized-uuid .ensures) (withUuid (a .f))))
 
 returns-3 : tie.Need-returns-3
 returns-3 c =
     let a = c .before .before .before .before .args in
-    at-id (a .s .now) (a .last-non-ignorable-field-id) (a .f) (a .at) (a .id) 2 (c .before .before .match .keys3) (answered _ (c .number2 .ensures) (maps (uint (naturalAt (a .s .now) (a .at)) (c .before .read-varlen-natural .ensures)) (withNumber 2 (a .f))))
+    at-id (a .s .now) (a .last-non-ignorable-field-id) (a .f) (a .at) (a .id) 2 (c .before .before .match .keys3)
+    (answered _ (c .number2 .ensures) (maps (uint (naturalAt (a .s .now) (a .at)) (c .before .read-varlen-natural .ensures)) (withNumber (a .id) (a .f))))
 
 returns-4 : tie.Need-returns-4
 returns-4 c =
@@ -104,42 +107,50 @@ returns-4 c =
 returns-5 : tie.Need-returns-5
 returns-5 c =
     let a = c .before .before .before .before .args in
-    at-id (a .s .now) (a .last-non-ignorable-field-id) (a .f) (a .at) (a .id) 4 (c .before .before .match .keys5) (answered _ (c .number3 .ensures) (maps (uint (naturalAt (a .s .now) (a .at)) (c .before .read-varlen-natural2 .ensures)) (withNumber 4 (a .f))))
+    at-id (a .s .now) (a .last-non-ignorable-field-id) (a .f) (a .at) (a .id) 4 (c .before .before .match .keys5)
+    (answered _ (c .number3 .ensures) (maps (uint (naturalAt (a .s .now) (a .at)) (c .before .read-varlen-natural2 .ensures)) (withNumber (a .id) (a .f))))
 
 returns-6 : tie.Need-returns-6
 returns-6 c =
     let a = c .before .before .before .before .args in
-    at-id (a .s .now) (a .last-non-ignorable-field-id) (a .f) (a .at) (a .id) 5 (c .before .before .match .keys6) (answered _ (c .number4 .ensures) (maps (uint (naturalAt (a .s .now) (a .at)) (c .before .read-varlen-natural3 .ensures)) (withNumber 5 (a .f))))
+    at-id (a .s .now) (a .last-non-ignorable-field-id) (a .f) (a .at) (a .id) 5 (c .before .before .match .keys6)
+    (answered _ (c .number4 .ensures) (maps (uint (naturalAt (a .s .now) (a .at)) (c .before .read-varlen-natural3 .ensures)) (withNumber (a .id) (a .f))))
 
 returns-7 : tie.Need-returns-7
 returns-7 c =
     let a = c .before .before .before .before .args in
-    at-id (a .s .now) (a .last-non-ignorable-field-id) (a .f) (a .at) (a .id) 6 (c .before .before .match .keys7) (answered _ (c .number5 .ensures) (maps (uint (varlenAt (a .s .now) (a .at)) (c .before .read-varlen-uint .ensures)) (withNumber 6 (a .f))))
+    at-id (a .s .now) (a .last-non-ignorable-field-id) (a .f) (a .at) (a .id) 6 (c .before .before .match .keys7)
+    (answered _ (c .number5 .ensures) (maps (uint (varlenAt (a .s .now) (a .at)) (c .before .read-varlen-uint .ensures)) (withNumber (a .id) (a .f))))
 
 returns-8 : tie.Need-returns-8
 returns-8 c =
     let a = c .before .before .before .before .args in
-    at-id (a .s .now) (a .last-non-ignorable-field-id) (a .f) (a .at) (a .id) 7 (c .before .before .match .keys8) (answered _ (c .number6 .ensures) (maps (uint (varlenAt (a .s .now) (a .at)) (c .before .read-varlen-uint2 .ensures)) (withNumber 7 (a .f))))
+    at-id (a .s .now) (a .last-non-ignorable-field-id) (a .f) (a .at) (a .id) 7 (c .before .before .match .keys8)
+    (answered _ (c .number6 .ensures) (maps (uint (varlenAt (a .s .now) (a .at)) (c .before .read-varlen-uint2 .ensures)) (withNumber (a .id) (a .f))))
 
 returns-9 : tie.Need-returns-9
 returns-9 c =
     let a = c .before .before .before .before .args in
-    at-id (a .s .now) (a .last-non-ignorable-field-id) (a .f) (a .at) (a .id) 8 (c .before .before .match .keys9) (answered _ (c .number7 .ensures) (maps (uint (varlenAt (a .s .now) (a .at)) (c .before .read-varlen-uint3 .ensures)) (withNumber 8 (a .f))))
+    at-id (a .s .now) (a .last-non-ignorable-field-id) (a .f) (a .at) (a .id) 8 (c .before .before .match .keys9)
+    (answered _ (c .number7 .ensures) (maps (uint (varlenAt (a .s .now) (a .at)) (c .before .read-varlen-uint3 .ensures)) (withNumber (a .id) (a .f))))
 
 returns-10 : tie.Need-returns-10
 returns-10 c =
     let a = c .before .before .before .before .args in
-    at-id (a .s .now) (a .last-non-ignorable-field-id) (a .f) (a .at) (a .id) 9 (c .before .before .match .keys10) (answered _ (c .number8 .ensures) (maps (c .before .read-limited2 .ensures) (withNumber 9 (a .f))))
+    at-id (a .s .now) (a .last-non-ignorable-field-id) (a .f) (a .at) (a .id) 9 (c .before .before .match .keys10)
+    (answered _ (c .number8 .ensures) (maps (c .before .read-limited2 .ensures) (withNumber (a .id) (a .f))))
 
 returns-11 : tie.Need-returns-11
 returns-11 c =
     let a = c .before .before .before .before .args in
-    at-id (a .s .now) (a .last-non-ignorable-field-id) (a .f) (a .at) (a .id) 10 (c .before .before .match .keys11) (answered _ (c .number9 .ensures) (maps (c .before .read-limited3 .ensures) (withNumber 10 (a .f))))
+    at-id (a .s .now) (a .last-non-ignorable-field-id) (a .f) (a .at) (a .id) 10 (c .before .before .match .keys11)
+    (answered _ (c .number9 .ensures) (maps (c .before .read-limited3 .ensures) (withNumber (a .id) (a .f))))
 
 returns-12 : tie.Need-returns-12
 returns-12 c =
     let a = c .before .before .before .before .args in
-    at-id (a .s .now) (a .last-non-ignorable-field-id) (a .f) (a .at) (a .id) 11 (c .before .before .match .keys12) (answered _ (c .number10 .ensures) (maps (uint (varlenAt (a .s .now) (a .at)) (c .before .read-varlen-uint4 .ensures)) (withNumber 11 (a .f))))
+    at-id (a .s .now) (a .last-non-ignorable-field-id) (a .f) (a .at) (a .id) 11 (c .before .before .match .keys12)
+    (answered _ (c .number10 .ensures) (maps (uint (varlenAt (a .s .now) (a .at)) (c .before .read-varlen-uint4 .ensures)) (withNumber (a .id) (a .f))))
 
 returns-13 : tie.Need-returns-13
 returns-13 c = rw (no-kind _ (c .before .match .rest)) (c .unknown .ensures)

@@ -4,8 +4,8 @@ use borrow.Author.Needs.{needs}
 use Rattle.gtid_event_write.proofs.put.put_number.Statement.{statement}
 use Rattle.gtid_event_write.proofs.put.put_number.Tie as tie
 
-put-small-requires : tie.Need-put-small-requires
-put-small-requires c κs = search needs
+put-id-requires : tie.Need-put-id-requires
+put-id-requires c κs = search needs
 
 put-varlen-uint-requires : tie.Need-put-varlen-uint-requires
 put-varlen-uint-requires c κs = search needs
@@ -14,7 +14,7 @@ same-length : tie.Need-same-length
 same-length c = search needs
 
 returns : tie.Need-returns
-returns c = c .before .before .before .before .before .before .put-small .ensures also put-placed (c .before .before .put-varlen-uint .ensures)
+returns c = c .before .before .before .before .before .before .put-id .ensures also put-placed (c .before .before .put-varlen-uint .ensures)
 
 pub put-number-spec : {M : Type 1} → statement M
-put-number-spec = tie.close (tie.spec put-small-requires put-varlen-uint-requires same-length returns)
+put-number-spec = tie.close (tie.spec put-id-requires put-varlen-uint-requires same-length returns)

@@ -7,14 +7,14 @@ use borrow.Author.Needs.{needs}
 use Rattle.gtid_event_write.proofs.tagged.put_identity.Statement.{statement}
 use Rattle.gtid_event_write.proofs.tagged.put_identity.Tie as tie
 
-put-small-requires : tie.Need-put-small-requires
-put-small-requires c κs = search needs
+put-id-requires : tie.Need-put-id-requires
+put-id-requires c κs = search needs
 
 put-item-requires : tie.Need-put-item-requires
 put-item-requires c κs = search needs
 
-put-small-requires-2 : tie.Need-put-small-requires-2
-put-small-requires-2 c κs = search needs
+put-id-requires-2 : tie.Need-put-id-requires-2
+put-id-requires-2 c κs = search needs
 
 put-serialized-uuid-requires : tie.Need-put-serialized-uuid-requires
 put-serialized-uuid-requires c κs = search needs
@@ -34,9 +34,9 @@ same-length c = search needs
 returns : tie.Need-returns
 unfolding identityBytes
 returns c =
-    (c .before .before .before .before .before .before .before .before .before .before .before .before .before .before .before .before .before .before .before .before .before .before .before .put-small .ensures also c .before .before .before .before .before .before .before .before .before .before .before .before .before .before .before .before .before .before .before .put-item .ensures)
-    also (c .before .before .before .before .before .before .before .before .before .before .before .before .before .before .before .put-small2 .ensures also c .before .before .before .before .before .before .before .before .before .before .before .put-serialized-uuid .ensures)
+    (c .before .before .before .before .before .before .before .before .before .before .before .before .before .before .before .before .before .before .before .before .before .before .before .put-id .ensures also c .before .before .before .before .before .before .before .before .before .before .before .before .before .before .before .before .before .before .before .put-item .ensures)
+    also (c .before .before .before .before .before .before .before .before .before .before .before .before .before .before .before .put-id2 .ensures also c .before .before .before .before .before .before .before .before .before .before .before .put-serialized-uuid .ensures)
     also c .before .before .before .before .before .before .put-number .ensures also c .before .before .put-tag .ensures
 
 pub put-identity-spec : {M : Type 1} → statement M
-put-identity-spec = tie.close (tie.spec put-small-requires put-item-requires put-small-requires-2 put-serialized-uuid-requires mul-put-number put-number-requires put-tag-requires same-length returns)
+put-identity-spec = tie.close (tie.spec put-id-requires put-item-requires put-id-requires-2 put-serialized-uuid-requires mul-put-number put-number-requires put-tag-requires same-length returns)

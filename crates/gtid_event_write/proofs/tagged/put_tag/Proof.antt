@@ -15,8 +15,8 @@ use Rattle.gtid_event_write.proofs.tagged.put_tag.Tie as tie
 sized : (n : ℕ) (t : List ℕ) → length t ≡ n → varlenBytes 3 ++ (varlenBytes (length t) ++ t) ≡ varlenBytes 3 ++ varlenBytes n ++ t
 sized n t e = rw (e, append-assoc (varlenBytes 3) (varlenBytes n) t)
 
-put-small-requires : tie.Need-put-small-requires
-put-small-requires c κs = search needs
+put-id-requires : tie.Need-put-id-requires
+put-id-requires c κs = search needs
 
 array-share-prefix-tag : tie.Need-array-share-prefix-tag
 array-share-prefix-tag c = search needs
@@ -34,13 +34,13 @@ returns : tie.Need-returns
 returns c =
     let a = c .before .before .before .before .before .before .before .before .before .before .args in
     with-bytes (sized (a .tag-len) (take (a .tag-len) (a .t1)) (length-take-le _ _ (search needs)))
-    (c .before .before .before .before .before .before .before .put-small .ensures also put-placed (c .before .before .put-sized .ensures))
+    (c .before .before .before .before .before .before .before .put-id .ensures also put-placed (c .before .before .put-sized .ensures))
 
 pub put-tag-spec : {M : Type 1} → statement M
 put-tag-spec =
     tie.close
     (tie.spec
-    put-small-requires
+    put-id-requires
     array-share-prefix-tag
     slice-aggregate-put-sized
     put-sized-requires
