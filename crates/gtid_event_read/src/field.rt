@@ -9,6 +9,7 @@ ghost use Rattle.misc.specs.Varlen.{varlenAt};
 ghost use Rattle.gtid_event_read.specs.Fields.{kindOf, noFields, withNumber, withUuid, withTagBytes, limitedAt, uuidAt, tagAt, valueAt, fieldAt, fieldsOf};
 ghost use Rattle.gtid_event_read.specs.Told.{Told, ToldPart};
 use crate::Fields;
+use gtid_event::ENCODED_SID_LENGTH;
 use gtid_event::MOST_OF_BYTE;
 use gtid_event::MOST_OF_VERSION;
 use gtid_event::UNDEFINED_SERVER_VERSION;
@@ -67,7 +68,7 @@ fn read_serialized_uuid(s: &[u8], at: usize) -> UuidRead
     let mut uuid = [0u8; 16];
     let mut next = at;
     let mut i = 0;
-    while i < 16 {
+    while i < ENCODED_SID_LENGTH {
         let byte = read_limited(s, next, MOST_OF_BYTE);
         if byte.refusal != 0 {
             return UuidRead {

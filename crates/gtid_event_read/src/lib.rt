@@ -63,12 +63,12 @@ pub fn read(event_type: u8, body: &[u8]) -> GtidRead
     }
 }
 
-// Whether the uuid and the gno, fields 1 and 2, were sent, where an event of this type sends fields.
+// Whether the uuid and the gno were sent, where an event of this type sends fields.
 fn sends_id(event_type: u8, present: u16) -> bool
     ensures { λ r. ⌜ r ≡ tellsId «event_type» present ⌝ }
 {
     if event_type == GTID_TAGGED_LOG_EVENT {
-        return (present / 2 % 2 == 1) & (present / 4 % 2 == 1);
+        return ((present >> field_id::SID) % 2 == 1) & ((present >> field_id::GNO) % 2 == 1);
     }
     true
 }

@@ -26,7 +26,9 @@ use misc::refusal::ENDED;
 use packets::uuid_bytes;
 
 // Flags, uuid and gno.
-const OPENING_LENGTH: usize = 1 + ENCODED_SID_LENGTH + 8;
+const GNO_PLACE: usize = 1 + ENCODED_SID_LENGTH;
+
+const OPENING_LENGTH: usize = GNO_PLACE + 8;
 
 // The immediate and the original commit timestamp.
 pub(crate) struct Timestamps {
@@ -49,8 +51,8 @@ fn read_opening(s: &[u8]) -> GtidEvent
     requires { ⌜ 25 ≤ length (now s) ⌝ }
     ensures { λ r. ⌜ r ≡ openedIn (now (s .entry)) ⌝ }
 {
-    let sid = uuid_bytes(&s[1..17]);
-    let gno = read_u64_le(s, 17);
+    let sid = uuid_bytes(&s[1..GNO_PLACE]);
+    let gno = read_u64_le(s, GNO_PLACE);
     let mut event = GtidEvent::new(sid, gno.value);
     event.flags = s[0];
     event.lc_typecode = 0;

@@ -4,6 +4,7 @@ ghost use Prim.Native.Nat.{_<_};
 ghost use Rattle.misc.specs.Output.{WhereFits};
 ghost use Rattle.misc.specs.Varlen.{varlenBytes};
 ghost use Rattle.gtid_event_write.specs.Layout.{numberBytes, unlessBytes, itemsBytes};
+use gtid_event::ENCODED_SID_LENGTH;
 use misc::put::put_byte;
 use misc::put::put_varlen_uint;
 
@@ -60,7 +61,7 @@ pub(crate) fn put_serialized_uuid(sid: [u8; 16], out: &mut [u8], at: usize) -> u
 {
     let mut next = at;
     let mut i = 0;
-    while i < 16 {
+    while i < ENCODED_SID_LENGTH {
         next = put_item(sid[i], out, next);
         i += 1;
     }

@@ -6,6 +6,8 @@ ghost use lib.ListN.{length};
 ghost use Rattle.misc.specs.Output.{bytes, outputOf, answerOf, WhereFits};
 ghost use Rattle.gtid_event_write.specs.Writable.{writableUntagged};
 ghost use Rattle.gtid_event_write.specs.Layout.{pairBytes, openingBytes, laterBytes, untaggedBytes};
+use crate::writable::TIMESTAMP_FLAG;
+use crate::writable::VERSION_FLAG;
 use gtid_event::ENCODED_SID_LENGTH;
 use gtid_event::GtidEvent;
 use gtid_event::IMMEDIATE_COMMIT_TIMESTAMP_LENGTH;
@@ -28,7 +30,7 @@ fn put_timestamps(immediate: u64, original: u64, out: &mut [u8], at: usize) -> u
     if immediate == original {
         return put_u56_le(immediate, out, at);
     }
-    let immediate_with_flag = immediate | (1 << 55);
+    let immediate_with_flag = immediate | TIMESTAMP_FLAG;
     let after_immediate = put_u56_le(immediate_with_flag, out, at);
     put_u56_le(original, out, after_immediate)
 }
@@ -40,7 +42,7 @@ fn put_versions(immediate: u32, original: u32, out: &mut [u8], at: usize) -> usi
     if immediate == original {
         return put_u32_le(immediate, out, at);
     }
-    let immediate_with_flag = immediate | (1 << 31);
+    let immediate_with_flag = immediate | VERSION_FLAG;
     let after_immediate = put_u32_le(immediate_with_flag, out, at);
     put_u32_le(original, out, after_immediate)
 }

@@ -15,9 +15,9 @@ use packets::is_tag;
 const SIGNED_TOP: u64 = 1 << 63;
 
 // The bits that say in the untagged layout that an original follows; an immediate number is below its bit.
-const TIMESTAMP_FLAG: u64 = 1 << 55;
+pub(crate) const TIMESTAMP_FLAG: u64 = 1 << 55;
 
-const VERSION_FLAG: u32 = 1 << 31;
+pub(crate) const VERSION_FLAG: u32 = 1 << 31;
 
 // The first number that is too great for a timestamp's seven bytes.
 const TIMESTAMP_TOP: u64 = 1 << 56;
