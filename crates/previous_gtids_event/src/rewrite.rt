@@ -13,11 +13,11 @@ use misc::put::put_u64_le;
 use misc::refusal::NO_ROOM;
 use misc::varlen::varlen_uint_size;
 ghost use mathlib.Core.Path.{_≡_};
-ghost use Prim.Native.Nat.{_+_, _-_, _≤_};
+ghost use Prim.Native.Nat.{_+_, _-_, _*_, _≤_};
 ghost use lib.ListN.{length};
 ghost use Rattle.misc.specs.Pick.{pick};
 ghost use Rattle.misc.specs.Parse.{many, refusalOf};
-ghost use Rattle.misc.specs.Body.{usedOf};
+ghost use Rattle.misc.specs.Body.{bodyLimit, usedOf};
 ghost use Rattle.misc.specs.Output.{outputOf, answerOf, putAt, putEnd, WhereFits};
 ghost use Rattle.previous_gtids_event.specs.Previous.{entryAt, previous};
 ghost use Rattle.previous_gtids_event.specs.Rewrite.{tagBytes, headRun, headerBytes, rewritten};
@@ -37,9 +37,9 @@ fn refused_sizes(refusal: u8) -> Sizes
 
 // The first pass: the sizes of entries one after another, as many as are counted.
 fn sizes_at(body: &[u8], from: usize, tagged: bool, count: u64) -> Sizes
-    requires { ⌜ (from ≤ length (now body)) × (length (now body) ≤ 65536) ⌝ }
+    requires { ⌜ (from ≤ length (now body)) × (length (now body) ≤ bodyLimit) ⌝ }
     ensures { λ r. ⌜ r ≡ sizesOf (many (entryAt tagged (now (body .entry))) count from) ⌝ }
-    ensures { λ r. ⌜ (r .entries ≤ 65536) × (r .plain ≤ 65536) × (r .full ≤ 131072) ⌝ }
+    ensures { λ r. ⌜ (r .entries ≤ bodyLimit) × (r .plain ≤ bodyLimit) × (r .full ≤ 2 * bodyLimit) ⌝ }
 {
     let mut at = from;
     let mut done: u64 = 0;
@@ -178,7 +178,7 @@ pub fn put_header(count: u64, tagged: bool, out: &mut [u8], at: usize) -> usize
 
 // The length of a body whose entries have these sizes.
 fn body_len(tags: bool, plain: usize, full: usize) -> usize
-    requires { ⌜ (plain ≤ 65536) × (full ≤ 131072) ⌝ }
+    requires { ⌜ (plain ≤ bodyLimit) × (full ≤ 2 * bodyLimit) ⌝ }
     ensures { λ r. ⌜ r ≡ 8 + pick tags full plain ⌝ }
 {
     if tags {
@@ -188,7 +188,7 @@ fn body_len(tags: bool, plain: usize, full: usize) -> usize
 }
 
 fn rewrite_entries(body: &[u8], tagged: bool, count: u64, out: &mut [u8]) -> Wrote
-    requires { ⌜ (8 ≤ length (now body)) × (length (now body) ≤ 65536) ⌝ }
+    requires { ⌜ (8 ≤ length (now body)) × (length (now body) ≤ bodyLimit) ⌝ }
     ensures { λ r. ⌜ r ≡ answerOf (now (out .entry)) (rewritten (many (entryAt tagged (now (body .entry))) count 8)) ⌝ }
     ensures { λ _. ⌜ now (out .exit) ≡ outputOf (now (out .entry)) (rewritten (many (entryAt tagged (now (body .entry))) count 8)) ⌝ }
 {

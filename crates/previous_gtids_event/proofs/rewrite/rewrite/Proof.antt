@@ -1,5 +1,7 @@
 -- `previous_gtids_event::rewrite::rewrite` meets its contract.
 use denote.Ref.{now}
+use native.Mathlib.Omega.{arith}
+use Rattle.misc.proofs.BodyLaws.{bodyLimit-is}
 use Rattle.previous_gtids_event.proofs.Rewriting.{rewrite-refused}
 use Rattle.previous_gtids_event.proofs.Reading.{headless, headed}
 use borrow.Author.Needs.{needs}
@@ -17,7 +19,7 @@ returns c =
 rewrite-entries-requires : tie.Need-rewrite-entries-requires
 rewrite-entries-requires c κs =
     let (_, some, small) = headed (now (c .before .before .before .before .before .args .body)) _ (c .before .before .header-of .ensures) (c .before .if1 .left) in
-    (some, small)
+    (some, omega (arith, bodyLimit-is))
 
 same-length : tie.Need-same-length
 same-length c = search needs
