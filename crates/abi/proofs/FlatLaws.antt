@@ -137,4 +137,6 @@ pub write-told : (s out after : List ℕ) (e : GtidEvent) (w : Wrote) → length
     → (w ≡ answerOf out (eventOutput e)) × (after ≡ outputOf out (eventOutput e))
     → (w .refusal ≡ answerOf out (writeOutput s) .refusal) × ((w .len ≡ answerOf out (writeOutput s) .len) × (after ≡ outputOf out (writeOutput s)))
 unfolding writeOutput
-write-told s out after e w whole is told = rw (eq-eqb (length s) 116 whole, ← is) (wrote-parts w (answerOf out (eventOutput e)) after (outputOf out (eventOutput e)) told)
+write-told s out after e w whole is told =
+    rw (eq-eqb (length s) 116 whole, ← is)
+    (wrote-parts w (answerOf out (eventOutput e)) after (outputOf out (eventOutput e)) told)

@@ -13,6 +13,9 @@ use Rattle.gtid_event_read.specs.Seen.{Seen, bitsOf}
 use Rattle.gtid_event_write.specs.Write.{eventOutput}
 use Rattle.abi.specs.Answers.{bit}
 
+abbrev pub recordSize : ℕ
+recordSize = 116
+
 -- ---- the bytes of a record
 
 -- flags, uuid, gno, how long the tag is, the tag's field
@@ -79,13 +82,13 @@ readOutput (parsed e next) = bytes (flat e)
 -- how many bytes of the body were used, where there is room for the record; else how much room is needed
 abbrev pub readUsed : Parse GtidEvent → ℕ → ℕ
 readUsed (refuse r) room = 0
-readUsed (parsed e next) room = pick (leb 116 room) next 116
+readUsed (parsed e next) room = pick (leb recordSize room) next recordSize
 
 -- which fields were there, where there is room for the record
 abbrev pub readPresent : Parse Seen → ℕ → ℕ
 readPresent (refuse r) room = 0
-readPresent (parsed x next) room = pick (leb 116 room) (bitsOf (x .present)) 0
+readPresent (parsed x next) room = pick (leb recordSize room) (bitsOf (x .present)) 0
 
 -- the event that a record is written as
 unfoldable pub writeOutput : List ℕ → Output
-writeOutput s = pick (eqb (length s) 116) (eventOutput (flatRead s)) (refused notWritable)
+writeOutput s = pick (eqb (length s) recordSize) (eventOutput (flatRead s)) (refused notWritable)

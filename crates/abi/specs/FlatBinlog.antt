@@ -20,6 +20,9 @@ use Rattle.abi.specs.Answers.{bit}
 use Rattle.abi.specs.declared.flat_binlog.PhaseNumbers.{PhaseNumbers}
 use Rattle.abi.specs.declared.flat_binlog.SaidNumbers.{SaidNumbers}
 
+abbrev pub readerSize : ℕ
+readerSize = 48
+
 -- ---- as numbers
 
 -- where the reader is: the kind of place; the event's type, or the refusal's number; how many bytes are to come; how many have come, or what 13 names
@@ -84,7 +87,7 @@ readerIn bs = record {
 -- ---- what the calls answer and leave
 
 abbrev pub isReader : List ℕ → Bool
-isReader bs = eqb (length bs) 48
+isReader bs = eqb (length bs) readerSize
 
 -- the refusal of what is said; 12 where the bytes are no reader
 unfoldable pub flatSays : List ℕ → Answer → ℕ

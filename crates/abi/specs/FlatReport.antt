@@ -17,6 +17,12 @@ use Rattle.report.specs.declared.Counts.{Counts}
 use Rattle.report.specs.declared.Report.{Report}
 use Rattle.abi.specs.Flat.{fourAt}
 
+abbrev pub lineSize : ℕ
+lineSize = 21
+
+abbrev pub reportSize : ℕ
+reportSize = 1352
+
 -- the refusal, entries, intervals, and the high and the low word of the ids
 unfoldable pub flatLine : Line → List ℕ
 flatLine l = (l .refusal ∷ []) ++ leBytes 4 (l .entries) ++ leBytes 4 (l .intervals) ++ leBytes 4 (l .high) ++ leBytes 8 (l .low)
@@ -30,7 +36,7 @@ lineIn s = record { refusal = getD s 0 0; entries = fourAt s 1; intervals = four
 -- n lines from a place on
 abbrev pub linesAt : ℕ → List ℕ → ℕ → List Line
 linesAt zero bs at = []
-linesAt (suc n) bs at = lineIn (part bs at 21) ∷ linesAt n bs (at + 21)
+linesAt (suc n) bs at = lineIn (part bs at lineSize) ∷ linesAt n bs (at + lineSize)
 
 unfoldable pub reportIn : List ℕ → Report
 reportIn bs = record { sets = numberAt bs 0; lines = linesAt 64 bs 8 }
@@ -39,7 +45,7 @@ reportIn bs = record { sets = numberAt bs 0; lines = linesAt 64 bs 8 }
 
 -- whether bytes are a report
 abbrev pub isReport : List ℕ → Bool
-isReport bs = eqb (length bs) 1352
+isReport bs = eqb (length bs) reportSize
 
 -- the line of a set that is added
 unfoldable pub flatAdds : List ℕ → List ℕ → Line
@@ -47,7 +53,7 @@ flatAdds bs set = pick (isReport bs) (added (reportIn bs) set .line) (refusedLin
 
 -- a line behind those that are there, and one set more
 abbrev pub withLineIn : List ℕ → Line → List ℕ
-withLineIn bs l = written (written bs (8 + 21 * numberAt bs 0) (flatLine l)) 0 (leBytes 8 (numberAt bs 0 + 1))
+withLineIn bs l = written (written bs (8 + lineSize * numberAt bs 0) (flatLine l)) 0 (leBytes 8 (numberAt bs 0 + 1))
 
 -- so the bytes are afterwards, where they are a report with a place for it (`adds-alike` of proofs/FlatReportBack.antt: they are the report with this set)
 unfoldable pub flatLeaves : List ℕ → List ℕ → List ℕ

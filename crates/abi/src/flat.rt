@@ -11,10 +11,7 @@ use packets::uuid_bytes;
 ghost use mathlib.Core.Path.{_≡_};
 ghost use lib.ListN.{length};
 ghost use Rattle.misc.specs.Output.{WhereFits};
-ghost use Rattle.abi.specs.Flat.{flatIdentity, flatClock, flatRest, flat, fourAt, typecodeIf, flatRead};
-
-// How many bytes a record has.
-pub(crate) const SIZE: usize = 116;
+ghost use Rattle.abi.specs.Flat.{recordSize, flatIdentity, flatClock, flatRest, flat, fourAt, typecodeIf, flatRead};
 
 // ---- writing: each function hands back the place after what it wrote, and promises nothing where there is no room
 
@@ -77,7 +74,7 @@ fn typecode_if(there: u8, typecode: u8) -> u8
 }
 
 pub(crate) fn record_in(s: &[u8]) -> GtidEvent
-    requires { ⌜ length (now s) ≡ 116 ⌝ }
+    requires { ⌜ length (now s) ≡ recordSize ⌝ }
     ensures { λ r. ⌜ r ≡ flatRead (now (s .entry)) ⌝ }
 {
     GtidEvent {

@@ -10,10 +10,7 @@ use misc::put::put_u64_le;
 ghost use mathlib.Core.Path.{_≡_};
 ghost use lib.ListN.{length};
 ghost use Rattle.misc.specs.Output.{WhereFits};
-ghost use Rattle.abi.specs.FlatBinlog.{phaseNumbers, phaseFrom, toldNumber, saidNumbers, flatStep, readerIn};
-
-// How many bytes a reader has.
-pub(crate) const READER_SIZE: usize = 48;
+ghost use Rattle.abi.specs.FlatBinlog.{readerSize, phaseNumbers, phaseFrom, toldNumber, saidNumbers, flatStep, readerIn};
 
 // Where a reader is, as numbers.
 pub(crate) struct PhaseNumbers {
@@ -165,7 +162,7 @@ pub(crate) fn put_step(step: Answer, out: &mut [u8], at: usize) -> usize
 }
 
 pub(crate) fn reader_in(s: &[u8]) -> Reader
-    requires { ⌜ length (now s) ≡ 48 ⌝ }
+    requires { ⌜ length (now s) ≡ readerSize ⌝ }
     ensures { λ r. ⌜ r ≡ readerIn (now (s .entry)) ⌝ }
 {
     Reader {
@@ -182,7 +179,7 @@ pub(crate) fn reader_in(s: &[u8]) -> Reader
 
 // Keeps the reader after a call, with what was said, and returns the refusal's number, 0 for none.
 pub(crate) fn keep_step(step: Answer, reader: &mut [u8]) -> u8
-    requires { ⌜ length (now reader) ≡ 48 ⌝ }
+    requires { ⌜ length (now reader) ≡ readerSize ⌝ }
     ensures { λ r. ⌜ r ≡ saidNumbers (step .said) .refusal ⌝ }
     ensures { λ _. ⌜ now (reader .exit) ≡ flatStep step ⌝ }
 {

@@ -1,4 +1,5 @@
 // A report as 1,352 bytes: how many sets it is over, and 21 bytes for each of its lines.
+use crate::REPORT_SIZE;
 use crate::flat::four_at;
 use misc::le::number_at;
 use misc::put::put_byte;
@@ -14,13 +15,10 @@ ghost use Prim.Native.Nat.{_<_};
 ghost use lib.ListN.{length};
 ghost use Rattle.misc.specs.Output.{WhereFits};
 ghost use Rattle.misc.specs.Le.{numberAt};
-ghost use Rattle.abi.specs.FlatReport.{flatLine, lineIn, reportIn, withLineIn, roomFor};
+ghost use Rattle.abi.specs.FlatReport.{lineSize, reportSize, flatLine, lineIn, reportIn, withLineIn, roomFor};
 
-// How many bytes a line has,
-const LINE_SIZE: usize = 21;
-
-// and a report: eight for the number of sets, and its lines.
-pub(crate) const REPORT_SIZE: usize = 8 + MAX_SETS * LINE_SIZE;
+// How many bytes a line has.
+pub(crate) const LINE_SIZE: usize = 21;
 
 fn put_line(line: Line, out: &mut [u8], at: usize) -> usize
     ensures { λ r. ⌜ WhereFits (now (out .entry)) at (flatLine line) (now (out .exit)) r ⌝ }
@@ -47,7 +45,7 @@ pub(crate) fn room_for(report: &[u8]) -> u8
 
 // Puts a line behind those that are there, and counts it.
 pub(crate) fn keep_line(line: Line, report: &mut [u8])
-    requires { ⌜ (length (now report) ≡ 1352) × (numberAt (now report) 0 < 64) ⌝ }
+    requires { ⌜ (length (now report) ≡ reportSize) × (numberAt (now report) 0 < 64) ⌝ }
     ensures { λ _. ⌜ now (report .exit) ≡ withLineIn (now (report .entry)) line ⌝ }
 {
     let sets = number_at(report, 0);
@@ -56,7 +54,7 @@ pub(crate) fn keep_line(line: Line, report: &mut [u8])
 }
 
 fn line_in(s: &[u8]) -> Line
-    requires { ⌜ length (now s) ≡ 21 ⌝ }
+    requires { ⌜ length (now s) ≡ lineSize ⌝ }
     ensures { λ r. ⌜ r ≡ lineIn (now (s .entry)) ⌝ }
 {
     Line {
@@ -69,7 +67,7 @@ fn line_in(s: &[u8]) -> Line
 }
 
 pub(crate) fn report_in(s: &[u8]) -> Report
-    requires { ⌜ length (now s) ≡ 1352 ⌝ }
+    requires { ⌜ length (now s) ≡ reportSize ⌝ }
     ensures { λ r. ⌜ r ≡ reportIn (now (s .entry)) ⌝ }
 {
     let fresh = Report::new();

@@ -1,12 +1,10 @@
 // The library's calls as functions that Rust and C can link, over numbers and byte slices. Each returns the number of its refusal,
 // 0 for none, and hands its other answers out through `&mut` numbers. None asks anything of its caller.
-use flat::SIZE;
 use flat::put_record;
 use flat::record_in;
-use flat_binlog::READER_SIZE;
 use flat_binlog::keep_step;
 use flat_binlog::reader_in;
-use flat_report::REPORT_SIZE;
+use flat_report::LINE_SIZE;
 use flat_report::keep_line;
 use flat_report::report_in;
 use flat_report::room_for;
@@ -17,6 +15,7 @@ use misc::refusal::NOT_WRITABLE;
 use misc::varlen::read_varlen_uint;
 use previous_gtids_event::read::entry_at;
 use previous_gtids_event::read::header_of;
+use report::MAX_SETS;
 use resume_set::Offered;
 use two_sets::Choice;
 ghost use mathlib.Core.Path.{_≡_};
@@ -44,6 +43,15 @@ ghost use Rattle.abi.specs.FlatReport.{flatAdds, flatLeaves, flatRefusal
 mod flat;
 mod flat_binlog;
 mod flat_report;
+
+// How many bytes a GTID record has,
+pub const RECORD_SIZE: usize = 116;
+
+// a report, eight for the number of sets and then its lines,
+pub const REPORT_SIZE: usize = 8 + MAX_SETS * LINE_SIZE;
+
+// and a binlog reader.
+pub const READER_SIZE: usize = 48;
 
 // Reads the variable-length unsigned integer at the front of some bytes: its value, and how many bytes it takes.
 #[no_mangle]
@@ -323,8 +331,8 @@ pub extern "C" fn gtid_read_present(
         *used = 0;
         return refusal;
     }
-    if out.len() < SIZE {
-        *used = SIZE;
+    if out.len() < RECORD_SIZE {
+        *used = RECORD_SIZE;
         return NO_ROOM;
     }
     *used = said.used;
@@ -352,7 +360,7 @@ pub extern "C" fn gtid_write(fields: &[u8], out: &mut [u8], len: &mut usize) -> 
     ensures { λ _. ⌜ now (len .exit) ≡ answerOf (now (out .entry)) (writeOutput (now (fields .entry))) .len ⌝ }
     ensures { λ _. ⌜ now (out .exit) ≡ outputOf (now (out .entry)) (writeOutput (now (fields .entry))) ⌝ }
 {
-    if fields.len() != SIZE {
+    if fields.len() != RECORD_SIZE {
         *len = 0;
         return NOT_WRITABLE;
     }

@@ -16,7 +16,8 @@ returns c =
 returns-2 : tie.Need-returns-2
 returns-2 c =
     let a = c .before .before .before .before .before .args in
-    told-short (a .event-type) (now (a .body)) (c .before .before .read .result) (c .before .before .read .ensures) (now (a .out)) (c .before .if1 .left) (λ i. c .before .before .before .before .shared-slice-known .given i .fits) (c .if2 .taken)
+    told-short (a .event-type) (now (a .body)) (c .before .before .read .result) (c .before .before .read .ensures) (now (a .out))
+    (c .before .if1 .left) (λ i. c .before .before .before .before .shared-slice-known .given i .fits) (c .if2 .taken)
 
 put-record-requires : tie.Need-put-record-requires
 put-record-requires c κs = search needs
@@ -27,7 +28,11 @@ same-length c = search needs
 returns-3 : tie.Need-returns-3
 returns-3 c =
     let a = c .before .before .before .before .before .before .before .before .before .before .args in
-    told-record (a .event-type) (now (a .body)) (c .before .before .before .before .before .before .before .read .result) (c .before .before .before .before .before .before .before .read .ensures) (now (a .out)) (c .before .before .before .before .before .before .if1 .left) (λ i. c .before .before .before .before .before .before .before .before .before .shared-slice-known .given i .fits) (c .before .before .before .before .before .if2 .left) (c .before .before .put-record .ensures)
+    let roomy = c .before .before .before .before .before in
+    let sound = roomy .before in
+    let told = sound .before in
+    told-record (a .event-type) (now (a .body)) (told .read .result) (told .read .ensures) (now (a .out)) (sound .if1 .left)
+    (λ i. told .before .before .shared-slice-known .given i .fits) (roomy .if2 .left) (c .before .before .put-record .ensures)
 
 pub gtid-read-present-spec : {M : Type 1} → statement M
 gtid-read-present-spec =

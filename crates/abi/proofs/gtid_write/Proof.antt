@@ -22,7 +22,8 @@ same-length c = search needs
 returns-2 : tie.Need-returns-2
 returns-2 c =
     let a = c .before .before .before .before .before .before .before .before .args in
-    write-told (now (a .fields)) (now (a .out)) _ _ _ (c .before .before .before .before .before .if1 .left) (c .before .before .before .before .record-in .ensures) (c .before .before .write .ensures)
+    write-told (now (a .fields)) (now (a .out)) _ _ _ (c .before .before .before .before .before .if1 .left)
+    (c .before .before .before .before .record-in .ensures) (c .before .before .write .ensures)
 
 pub gtid-write-spec : {M : Type 1} → statement M
 gtid-write-spec =

@@ -31,7 +31,19 @@ same-length c = search needs
 
 returns : tie.Need-returns
 unfolding flatClock
-returns c = put-placed (c .before .before .before .before .before .before .before .before .before .before .before .before .before .before .before .before .before .before .before .before .before .before .put-byte .ensures) also put-placed (c .before .before .before .before .before .before .before .before .before .before .before .before .before .before .before .before .before .before .put-byte2 .ensures) also put-placed (c .before .before .before .before .before .before .before .before .before .before .before .before .before .before .put-u64-le .ensures) also put-placed (c .before .before .before .before .before .before .before .before .before .before .put-u64-le2 .ensures) also put-placed (c .before .before .before .before .before .before .put-u64-le3 .ensures) also put-placed (c .before .before .put-u64-le4 .ensures)
+returns c =
+    let original = c .before .before in
+    let immediate = original .before .before .before .before in
+    let sequence = immediate .before .before .before .before in
+    let last = sequence .before .before .before .before in
+    let typecode = last .before .before .before .before in
+    let there = typecode .before .before .before .before in
+    put-placed (there .put-byte .ensures)
+    also put-placed (typecode .put-byte2 .ensures)
+    also put-placed (last .put-u64-le .ensures)
+    also put-placed (sequence .put-u64-le2 .ensures)
+    also put-placed (immediate .put-u64-le3 .ensures)
+    also put-placed (original .put-u64-le4 .ensures)
 
 pub put-clock-spec : {M : Type 1} → statement M
 put-clock-spec =

@@ -31,7 +31,17 @@ same-length c = search needs
 
 returns : tie.Need-returns
 unfolding flatIdentity
-returns c = put-placed (c .before .before .before .before .before .before .before .before .before .before .before .before .before .before .before .before .before .before .before .before .put-byte .ensures) also put-placed (c .before .before .before .before .before .before .before .before .before .before .before .before .before .before .before .put-bytes .ensures) also put-placed (c .before .before .before .before .before .before .before .before .before .before .before .put-u64-le .ensures) also put-placed (c .before .before .before .before .before .before .before .put-byte2 .ensures) also put-placed (c .before .before .put-bytes2 .ensures)
+returns c =
+    let tag = c .before .before in
+    let len = tag .before .before .before .before .before in
+    let gno = len .before .before .before .before in
+    let sid = gno .before .before .before .before in
+    let flags = sid .before .before .before .before .before in
+    put-placed (flags .put-byte .ensures)
+    also put-placed (sid .put-bytes .ensures)
+    also put-placed (gno .put-u64-le .ensures)
+    also put-placed (len .put-byte2 .ensures)
+    also put-placed (tag .put-bytes2 .ensures)
 
 pub put-identity-spec : {M : Type 1} → statement M
 put-identity-spec =

@@ -19,7 +19,13 @@ same-length c = search needs
 
 returns : tie.Need-returns
 unfolding flat
-returns c = c .before .before .before .before .before .before .before .before .before .before .put-identity .ensures also c .before .before .before .before .before .before .put-clock .ensures also c .before .before .put-rest .ensures
+returns c =
+    let rest = c .before .before in
+    let clock = rest .before .before .before .before in
+    let identity = clock .before .before .before .before in
+    identity .put-identity .ensures
+    also clock .put-clock .ensures
+    also rest .put-rest .ensures
 
 pub put-record-spec : {M : Type 1} → statement M
 put-record-spec =

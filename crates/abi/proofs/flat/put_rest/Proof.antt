@@ -22,7 +22,15 @@ same-length c = search needs
 
 returns : tie.Need-returns
 unfolding flatRest
-returns c = put-placed (c .before .before .before .before .before .before .before .before .before .before .before .before .before .before .put-u64-le .ensures) also put-placed (c .before .before .before .before .before .before .before .before .before .before .put-u32-le .ensures) also put-placed (c .before .before .before .before .before .before .put-u32-le2 .ensures) also put-placed (c .before .before .put-u64-le2 .ensures)
+returns c =
+    let ticket = c .before .before in
+    let original = ticket .before .before .before .before in
+    let immediate = original .before .before .before .before in
+    let len = immediate .before .before .before .before in
+    put-placed (len .put-u64-le .ensures)
+    also put-placed (immediate .put-u32-le .ensures)
+    also put-placed (original .put-u32-le2 .ensures)
+    also put-placed (ticket .put-u64-le2 .ensures)
 
 pub put-rest-spec : {M : Type 1} → statement M
 put-rest-spec =

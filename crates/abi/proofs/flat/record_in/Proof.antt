@@ -72,7 +72,17 @@ number-at-requires-7 : tie.Need-number-at-requires-7
 number-at-requires-7 c κs = search needs
 
 returns : tie.Need-returns
-returns c = record-is (now (c .before .before .before .before .before .before .before .before .before .before .before .before .before .before .before .before .before .before .before .args .s)) _ _ _ _ _ _ _ _ _ _ _ _ (c .before .before .before .before .before .before .before .before .before .before .before .before .before .before .before .before .before .before .before .pre) (c .before .before .before .before .before .before .before .before .before .before .before .before .before .before .before .uuid-bytes .ensures) (c .before .before .before .before .before .before .before .before .before .before .before .before .before .before .number-at .ensures) (c .before .before .before .before .before .before .before .before .before .before .before .before .tag-bytes .ensures) (c .before .before .before .before .before .before .before .before .typecode-if .ensures) (c .before .before .before .before .before .before .before .number-at2 .ensures) (c .before .before .before .before .before .before .number-at3 .ensures) (c .before .before .before .before .before .number-at4 .ensures) (c .before .before .before .before .number-at5 .ensures) (c .before .before .before .number-at6 .ensures) (c .before .before .four-at .ensures) (c .before .four-at2 .ensures) (c .number-at7 .ensures)
+returns c =
+    let typecode = c .before .before .before .before .before .before .before .before in
+    let tag = typecode .before .before .before .before in
+    let gno = tag .before .before in
+    let sid = gno .before in
+    let start = sid .before .before .before .before in
+    record-is (now (start .args .s)) _ _ _ _ _ _ _ _ _ _ _ _ (start .pre)
+    (sid .uuid-bytes .ensures) (gno .number-at .ensures) (tag .tag-bytes .ensures) (typecode .typecode-if .ensures)
+    (c .before .before .before .before .before .before .before .number-at2 .ensures) (c .before .before .before .before .before .before .number-at3 .ensures)
+    (c .before .before .before .before .before .number-at4 .ensures) (c .before .before .before .before .number-at5 .ensures) (c .before .before .before .number-at6 .ensures)
+    (c .before .before .four-at .ensures) (c .before .four-at2 .ensures) (c .number-at7 .ensures)
 
 pub record-in-spec : {M : Type 1} → statement M
 record-in-spec =
