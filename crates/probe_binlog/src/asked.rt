@@ -1,15 +1,15 @@
-// A reader of the library's, or one of the archive's (crate abi), which is 48 bytes: both are asked alike.
+// A reader of the library's, or one of the archive's (crate abi), which is bytes: both are asked alike.
+use abi::READER_SIZE;
 use binlog_reader::Answer;
 use binlog_reader::Reader;
 use binlog_reader::Said;
 use binlog_reader::Told;
 use misc::refusal::NOT_WRITABLE;
+use probe_lines::checks::MARK;
 use probe_lines::checks::dirty;
-use probe_lines::checks::fill;
 use probe_lines::parts::byte_at;
 use probe_lines::parts::u64_at;
-
-const READER_LEN: usize = 48;
+use set_check::LONGEST_SET;
 
 // The archive's kinds of answers; 0 is a refusal.
 pub(crate) const TAKEN: u8 = 1;
@@ -39,7 +39,7 @@ pub(crate) struct Heard {
 pub(crate) struct Asked {
     archive: bool,
     reader: Reader,
-    bytes: [u8; READER_LEN],
+    bytes: [u8; READER_SIZE],
     pub(crate) heard: Heard,
 }
 
@@ -104,7 +104,7 @@ fn heard_in(bytes: &[u8], refusal: u8) -> Heard {
     }
 }
 
-fn by_library(step: Answer, bytes: [u8; READER_LEN]) -> Asked {
+fn by_library(step: Answer, bytes: [u8; READER_SIZE]) -> Asked {
     let reader = step.reader;
     let heard = heard_of(step);
     Asked {
@@ -115,7 +115,7 @@ fn by_library(step: Answer, bytes: [u8; READER_LEN]) -> Asked {
     }
 }
 
-fn by_archive(reader: Reader, bytes: [u8; READER_LEN], refusal: u8) -> Asked {
+fn by_archive(reader: Reader, bytes: [u8; READER_SIZE], refusal: u8) -> Asked {
     let heard = heard_in(&bytes, refusal);
     Asked {
         archive: true,
@@ -127,7 +127,7 @@ fn by_archive(reader: Reader, bytes: [u8; READER_LEN], refusal: u8) -> Asked {
 
 pub(crate) fn begin(archive: bool, set: &[u8], checksums: bool) -> Asked {
     let step = binlog_reader::begin(set, checksums);
-    let mut bytes = [0u8; READER_LEN];
+    let mut bytes = [0u8; READER_SIZE];
     if archive {
         let refusal = abi::gtid_binlog_begin(set, checksums as u8, &mut bytes);
         return by_archive(step.reader, bytes, refusal);
@@ -135,7 +135,7 @@ pub(crate) fn begin(archive: bool, set: &[u8], checksums: bool) -> Asked {
     by_library(step, bytes)
 }
 
-pub(crate) fn feed(
+fn feed_over(
     asked: Asked,
     chunk: &[u8],
     work: &mut [u8],
@@ -153,6 +153,12 @@ pub(crate) fn feed(
     )
 }
 
+// Feeds a chunk. Nothing is kept in the spare bytes from one call to the next, so each has its own.
+pub(crate) fn feed(asked: Asked, chunk: &[u8], work: &mut [u8], set: &mut [u8]) -> Asked {
+    let mut spare = [0u8; LONGEST_SET];
+    feed_over(asked, chunk, work, set, &mut spare)
+}
+
 pub(crate) fn end(asked: Asked) -> Asked {
     let mut bytes = asked.bytes;
     if asked.archive {
@@ -162,14 +168,16 @@ pub(crate) fn end(asked: Asked) -> Asked {
     by_library(binlog_reader::end(asked.reader), bytes)
 }
 
-// Whether the archive says something else than 12 of bytes that are no reader, one too few, or changes a byte. The buffers are filled with
-// the mark.
-pub(crate) fn takes_short(chunk: &[u8], work: &mut [u8], set: &mut [u8], spare: &mut [u8]) -> bool {
-    let mut bytes = [0u8; READER_LEN - 1];
-    fill(&mut bytes);
+// Whether the archive says something else than 12 of bytes that are no reader, one too few, or changes a byte.
+pub(crate) fn takes_short(chunk: &[u8]) -> bool {
+    let mut bytes = [MARK; READER_SIZE - 1];
+    let mut work = [MARK; 1];
+    let mut set = [MARK; 1];
+    let mut spare = [MARK; 1];
     let begun = abi::gtid_binlog_begin(chunk, 0, &mut bytes);
-    let stepped = abi::gtid_binlog_step(&mut bytes, chunk, work, set, spare);
+    let stepped = abi::gtid_binlog_step(&mut bytes, chunk, &mut work, &mut set, &mut spare);
     let ended = abi::gtid_binlog_end(&mut bytes);
     let answered = (begun == NOT_WRITABLE) & (stepped == NOT_WRITABLE) & (ended == NOT_WRITABLE);
-    !answered | dirty(&bytes, 0) | dirty(work, 0) | dirty(set, 0) | dirty(spare, 0)
+    let lent = [work[0], set[0], spare[0]];
+    !answered | dirty(&bytes, 0) | dirty(&lent, 0)
 }

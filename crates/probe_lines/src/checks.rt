@@ -1,7 +1,7 @@
 // What the program itself sees to: that a call writes nothing of its output but the answer's bytes. The output is filled
 // with a mark before the call.
 
-const MARK: u8 = 0xa5;
+pub const MARK: u8 = 0xa5;
 
 pub fn fill(out: &mut [u8]) {
     let mut i = 0;

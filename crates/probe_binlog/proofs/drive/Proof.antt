@@ -8,10 +8,11 @@ use Rattle.probe_binlog.proofs.drive.Statement.{statement}
 use Rattle.probe_binlog.proofs.drive.Tie as tie
 
 abbrev Inv-loop : tie.InvT-loop
-Inv-loop a b work₀ set₀ spare₀ line₀ states₀ count here₀ i₀ work set spare line states here i = (count < 9223372036854775808) × (length work ≡ length work₀) × (length set ≡ length set₀) × (length spare ≡ length spare₀) × (length line ≡ length line₀) × (length states ≡ length states₀)
+Inv-loop a b work₀ set₀ line₀ count here₀ i₀ work set line here i =
+    (count < 9223372036854775808) × (length work ≡ length work₀) × (length set ≡ length set₀) × (length line ≡ length line₀)
 
 abbrev μ-loop : tie.MeasureT-loop
-μ-loop a b work₀ set₀ spare₀ line₀ states₀ count here₀ i₀ work set spare line states here i = count - i
+μ-loop a b work₀ set₀ line₀ count here₀ i₀ work set line here i = count - i
 
 loop-holds : tie.Need-loop-holds Inv-loop μ-loop
 loop-holds c = search needs
@@ -22,11 +23,13 @@ mul-u32-at c = search needs
 u32-at-requires : tie.Need-u32-at-requires Inv-loop μ-loop
 u32-at-requires c κs = search needs
 
-step-on-requires : tie.Need-step-on-requires Inv-loop μ-loop
-step-on-requires c κs = search needs
+step-requires : tie.Need-step-requires Inv-loop μ-loop
+step-requires c κs = search needs
 
 add-i : tie.Need-add-i Inv-loop μ-loop
-add-i c = omega (arith, c .before .before .before .before .before .before .before .before .before .before .before .before .before .before .before .before .before .loop-test .taken, c .before .before .before .before .before .before .before .before .before .before .before .before .before .before .before .before .before .before .loop .inv .0)
+add-i c =
+    let turn = c .before .before .before .before .before .before .before .before .before .before .before in
+    omega (arith, turn .loop-test .taken, turn .before .loop .inv .0)
 
 loop-less : tie.Need-loop-less Inv-loop μ-loop
 loop-less c = search needs
@@ -43,12 +46,6 @@ same-length-2 c = search needs
 same-length-3 : tie.Need-same-length-3 Inv-loop μ-loop
 same-length-3 c = search needs
 
-same-length-4 : tie.Need-same-length-4 Inv-loop μ-loop
-same-length-4 c = search needs
-
-same-length-5 : tie.Need-same-length-5 Inv-loop μ-loop
-same-length-5 c = search needs
-
 returns : tie.Need-returns Inv-loop μ-loop
 returns c = search needs
 
@@ -61,13 +58,11 @@ drive-spec =
     loop-holds
     mul-u32-at
     u32-at-requires
-    step-on-requires
+    step-requires
     add-i
     loop-less
     loop-again
     same-length
     same-length-2
     same-length-3
-    same-length-4
-    same-length-5
     returns)

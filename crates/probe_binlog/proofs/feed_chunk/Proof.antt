@@ -6,31 +6,20 @@ use Rattle.probe_binlog.proofs.feed_chunk.Statement.{statement}
 use Rattle.probe_binlog.proofs.feed_chunk.Tie as tie
 
 abbrev Inv-loop : tie.InvT-loop
-Inv-loop a end work₀ set₀ spare₀ line₀ here₀ turns₀ work set spare line here turns = (length work ≡ length work₀) × (length set ≡ length set₀) × (length spare ≡ length spare₀) × (length line ≡ length line₀)
+Inv-loop a end work₀ set₀ line₀ here₀ turns₀ work set line here turns =
+    (length work ≡ length work₀) × (length set ≡ length set₀) × (length line ≡ length line₀)
 
 abbrev μ-loop : tie.MeasureT-loop
-μ-loop a end work₀ set₀ spare₀ line₀ here₀ turns₀ work set spare line here turns = turns
-
-feed-rest-requires : tie.Need-feed-rest-requires Inv-loop μ-loop
-feed-rest-requires c κs = search needs
+μ-loop a end work₀ set₀ line₀ here₀ turns₀ work set line here turns = turns
 
 loop-holds : tie.Need-loop-holds Inv-loop μ-loop
 loop-holds c = search needs
 
+feed-rest-requires : tie.Need-feed-rest-requires Inv-loop μ-loop
+feed-rest-requires c κs = search needs
+
 goes-on-requires : tie.Need-goes-on-requires Inv-loop μ-loop
 goes-on-requires c κs = search needs
-
-feed-rest-requires-2 : tie.Need-feed-rest-requires-2 Inv-loop μ-loop
-feed-rest-requires-2 c κs = search needs
-
-sub-turns : tie.Need-sub-turns Inv-loop μ-loop
-sub-turns c = search needs
-
-loop-less : tie.Need-loop-less Inv-loop μ-loop
-loop-less c = search needs
-
-loop-again : tie.Need-loop-again Inv-loop μ-loop
-loop-again c = search needs
 
 same-length : tie.Need-same-length Inv-loop μ-loop
 same-length c = search needs
@@ -41,26 +30,17 @@ same-length-2 c = search needs
 same-length-3 : tie.Need-same-length-3 Inv-loop μ-loop
 same-length-3 c = search needs
 
-same-length-4 : tie.Need-same-length-4 Inv-loop μ-loop
-same-length-4 c = search needs
-
 returns : tie.Need-returns Inv-loop μ-loop
 returns c = search needs
 
-same-length-5 : tie.Need-same-length-5 Inv-loop μ-loop
-same-length-5 c = search needs
+sub-turns : tie.Need-sub-turns Inv-loop μ-loop
+sub-turns c = search needs
 
-same-length-6 : tie.Need-same-length-6 Inv-loop μ-loop
-same-length-6 c = search needs
+loop-less : tie.Need-loop-less Inv-loop μ-loop
+loop-less c = search needs
 
-same-length-7 : tie.Need-same-length-7 Inv-loop μ-loop
-same-length-7 c = search needs
-
-same-length-8 : tie.Need-same-length-8 Inv-loop μ-loop
-same-length-8 c = search needs
-
-returns-2 : tie.Need-returns-2 Inv-loop μ-loop
-returns-2 c = search needs
+loop-again : tie.Need-loop-again Inv-loop μ-loop
+loop-again c = search needs
 
 pub feed-chunk-spec : {M : Type 1} → statement M
 feed-chunk-spec =
@@ -68,20 +48,13 @@ feed-chunk-spec =
     (tie.spec
     Inv-loop
     μ-loop
-    feed-rest-requires
     loop-holds
+    feed-rest-requires
     goes-on-requires
-    feed-rest-requires-2
-    sub-turns
-    loop-less
-    loop-again
     same-length
     same-length-2
     same-length-3
-    same-length-4
     returns
-    same-length-5
-    same-length-6
-    same-length-7
-    same-length-8
-    returns-2)
+    sub-turns
+    loop-less
+    loop-again)
