@@ -4,7 +4,7 @@ use mathlib.Core.Path.{_≡_}
 use mathlib.Core.Bool.{Bool, true, false}
 use mathlib.Core.List.{List, _++_}
 use lib.ListN.{length}
-use Rattle.previous_gtids_event.specs.Rewrite.{intervalsBytes, anyTag, headerBytes, bodyBytes}
+use Rattle.previous_gtids_event.specs.Rewrite.{intervalsBytes, anyTag, headerBytes, bodyBytes, headRun}
 use Rattle.gtid_sets.specs.Interval.{covers, Gapped, insert}
 use Rattle.gtid_sets.specs.Set.{has, join}
 use Rattle.gtid_sets.specs.Splice.{earlier}
@@ -12,7 +12,7 @@ use Rattle.gtid_sets.specs.Limits.{intervals, over, crowds}
 use Rattle.set_check.specs.Places.{intervalsAt}
 use Rattle.set_check.specs.SetOf.{setOf}
 use Rattle.resume_set.specs.Find.{old}
-use Rattle.resume_set.specs.Put.{headRun, splicedRun, entriesRun, EntriesThere}
+use Rattle.resume_set.specs.Put.{splicedRun, entriesRun, EntriesThere}
 use Rattle.resume_set.specs.declared.Splice.{Splice}
 use Rattle.resume_set.specs.declared.Plan.{Plan}
 

@@ -8,10 +8,6 @@ use Rattle.misc.specs.Le.{leBytes, numberAt}
 use Rattle.misc.specs.Varlen.{varlenBytes}
 use Rattle.previous_gtids_event.specs.Rewrite.{tagBytes}
 
--- uuid, tag and the number of intervals
-abbrev pub headRun : List ℕ → Bool → List ℕ → ℕ → List ℕ
-headRun uuid tags tag n = uuid ++ tagBytes tags tag ++ leBytes 8 n
-
 -- intervals with one in the place of some
 abbrev pub splicedRun : List ℕ → ℕ → ℕ → ℕ → ℕ → ℕ → ℕ → List ℕ
 splicedRun bs first count before taken start end =

@@ -11,7 +11,7 @@ use misc::bytes::write_bytes;
 use misc::refusal::NO_ROOM;
 use previous_gtids_event::rewrite::put_header;
 use set_check::Cursor;
-use set_check::HEADER;
+use set_check::SET_HEADER;
 use set_check::limits::judge;
 use set_check::limits::over;
 ghost use mathlib.Core.Path.{_≡_};
@@ -56,7 +56,7 @@ pub(crate) fn plan_join(
 {
     let entries = Cursor {
         tagged,
-        at: HEADER,
+        at: SET_HEADER,
         left: count,
     };
     let found = find(set, entries, uuid, tag);

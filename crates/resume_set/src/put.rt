@@ -8,7 +8,8 @@ use previous_gtids_event::rewrite::put_tag;
 ghost use Prim.Native.Nat.{_+_, _-_, _*_, _≤_};
 ghost use lib.ListN.{length};
 ghost use Rattle.misc.specs.Output.{WhereFits};
-ghost use Rattle.resume_set.specs.Put.{headRun, splicedRun, widerRun, widened, Untagged, entriesRun, EntriesThere};
+ghost use Rattle.previous_gtids_event.specs.Rewrite.{headRun};
+ghost use Rattle.resume_set.specs.Put.{splicedRun, widerRun, widened, Untagged, entriesRun, EntriesThere};
 
 // The head of an entry.
 pub(crate) fn put_head(

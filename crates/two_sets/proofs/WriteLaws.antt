@@ -18,13 +18,12 @@ use Rattle.misc.proofs.OutputLaws.{written-is, length-written, nothing-placed, 
 use Rattle.packets.specs.Gno.{Interval}
 use Rattle.packets.proofs.Tests.{split, clash}
 use Rattle.previous_gtids_event.specs.Entry.{Entry, entry}
-use Rattle.previous_gtids_event.specs.Rewrite.{intervalsBytes, entryBytes, entriesBytes, anyTag}
+use Rattle.previous_gtids_event.specs.Rewrite.{intervalsBytes, entryBytes, entriesBytes, anyTag, headRun}
 use Rattle.previous_gtids_event.proofs.Reading.{uuid-of, tag-of}
 use Rattle.gtid_sets.proofs.LimitLaws.{over-most}
 use Rattle.gtid_sets.specs.Limits.{intervals, crowds}
 use Rattle.gtid_sets.specs.Combine.{spans, isOpen, keep}
 use Rattle.misc.proofs.VarlenLaws.{one-byte}
-use Rattle.resume_set.specs.Put.{headRun}
 use Rattle.two_sets.specs.Marks.{leftOf, going, marksBytes}
 use Rattle.two_sets.specs.Pairs.{CursorsAre, placesOfBoth, combining, sourceOf, uuidIn, tagIn, KeyIs, PairIs}
 use Rattle.two_sets.specs.Write.{headLength, keptRun, grownBy, Below, MadeIs}

@@ -7,9 +7,8 @@ use lib.ListN.{length}
 use lib.Dec.{eqb, ltb}
 use Rattle.misc.specs.Pick.{pick}
 use Rattle.previous_gtids_event.specs.Entry.{Entry}
-use Rattle.previous_gtids_event.specs.Rewrite.{entriesBytes, anyTag}
+use Rattle.previous_gtids_event.specs.Rewrite.{entriesBytes, anyTag, headRun}
 use Rattle.gtid_sets.specs.Limits.{intervals, over, crowds}
-use Rattle.resume_set.specs.Put.{headRun}
 use Rattle.two_sets.specs.Marks.{saidBy, going, marksBytes}
 use Rattle.two_sets.specs.Pairs.{uuidIn, tagIn}
 use Rattle.two_sets.specs.declared.Work.{Work}

@@ -9,11 +9,9 @@ use crate::Work;
 use crate::marks::put_marks;
 use crate::pairs::next_pair;
 use misc::Wrote;
-use misc::put::put_bytes;
-use misc::put::put_u64_le;
 use misc::refusal::NO_ROOM;
+use previous_gtids_event::rewrite::put_head;
 use previous_gtids_event::rewrite::put_header;
-use previous_gtids_event::rewrite::put_tag;
 use set_check::limits::judge;
 use set_check::limits::over;
 ghost use mathlib.Core.Path.{_≡_};
@@ -21,9 +19,8 @@ ghost use Prim.Native.Nat.{_+_, _*_, _^_, _≤_, _<_};
 ghost use lib.ListN.{length};
 ghost use Rattle.misc.specs.Parse.{part};
 ghost use Rattle.misc.specs.Output.{outputOf, answerOf, WhereFits};
-ghost use Rattle.previous_gtids_event.specs.Rewrite.{entriesBytes};
+ghost use Rattle.previous_gtids_event.specs.Rewrite.{headRun, entriesBytes};
 ghost use Rattle.resume_set.specs.Answers.{saved};
-ghost use Rattle.resume_set.specs.Put.{headRun};
 ghost use Rattle.two_sets.specs.Marks.{saidBy, leftOf, going, SidesAre};
 ghost use Rattle.two_sets.specs.Pairs.{CursorsAre, placesOfBoth, combining, KeyIs};
 ghost use Rattle.two_sets.specs.Write.{headLength, entryRun, grownBy, Below, MadeIs, madeLength};
@@ -40,7 +37,7 @@ fn head_len(tags: bool, tag_len: usize) -> usize
 }
 
 // The head of an entry, with a key that stands in one of the sets, and so many intervals.
-fn put_head(set: &[u8], key: KeyPlace, tags: bool, count: usize, out: &mut [u8], at: usize) -> usize
+fn put_key(set: &[u8], key: KeyPlace, tags: bool, count: usize, out: &mut [u8], at: usize) -> usize
     requires { ⌜ (key .at + 16 ≤ length (now set)) × (key .«tag_at» + key .«tag_len» ≤ length (now set)) ⌝ }
     ensures { λ r. ⌜ WhereFits (now (out .entry)) at
         (headRun (part (now (set .entry)) (key .at) 16) tags (part (now (set .entry)) (key .«tag_at») (key .«tag_len»)) count) (now (out .exit)) r ⌝ }
@@ -48,9 +45,14 @@ fn put_head(set: &[u8], key: KeyPlace, tags: bool, count: usize, out: &mut [u8],
     let uuid = key.at;
     let tag = key.tag_at;
     let tag_end = tag + key.tag_len;
-    let named = put_bytes(&set[uuid..uuid + 16], out, at);
-    let counted = put_tag(&set[tag..tag_end], tags, out, named);
-    put_u64_le(count as u64, out, counted)
+    put_head(
+        &set[uuid..uuid + 16],
+        &set[tag..tag_end],
+        tags,
+        count as u64,
+        out,
+        at,
+    )
 }
 
 // Writes the next entry of the result, unless it is empty, from a place on, and returns how many marks it has. They go first, behind the
@@ -81,10 +83,10 @@ fn put_entry(
         return 0;
     }
     if key.of_first {
-        put_head(first, key, work.tags, marks / 2, out, at);
+        put_key(first, key, work.tags, marks / 2, out, at);
         return marks;
     }
-    put_head(second, key, work.tags, marks / 2, out, at);
+    put_key(second, key, work.tags, marks / 2, out, at);
     marks
 }
 

@@ -43,8 +43,8 @@ returns c =
           (m .result) (m .ensures .counted) (now (s .args .out)) _ (s .args .at) none (m .ensures .none none),
     )
 
-put-head-requires : tie.Need-put-head-requires
-put-head-requires c κs =
+put-key-requires : tie.Need-put-key-requires
+put-key-requires c κs =
     let s = c .before .before .before .before .before .before .before .before .before .before .before .before .before in
     head-inside (now (s .args .first)) (now (s .args .second)) (s .args .pair .key) (s .pre .1 .0) (now (s .args .first)) (rw (c .before .if2 .taken))
 
@@ -61,11 +61,11 @@ returns-2 c =
           (m .result) (m .ensures .counted) (now (s .args .out)) _ (s .args .at) (λ h. omega arith)
           (now (s .args .first)) (rw (c .before .before .before .before .if2 .taken)) _ _ _ _
           (c .before .before .before .before .before .before .before .before .before .before .head-len .ensures)
-          (m .ensures .fits) (c .before .before .put-head .ensures),
+          (m .ensures .fits) (c .before .before .put-key .ensures),
     )
 
-put-head-requires-2 : tie.Need-put-head-requires-2
-put-head-requires-2 c κs =
+put-key-requires-2 : tie.Need-put-key-requires-2
+put-key-requires-2 c κs =
     let s = c .before .before .before .before .before .before .before .before .before .before .before .before .before in
     head-inside (now (s .args .first)) (now (s .args .second)) (s .args .pair .key) (s .pre .1 .0) (now (s .args .second)) (rw (c .before .if2 .left))
 
@@ -82,7 +82,7 @@ returns-3 c =
           (m .result) (m .ensures .counted) (now (s .args .out)) _ (s .args .at) (λ h. omega arith)
           (now (s .args .second)) (rw (c .before .before .before .before .if2 .left)) _ _ _ _
           (c .before .before .before .before .before .before .before .before .before .before .head-len .ensures)
-          (m .ensures .fits) (c .before .before .put-head2 .ensures),
+          (m .ensures .fits) (c .before .before .put-key2 .ensures),
     )
 
 pub put-entry-spec : {M : Type 1} → statement M
@@ -94,9 +94,9 @@ put-entry-spec =
     put-marks-requires
     same-length
     returns
-    put-head-requires
+    put-key-requires
     same-length-2
     returns-2
-    put-head-requires-2
+    put-key-requires-2
     same-length-3
     returns-3)
