@@ -4,13 +4,14 @@ use mathlib.Core.List.{List, [], _∷_, _++_, append-assoc}
 use Prim.Native.Nat.{ℕ, _+_, _^_, _<_, _≤_}
 use native.Mathlib.Omega.{arith}
 use lib.ListN.{length, getD, length-append}
-use lib.Seq.{getD-append-seam}
-use Rattle.misc.specs.Parse.{parsed, part, bytesAt, byteAt}
+use lib.Seq.{drop-append-seam, getD-append-seam}
+use Rattle.misc.specs.Parse.{parsed, bytesAt, byteAt}
 use Rattle.misc.specs.Le.{leBytes, leAt}
 use Rattle.misc.specs.Varlen.{varlenBytes, varlenAt}
 use Rattle.misc.specs.Lenenc.{lenencBytes, lenencAt}
 use Rattle.misc.proofs.ParseLaws.{bytes-here, byte-here}
-use Rattle.misc.proofs.LeLaws.{length-leBytes, bytes-between}
+use Rattle.misc.proofs.LeLaws.{length-leBytes}
+use Rattle.misc.proofs.Places.{From, from-room, from-part}
 use Rattle.misc.proofs.RoundTrip.{le-written, varlen-written, lenenc-written}
 
 -- bs stand in s, from a place on
@@ -55,16 +56,19 @@ each ps st e = each-joined ps (rw e at st)
 
 -- ---- reading
 module _ {bs s : List ℕ} {at : ℕ} (st : Stands bs s at) where
-  pub stands-within : at + length bs ≤ length s
-  stands-within = rw (st .whole, st .place) (simp length-append (omega arith))
+  pub stands-from : From s at (bs ++ st .after)
+  stands-from = record {
+    is = rw (st .whole, st .place, append-assoc) (drop-append-seam (st .before) (bs ++ st .after));
+    inside = rw (st .whole, st .place) (simp length-append (omega arith));
+  }
 
-  pub part-stands : (n : ℕ) → n ≡ length bs → part s at n ≡ bs
-  part-stands n e = rw (st .whole, st .place) (bytes-between (st .before) bs (st .after) n e)
+  pub stands-within : at + length bs ≤ length s
+  stands-within = from-room s at bs (st .after) stands-from
 
   pub bytes-stand : (n : ℕ) → n ≡ length bs → bytesAt n s at ≡ parsed bs (at + length bs)
   bytes-stand n e =
       let within = stands-within in
-      bytes-here n s at (omega arith) ∙ rw (part-stands n e, e)
+      bytes-here n s at (omega arith) ∙ rw (from-part s at bs (st .after) stands-from n e, e)
 
 module _ {s : List ℕ} {at : ℕ} where
   pub first-stands : (b : ℕ) → Stands (b ∷ []) s at → getD s at 0 ≡ b

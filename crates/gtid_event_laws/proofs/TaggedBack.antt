@@ -11,7 +11,8 @@ use borrow.Author.Tests.{eqb-true, le-leb}
 use Rattle.misc.specs.Pick.{pick}
 use Rattle.misc.specs.Parse.{parsed}
 use Rattle.misc.specs.Varlen.{varlenBytes}
-use Rattle.misc.proofs.VarlenLaws.{length-varlenBytes}
+use Rattle.misc.proofs.VarlenLaws.{length-varlenBytes, length-small}
+use Rattle.misc.proofs.Places.{from-part}
 use Rattle.packets.proofs.Tests.{split}
 use Rattle.gtid_event.specs.Event as event
 use Rattle.gtid_event.specs.declared.GtidEvent.{GtidEvent}
@@ -24,10 +25,10 @@ use Rattle.gtid_event_write.specs.Writable.{tagOf, writable}
 use Rattle.gtid_event_write.specs.Size.{payloadSize}
 use Rattle.gtid_event_write.specs.Layout.{identityBytes, clockBytes, restBytes, fieldBytes, taggedBytes}
 use Rattle.gtid_event.specs.Fits.{Fits}
-use Rattle.gtid_event_laws.proofs.Stands.{Stands, at-front, each, stands-within, part-stands, byte-stands, varlen-stands}
+use Rattle.gtid_event_laws.proofs.Stands.{Stands, at-front, each, stands-within, stands-from, byte-stands, varlen-stands}
 use Rattle.gtid_event_laws.proofs.WritableLaws.{TaggedFacts, tagged-facts}
 use Rattle.gtid_event_write.proofs.SizeLaws.{payload-agrees}
-use Rattle.gtid_event_write.proofs.LayoutLaws.{length-small, length-tagged}
+use Rattle.gtid_event_write.proofs.LayoutLaws.{length-tagged}
 use Rattle.gtid_event_write.proofs.TotalsLaws.{total-most}
 use Rattle.gtid_event_laws.proofs.FieldsBack.{Run, plain, limited, doubled, one, _then_, perhaps, number-field, uuid-field, tag-field, optional, run-read}
 
@@ -130,7 +131,7 @@ module _ (e : GtidEvent) (fits : Fits e) (facts : TaggedFacts e) where
         varlen-stands 0 (omega arith) last,
         le-leb start size (omega arith),
         le-leb size (length s) (omega arith),
-        part-stands fields (size - start) (omega arith),
+        from-part s start (fieldBytes e) (fields .after) (stands-from fields) (size - start) (omega arith),
         fields-read e fits facts,
         record-is e fits facts,
         whole,

@@ -1,22 +1,18 @@
 -- The lengths of a record's parts.
 use mathlib.Core.Path.{_≡_, sym, ap, _∙_}
 use mathlib.Core.List.{_++_, append-nil}
-use Prim.Native.Nat.{ℕ, _+_, _^_, _<_}
+use Prim.Native.Nat.{_+_, _^_}
 use native.Mathlib.Omega.{arith}
 use lib.ListN.{length, length-append}
 use borrow.Author.Tests.{eq-eqb, ne-eqb}
 use Rattle.misc.specs.Lenenc.{lenencBytes}
-use Rattle.misc.specs.Varlen.{varlenBytes, varlenSize, sizeFrom}
+use Rattle.misc.specs.Varlen.{varlenSize, sizeFrom}
 use Rattle.misc.proofs.VarlenLaws.{length-varlenBytes}
 use Rattle.misc.proofs.LeLaws.{length-leBytes}
 use Rattle.gtid_event.specs.declared.GtidEvent.{GtidEvent}
 use Rattle.gtid_event_write.specs.Size.{payloadSize}
 use Rattle.gtid_event_write.specs.Layout.{fieldBytes, taggedBytes, pairBytes, openingBytes, laterBytes, untaggedBytes}
-use Rattle.gtid_event_write.proofs.SizeLaws.{size-one, payload-agrees}
-
--- an integer below 128
-pub length-small : (v : ℕ) → v < 128 → length (varlenBytes v) ≡ 1
-length-small v h = length-varlenBytes v ∙ size-one v h
+use Rattle.gtid_event_write.proofs.SizeLaws.{payload-agrees}
 
 module _ (e : GtidEvent) where
   -- ---- tagged

@@ -1,4 +1,4 @@
--- Laws of writing at a place: an integer of one byte or two, the bytes of a uuid as integers, and an immediate number with its original.
+-- Laws of writing at a place: an integer of two bytes, the bytes of a uuid as integers, and an immediate number with its original.
 use mathlib.Core.Path.{_≡_, refl, sym, ap, ap₂, _∙_}
 use mathlib.Core.List.{List, [], _∷_, _++_, append-assoc, append-nil}
 use Prim.Native.Nat.{ℕ, _+_, _-_, _*_, _/_, _%_, _^_, _≤_, _<_}
@@ -14,7 +14,7 @@ use Rattle.misc.specs.Output.{bytes, answerOf, outputOf, Placed, WhereFits}
 use Rattle.misc.specs.Varlen.{varlenBytes}
 use Rattle.misc.proofs.VarlenLaws.{bytes-short}
 use Rattle.misc.proofs.OutputLaws.{nothing-placed, output-fits, _also_}
-use Rattle.gtid_event_write.proofs.SizeLaws.{size-one, size-two}
+use Rattle.gtid_event_write.proofs.SizeLaws.{size-two}
 use Rattle.gtid_event_write.specs.Layout.{itemsBytes, pairBytes}
 
 -- what is placed is placed where it fits
@@ -36,13 +36,7 @@ wrote-all {l} {bs} {l′} {n} size is room p =
     let ends : n ≡ size = p .placed (omega arith) .ends ∙ omega arith in
     rw ends at (wrote (omega arith) p)
 
--- ---- an integer in one byte, and in two
-
-pub one-byte : (v : ℕ) → v < 128 → v * 2 ∷ [] ≡ varlenBytes v
-unfolding leBytes
-one-byte v h =
-    let byte : (v * 2 ^ 1 + (2 ^ (1 - 1) - 1)) % 256 ≡ v * 2 = omega arith in
-    sym (bytes-short v 1 (sym (size-one v h)) (omega arith) ∙ ap (λ (b : ℕ). b ∷ []) byte)
+-- ---- an integer in two bytes
 
 pub two-bytes : (v : ℕ) → 128 ≤ v → v < 256 → ((v % 64 * 4 + 1) ∷ []) ++ (v / 64 ∷ []) ≡ varlenBytes v
 unfolding leBytes

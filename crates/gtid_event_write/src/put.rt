@@ -13,7 +13,7 @@ pub(crate) fn put_small(value: u8, out: &mut [u8], at: usize) -> usize
     requires { ⌜ value < 128 ⌝ }
     ensures { λ r. ⌜ WhereFits (now (out .entry)) at (varlenBytes value) (now (out .exit)) r ⌝ }
 {
-    put_byte(value * 2, out, at)
+    put_byte(2 * value, out, at)
 }
 
 // A byte as an integer: one byte or two.

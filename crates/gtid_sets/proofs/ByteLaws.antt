@@ -1,14 +1,12 @@
 -- The bytes of entries: how many there are at most and at least, and those of two parts.
-use Prim.Native.Nat.{ℕ, _+_, _*_, _<_, _≤_}
+use Prim.Native.Nat.{ℕ, _+_, _*_, _≤_}
 use mathlib.Core.Path.{_≡_, refl, sym, ap, _∙_}
 use mathlib.Core.Bool.{Bool, true, false}
 use mathlib.Core.List.{List, [], _∷_, _++_, append-assoc}
 use native.Mathlib.Omega.{arith}
 use lib.ListN.{length, take, drop, length-append}
 use lib.Seq.{take-at, drop-at}
-use borrow.Author.Tests.{lt-ltb}
-use Rattle.misc.specs.Varlen.{varlenSize, sizeFrom, varlenBytes}
-use Rattle.misc.proofs.VarlenLaws.{length-varlenBytes}
+use Rattle.misc.proofs.VarlenLaws.{length-small}
 use Rattle.packets.specs.Gno.{Interval, interval}
 use Rattle.previous_gtids_event.specs.Entry.{Entry, entry, tagOf}
 use Rattle.packets.specs.Tag.{noneOrTag}
@@ -20,13 +18,9 @@ use Rattle.gtid_sets.specs.Lent.{GoodKeys}
 
 -- ---- lengths
 
-one-byte : (v : ℕ) → v < 128 → length (varlenBytes v) ≡ 1
-unfolding varlenSize sizeFrom
-one-byte v h = length-varlenBytes v ∙ rw (lt-ltb v 128 h)
-
 tag-long : (w : Bool) (t : List ℕ) → noneOrTag t ≡ true → length (tagBytes w t) ≤ 33
 tag-long false t h = omega arith
-tag-long true t h = let short = none-or-tag-short t h in rw (length-append, one-byte (length t) (omega arith)) (omega arith)
+tag-long true t h = let short = none-or-tag-short t h in rw (length-append, length-small (length t) (omega arith)) (omega arith)
 
 pub entries-long : (w : Bool) (es : List Entry) → GoodKeys es → length (entriesBytes w es) ≤ 57 * length es + 16 * intervals es
 unfolding entriesBytes

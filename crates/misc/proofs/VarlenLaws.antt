@@ -163,6 +163,9 @@ one-byte n h =
     let low : (n * 2 + 0) % 256 ≡ 2 * n = omega arith in
     bytes-short n 1 size (omega arith) ∙ rw low
 
+pub length-small : (n : ℕ) → n < 128 → length (varlenBytes n) ≡ 1
+length-small n h = ap length (one-byte n h)
+
 pub bytes-nine : (v : ℕ) → varlenSize v ≡ 9 → varlenBytes v ≡ 255 ∷ leBytes 8 v
 unfolding varlenBytes itemOf
 bytes-nine v e = simp e

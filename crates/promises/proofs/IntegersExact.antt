@@ -4,7 +4,7 @@ use mathlib.Core.Path.{_≡_, refl, ap}
 use mathlib.Core.List.{List}
 use native.Mathlib.Omega.{arith}
 use lib.IntN.{ℤ, pos, negsuc}
-use lib.ListN.{length, drop, getD, length-append, length-drop}
+use lib.ListN.{length, drop, getD, length-append, length-drop, drop-of-length-le}
 use lib.Seq.{drop-cons}
 use Rattle.misc.specs.Refusal.{ended, negative, badLead}
 use Rattle.misc.specs.Parse.{Bytes, refuse, parsed, uintRead}
@@ -28,7 +28,7 @@ use Rattle.promises.proofs.Gives.{Gives, le-gives, varlen-gives, lenenc
 use Rattle.promises.proofs.Forces.{Refuses, is-refused, lenenc-ends, lead-refused}
 use Rattle.promises.proofs.Exactly.{reads-exactly, short-exactly}
 use Rattle.promises.proofs.TaggedRefused.{cut-ends}
-use Rattle.promises.proofs.TaggedFaulty.{gone, cut-form, signed-sent}
+use Rattle.promises.proofs.TaggedFaulty.{cut-form, signed-sent}
 use Rattle.promises.proofs.UntaggedFaulty.{lenenc-cut, cut-lenenc}
 
 -- ---- so many bytes
@@ -122,7 +122,7 @@ module _ (s : List ℕ) (at : ℕ) where
       (λ n. lenenc-forced (drop at s) n refl)
     where
       cut : Ends lenenc s at → LenencFault (drop at s) 1
-      cut ends = split (length s) at (λ past. rw (gone s are at past) LenencFault.nothing) (λ inside. LenencFault.cut (cut-lenenc s are at inside ends))
+      cut ends = split (length s) at (λ past. rw (drop-of-length-le s {i = at} past) LenencFault.nothing) (λ inside. LenencFault.cut (cut-lenenc s are at inside ends))
 
 pub integers-exact : IntegersExact
 integers-exact = record {

@@ -18,6 +18,7 @@ use Rattle.misc.proofs.ParseLaws.{never}
 use Rattle.misc.proofs.BodyLaws.{bodyLimit-is}
 use Rattle.misc.proofs.Bounds.{append-bytes, zeros-bytes}
 use Rattle.misc.proofs.LeLaws.{length-leBytes}
+use Rattle.misc.proofs.VarlenLaws.{length-small}
 use Rattle.previous_gtids_event.specs.Entry.{entry, uuidOf, tagOf}
 use Rattle.packets.specs.Kept.{padded}
 use Rattle.packets.specs.Tag.{isTag, allTagBytes}
@@ -41,7 +42,6 @@ use Rattle.gtid_event_write.specs.Layout.{fieldBytes}
 use Rattle.gtid_event_write.specs.Write.{eventBytes, eventOutput}
 use Rattle.gtid_event_write.specs.Totals.{TaggedOne}
 use Rattle.gtid_event_write.proofs.SizeLaws.{size-one, size-two, payload-agrees}
-use Rattle.gtid_event_write.proofs.LayoutLaws.{length-small}
 use Rattle.gtid_event_write.proofs.TotalsLaws.{total-is}
 use Rattle.gtid_event_write.proofs.TotalsReached.{totals}
 use Rattle.gtid_event.specs.Fits.{Fits}

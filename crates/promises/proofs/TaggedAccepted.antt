@@ -6,7 +6,7 @@ use mathlib.Core.List.{List, [], _∷_, _++_, append-assoc}
 use native.Mathlib.Omega.{arith}
 use lib.Dec.{ltb, leb}
 use lib.IntN.{ℤ, pos, negsuc}
-use lib.ListN.{length, drop, getD, length-append, length-drop}
+use lib.ListN.{length, drop, getD, length-append, drop-of-length-le}
 use lib.Seq.{drop-cons}
 use borrow.Author.Tests.{ltb-true, ltb-false, leb-false}
 use Rattle.misc.specs.Refusal.{badTag}
@@ -142,12 +142,8 @@ module _ (s : List ℕ) (are : Bytes s) where
 
     nothing-left : (f : Fields) (at : ℕ) (g : Fields) → length s ≤ at → f ≡ g → (told : List Sent) × FieldsLaid last told (drop at s) × (g ≡ keptAll f told)
     nothing-left f at g h e =
-        let none : drop at s ≡ [] = gone (drop at s) (rw length-drop (omega arith)) in
+        let none : drop at s ≡ [] = drop-of-length-le s {i = at} h in
         ([], rw none FieldsLaid.end, sym e)
-      where
-        gone : (l : List ℕ) → length l ≡ 0 → l ≡ []
-        gone [] e = refl
-        gone (x ∷ l) e = absurd (omega arith)
 
     at-end : (n : ℕ) (f : Fields) (g : Fields) (to : ℕ) → fieldsFrom n last s f (length s) ≡ parsed g to → f ≡ g
     unfolding fieldsFrom

@@ -6,7 +6,7 @@ use mathlib.Core.List.{List, [], _∷_, _++_, append-assoc, append-nil}
 use mathlib.Core.Logic.{_⊎_, inl, inr}
 use native.Mathlib.Omega.{arith}
 use lib.IntN.{negsuc}
-use lib.ListN.{length, drop, getD, length-append, length-drop, List·getD-eq-default}
+use lib.ListN.{length, drop, getD, length-append, length-drop, List·getD-eq-default, drop-of-length-le}
 use lib.Seq.{drop-cons}
 use Rattle.misc.specs.Parse.{Bytes, parsed, part}
 use Rattle.misc.specs.Varlen.{trailingOnes, varlenAt}
@@ -69,16 +69,9 @@ signed-sent s at n to e =
     read ∙ rw same
 
 module _ (s : List ℕ) (are : Bytes s) where
-  pub gone : (at : ℕ) → length s ≤ at → drop at s ≡ []
-  gone at h = go (drop at s) (rw length-drop (omega arith))
-    where
-      go : (l : List ℕ) → length l ≡ 0 → l ≡ []
-      go [] e = refl
-      go (x ∷ l) e = absurd (omega arith)
-
   -- an integer that the bytes end inside
   pub cut-form : (at : ℕ) → Ends varlen s at → CutForm (drop at s)
-  cut-form at h = split (length s) at (λ past. rw (gone at past) CutForm.nothing) (λ inside.
+  cut-form at h = split (length s) at (λ past. rw (drop-of-length-le s {i = at} past) CutForm.nothing) (λ inside.
       rw (drop-cons s at 0 inside) (go (getD s at 0) (trailingOnes 8 (getD s at 0)) refl (are at) (rw length-drop (omega arith))))
     where
       go : (b t : ℕ) → t ≡ trailingOnes 8 b → b < 256 → length (drop (suc at) s) < t → CutForm (b ∷ drop (suc at) s)
@@ -211,7 +204,7 @@ module _ (s : List ℕ) (are : Bytes s) where
 
   pub tagged-faulty : {n : ℕ} → TaggedStop s n → TaggedFault s n
   tagged-faulty (TaggedStop.cutVersion none) =
-      let empty : s ≡ [] = gone s are 0 (omega arith) in
+      let empty : s ≡ [] = drop-of-length-le s {i = 0} (omega arith) in
       rw empty TaggedFault.cutVersion
   tagged-faulty (TaggedStop.cutSize inside two over) =
       subst (λ (l : List ℕ). TaggedFault l 1) (sym (two-first inside two)) (TaggedFault.cutSize (cut-form s are 1 over))

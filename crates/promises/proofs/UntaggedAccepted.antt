@@ -8,7 +8,7 @@ use native.Mathlib.Nat.{pow-suc}
 use native.Mathlib.Numerals.{add-one}
 use native.Mathlib.Omega.{arith}
 use lib.Dec.{ltb, leb, eqb}
-use lib.ListN.{length, drop, getD, length-append, length-drop}
+use lib.ListN.{length, drop, getD, length-append, length-drop, drop-of-length-le}
 use lib.Seq.{drop-cons}
 use borrow.Author.Tests.{ltb-true, eqb-true, eqb-false, leb-false, ltb-false}
 use Rattle.misc.specs.Pick.{pick}
@@ -52,12 +52,8 @@ module _ (s : List ℕ) where
       (λ few p.
       let none : 0 ≡ v = cc in
       let end : at ≡ next = cc in
-      let past : drop next s ≡ [] = gone (drop next s) (rw length-drop (omega (arith, leb-false 1 (length s - at) few))) in
+      let past : drop next s ≡ [] = drop-of-length-le s {i = next} (omega (arith, leb-false 1 (length s - at) few)) in
       record { bytes = []; holds = rw (past, ← none) LengthIfLeft.gone; is = rw end; inside = omega arith })
-    where
-      gone : (l : List ℕ) → length l ≡ 0 → l ≡ []
-      gone [] e = refl
-      gone (x ∷ l) e = absurd (omega arith)
 
   -- ---- pairs
 
@@ -121,12 +117,8 @@ module _ (s : List ℕ) where
       let other : eqb (getD s at 0) 2 ≡ false = rw inside at e in
       rw (drop-cons s at 0 (ltb-true at (length s) inside)) (NoTypecode.other (eqb-false (getD s at 0) 2 other)))
       (λ past.
-      let none : drop at s ≡ [] = gone (drop at s) (rw length-drop (omega (arith, ltb-false at (length s) past))) in
+      let none : drop at s ≡ [] = drop-of-length-le s {i = at} (ltb-false at (length s) past) in
       rw none NoTypecode.nothing)
-    where
-      gone : (l : List ℕ) → length l ≡ 0 → l ≡ []
-      gone [] e = refl
-      gone (x ∷ l) e = absurd (omega arith)
 
   pub typecode : (at : ℕ) → typecodeAt s at ≡ true → drop at s ≡ (2 ∷ []) ++ drop (at + 1) s
   typecode at e =
