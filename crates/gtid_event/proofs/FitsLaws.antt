@@ -27,7 +27,8 @@ field n bs vs h = (sym (length-map bs (u8-field .into)) ∙ h .1 .0 .1, bytes bs
 
 pub fits : (e : GtidEvent) (vs : List Val) → Is (row declared.the-type) e vs → Fits e
 fits e vs is =
-    let (flags, (sid, (gno, (tag, (tagLen, (typecode, (last, (sequence, (immediate, (original, (len, (version, (originalVersion, (ticket, _)))))))))))))) = is .1 .1 in
+    let (flags, (sid, (gno, (tag, (tagLen, (typecode, (last, (sequence, (immediate, (original, (len, (version, (originalVersion, (ticket, _)))))))))))))) =
+    is .1 .1 in
     let (sid-is, sid-bytes) = field 16 (e .sid) _ sid in
     let (tag-is, tag-bytes) = field 32 (e .tag) _ tag in
     record {

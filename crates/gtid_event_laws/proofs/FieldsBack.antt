@@ -18,7 +18,8 @@ use Rattle.packets.specs.Tag.{isTag}
 use Rattle.packets.proofs.Tests.{split}
 use Rattle.packets.proofs.TagLaws.{tag-at-most-32}
 use Rattle.gtid_event_read.specs.declared.Fields.{Fields}
-use Rattle.gtid_event_read.specs.Fields.{Kind, anyNumber, upTo, natural, tag, kindOf, withNumber, withUuid, withTagBytes, limitedAt, uuidAt, tagAt, valueAt, fieldAt, fieldsFrom}
+use Rattle.gtid_event_read.specs.Fields.{Kind, anyNumber, upTo, natural, tag, kindOf, withNumber, withUuid, withTagBytes, limitedAt, uuidAt, tagAt, valueAt}
+use Rattle.gtid_event_read.specs.Fields.{fieldAt, fieldsFrom}
 use Rattle.gtid_event_write.specs.Layout.{numberBytes, unlessBytes, itemsBytes}
 use Rattle.gtid_event_laws.proofs.Stands.{Stands, each, bytes-stand, varlen-stands}
 

@@ -30,7 +30,8 @@ use Rattle.gtid_event_laws.proofs.WritableLaws.{TaggedFacts, tagged-fac
 use Rattle.gtid_event_write.proofs.SizeLaws.{payload-agrees}
 use Rattle.gtid_event_write.proofs.LayoutLaws.{length-tagged}
 use Rattle.gtid_event_write.proofs.TotalsLaws.{total-most}
-use Rattle.gtid_event_laws.proofs.FieldsBack.{Run, plain, limited, doubled, one, _then_, perhaps, number-field, uuid-field, tag-field, optional, run-read}
+use Rattle.gtid_event_laws.proofs.FieldsBack.{Run, plain, limited, doubled, one, _then_, perhaps, number-field, uuid-field, tag-field, optional}
+use Rattle.gtid_event_laws.proofs.FieldsBack.{run-read}
 
 -- ---- the fields, and what is there once they are read
 
@@ -124,7 +125,8 @@ module _ (e : GtidEvent) (fits : Fits e) (facts : TaggedFacts e) where
       let (version, (count, (last, (fields, _)))) =
       each ((2 ∷ []) ∷ varlenBytes size ∷ varlenBytes 0 ∷ fieldBytes e ∷ []) st (unfold taggedBytes in simp (append-assoc, append-nil)) in
       let start = 0 + 1 + length (varlenBytes size) + length (varlenBytes 0) in
-      let sum : size ≡ start + length (fieldBytes e) = omega (arith, payload-agrees (length (fieldBytes e)), length-varlenBytes size, length-small 0 (omega arith)) in
+      let sum : size ≡ start + length (fieldBytes e) =
+      omega (arith, payload-agrees (length (fieldBytes e)), length-varlenBytes size, length-small 0 (omega arith)) in
       rw (
         byte-stands 2 version,
         varlen-stands size (omega arith) count,

@@ -21,7 +21,8 @@ use Rattle.packets.proofs.Tests.{split}
 use Rattle.gtid_event.specs.Event.{undefinedVersion, tagged}
 use Rattle.gtid_event.specs.declared.GtidEvent.{GtidEvent}
 use Rattle.gtid_event.proofs.BuiltLaws.{same-event}
-use Rattle.gtid_event_read.specs.Untagged.{Pair, pair, pairAt, timestampsAt, lengthAt, versionsAt, opened, openingAt, clocked, clockAt, typecodeAt, untagged, ifLeft}
+use Rattle.gtid_event_read.specs.Untagged.{Pair, pair, pairAt, timestampsAt, lengthAt, versionsAt, opened, openingAt, clocked, clockAt, typecodeAt, untagged}
+use Rattle.gtid_event_read.specs.Untagged.{ifLeft}
 use Rattle.gtid_event_write.specs.Writable.{writable}
 use Rattle.gtid_event_write.specs.Layout.{pairBytes, openingBytes, laterBytes, untaggedBytes}
 use Rattle.gtid_event.specs.Fits.{Fits}

@@ -19,7 +19,8 @@ use Rattle.misc.proofs.ParseLaws.{never, then-parsed, mapped-parsed, judged-par
 use Rattle.misc.proofs.Walk.{SoFar, ahead, walk-next, walk-refused, walk-end}
 use Rattle.misc.proofs.Forward.{varlen-forward}
 use Rattle.packets.specs.Tag.{isTag}
-use Rattle.gtid_event_read.specs.Fields.{Kind, anyNumber, upTo, natural, uuid, tag, unknown, fieldTable, kindOf, noFields, withNumber, withUuid, withTagBytes, limitedAt, uuidAt, tagAt, valueAt, fieldAt, fieldsFrom, fieldsOf}
+use Rattle.gtid_event_read.specs.Fields.{Kind, anyNumber, upTo, natural, uuid, tag, unknown, fieldTable, kindOf, noFields, withNumber, withUuid}
+use Rattle.gtid_event_read.specs.Fields.{withTagBytes, limitedAt, uuidAt, tagAt, valueAt, fieldAt, fieldsFrom, fieldsOf}
 use Rattle.gtid_event_read.specs.Told.{Told, ToldPart}
 use Rattle.gtid_event_read.specs.declared.Fields.{Fields}
 use Rattle.gtid_event_read.specs.declared.field.FieldsRead.{FieldsRead}

@@ -17,7 +17,8 @@ use Rattle.misc.proofs.Bounds.{zero-at, zeros-bytes, varlen-below, natural-belo
 use Rattle.packets.specs.Tag.{isTag}
 use Rattle.packets.specs.Kept.{padded}
 use Rattle.gtid_event.specs.Event.{undefinedVersion}
-use Rattle.gtid_event_read.specs.Fields.{Kind, anyNumber, upTo, natural, uuid, tag, unknown, kindOf, noFields, withNumber, withUuid, withTagBytes, limitedAt, uuidAt, tagAt, valueAt, fieldAt, fieldsFrom, fieldsOf}
+use Rattle.gtid_event_read.specs.Fields.{Kind, anyNumber, upTo, natural, uuid, tag, unknown, kindOf, noFields, withNumber, withUuid, withTagBytes}
+use Rattle.gtid_event_read.specs.Fields.{limitedAt, uuidAt, tagAt, valueAt, fieldAt, fieldsFrom, fieldsOf}
 use Rattle.gtid_event_read.specs.Range.{limitOf, InRange}
 use Rattle.gtid_event_read.specs.declared.Fields.{Fields}
 use Rattle.gtid_event_read.proofs.FieldLaws.{limited-parsed}
@@ -58,7 +59,8 @@ none-in-range =
     set-in-range (replicate 12 0) 9 undefinedVersion (record { limited = λ id. rw (zero-at 12 id) (omega arith) }) (omega arith)
 
 module _ (last : ℕ) (s : List ℕ) (bytes : Bytes s) where
-  value-in-range : (k : Kind) (id : ℕ) → kindOf id ≡ k → (f : Fields) (at : ℕ) → InRange (f .numbers) → {g : Fields} {next : ℕ} → valueAt k last id s f at ≡ parsed g next → InRange (g .numbers)
+  value-in-range : (k : Kind) (id : ℕ) → kindOf id ≡ k → (f : Fields) (at : ℕ) → InRange (f .numbers) → {g : Fields} {next : ℕ}
+      → valueAt k last id s f at ≡ parsed g next → InRange (g .numbers)
   value-in-range anyNumber id is f at h {g} {next} e =
       let (v, p, q) = mapped-parsed (withNumber id f) (varlenAt s at) g next e in
       rw q (set-in-range (f .numbers) id v h (rw is (omega (arith, varlen-below s bytes at p))))
@@ -138,7 +140,8 @@ module _ (last : ℕ) (s : List ℕ) where
   not-three : {k : Kind} (id : ℕ) → kindOf id ≡ k → (tag ≡ k → ⊥) → 3 ≡ id → ⊥
   not-three id is other e = other (rw (← e) at is)
 
-  value-shaped : (k : Kind) (id : ℕ) → kindOf id ≡ k → (f : Fields) (at : ℕ) → Shaped f → {g : Fields} {next : ℕ} → valueAt k last id s f at ≡ parsed g next → Shaped g
+  value-shaped : (k : Kind) (id : ℕ) → kindOf id ≡ k → (f : Fields) (at : ℕ) → Shaped f → {g : Fields} {next : ℕ} → valueAt k last id s f at ≡ parsed g next
+      → Shaped g
   value-shaped anyNumber id is f at h {g} {next} e =
       let (v, p, q) = mapped-parsed (withNumber id f) (varlenAt s at) g next e in
       rw q (number-shaped f id v (not-three id is (λ t. let clash : _≡_ {A = ℕ} 0 1 = cc in omega arith)) h)

@@ -19,7 +19,8 @@ use Rattle.packets.specs.Tag.{isTag}
 use Rattle.gtid_event.specs.Event.{undefinedVersion}
 use Rattle.gtid_event.specs.declared.GtidEvent.{GtidEvent}
 use Rattle.gtid_event_read.specs.Seen.{Seen}
-use Rattle.gtid_event_read.specs.Untagged.{Pair, pair, originalAfter, pairAt, timestampsAt, lengthAt, versionsAt, opened, openingAt, clocked, typecodeAt, untagged}
+use Rattle.gtid_event_read.specs.Untagged.{Pair, pair, originalAfter, pairAt, timestampsAt, lengthAt, versionsAt, opened, openingAt, clocked, typecodeAt}
+use Rattle.gtid_event_read.specs.Untagged.{untagged}
 use Rattle.gtid_event_read.specs.Tagged.{recordOf, tagged}
 use Rattle.gtid_event_read.specs.Range.{InRange}
 use Rattle.gtid_event_read.specs.Read.{gtid}
@@ -67,10 +68,12 @@ record-range f n h there = record {
   last-committed = omega (arith, n .limited 4);
   sequence-number = omega (arith, n .limited 5);
   immediate-timestamp = omega (arith, n .limited 6);
-  original-timestamp = pick-below (getD (f .present) 7 false) (getD (f .numbers) 7 0) (getD (f .numbers) 6 0) (2 ^ 64) (omega (arith, n .limited 7)) (omega (arith, n .limited 6));
+  original-timestamp = pick-below (getD (f .present) 7 false) (getD (f .numbers) 7 0) (getD (f .numbers) 6 0) (2 ^ 64) (omega (arith, n .limited 7))
+      (omega (arith, n .limited 6));
   tx-length = omega (arith, n .limited 8);
   immediate-version = omega (arith, n .limited 9);
-  original-version = pick-below (getD (f .present) 10 false) (getD (f .numbers) 10 0) (getD (f .numbers) 9 0) (2 ^ 32) (omega (arith, n .limited 10)) (omega (arith, n .limited 9));
+  original-version = pick-below (getD (f .present) 10 false) (getD (f .numbers) 10 0) (getD (f .numbers) 9 0) (2 ^ 32) (omega (arith, n .limited 10))
+      (omega (arith, n .limited 9));
   ticket = omega (arith, n .limited 11);
 }
 

@@ -21,7 +21,8 @@ use Rattle.packets.proofs.Tests as tests
 use Rattle.gtid_event.specs.Event.{undefinedVersion}
 use Rattle.gtid_event.specs.declared.GtidEvent.{GtidEvent}
 use Rattle.gtid_event_read.specs.Seen.{Seen, untaggedSeen}
-use Rattle.gtid_event_read.specs.Untagged.{Pair, pair, originalAfter, pairAt, ifLeft, timestampsAt, lengthAt, versionsAt, openingAt, clockAt, typecodeAt, untagged}
+use Rattle.gtid_event_read.specs.Untagged.{Pair, pair, originalAfter, pairAt, ifLeft, timestampsAt, lengthAt, versionsAt, openingAt, clockAt, typecodeAt}
+use Rattle.gtid_event_read.specs.Untagged.{untagged}
 use Rattle.gtid_event_read.specs.Tagged.{tagged}
 use Rattle.gtid_event_read.specs.Read.{seen, recordIn, gtid, gtidRead}
 use Rattle.gtid_event_read.specs.Told.{Told}
@@ -91,7 +92,8 @@ module _ (s : List ℕ) where
   unfolding untagged
   untagged-inside {g} {next} e =
       let (event, at, p, q) = then-parsed (openingAt s 0) _ g next e in
-      pick-either (typecodeAt s at) q (λ _ r. clock-inside event (at + 1) r) (λ _ r. let same : at ≡ next = cc in let o = opening-parsed s 0 p in rw same at (le-forward s (o .at₂) 8 (o .gno-read) .1))
+      pick-either (typecodeAt s at) q (λ _ r. clock-inside event (at + 1) r)
+      (λ _ r. let same : at ≡ next = cc in let o = opening-parsed s 0 p in rw same at (le-forward s (o .at₂) 8 (o .gno-read) .1))
 
   tagged-inside : {g : Seen} {next : ℕ} → tagged s ≡ parsed g next → next ≤ length s
   tagged-inside e = let t = tagged-parsed s e in rw (t .ends) (t .here)

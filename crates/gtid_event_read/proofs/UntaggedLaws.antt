@@ -16,7 +16,8 @@ use Rattle.misc.proofs.ParseLaws.{split, then-parsed, mapped-parsed, part-lengt
 use Rattle.misc.proofs.LeLaws.{le-here, le-gone}
 use Rattle.packets.specs.Kept.{padded, kept}
 use Rattle.gtid_event.specs.declared.GtidEvent.{GtidEvent}
-use Rattle.gtid_event_read.specs.Untagged.{Pair, pair, originalAfter, pairAt, ifLeft, timestampsAt, lengthAt, versionsAt, opened, openingAt, clocked, clockAt, untagged}
+use Rattle.gtid_event_read.specs.Untagged.{Pair, pair, originalAfter, pairAt, ifLeft, timestampsAt, lengthAt, versionsAt, opened, openingAt, clocked}
+use Rattle.gtid_event_read.specs.Untagged.{clockAt, untagged}
 use Rattle.gtid_event_read.specs.Told.{Told, laterAt}
 use Rattle.gtid_event_read.proofs.Telling.{got, uint, goes, maps}
 
@@ -84,7 +85,9 @@ module _ (w : ℕ) (s : List ℕ) (at : ℕ) (room : at + w ≤ length s) {r : R
   pub pair-both : hasBit (8 * w - 1) (r .value) ≡ true → {i : ℕ} → i ≡ clearBit (8 * w - 1) (r .value) → {o : ReadUint} → o ≡ uintRead (leAt w s (r .next))
       → Told (pairAt w s at) (o .refusal) (pair i (o .value)) (o .next)
   unfolding pairAt
-  pair-both bit i-is o-is = goes (uint (leAt w s at) is) first-here (originalAfter w s) (rw (bit, i-is) (maps (uint (leAt w s (r .next)) o-is) (pair (clearBit (8 * w - 1) (r .value)))))
+  pair-both bit i-is o-is =
+      goes (uint (leAt w s at) is) first-here (originalAfter w s)
+      (rw (bit, i-is) (maps (uint (leAt w s (r .next)) o-is) (pair (clearBit (8 * w - 1) (r .value)))))
 
   pub pair-one : hasBit (8 * w - 1) (r .value) ≡ false → Told (pairAt w s at) 0 (pair (r .value) (r .value)) (r .next)
   unfolding pairAt

@@ -33,7 +33,8 @@ least-size (suc k) n m v h l = go (ltb v (2 ^ (7 * n))) refl (λ more. least-siz
 size-mono : (a b : ℕ) → a ≤ b → varlenSize a ≤ varlenSize b
 unfolding varlenSize
 size-mono a b h =
-    split 9 (varlenSize b) (λ nine. omega (arith, size-range a)) (λ less. least-size 8 1 (varlenSize b) a (size-range b .0) (lt-of-le-of-lt h (size-holds b less)))
+    split 9 (varlenSize b) (λ nine. omega (arith, size-range a))
+    (λ less. least-size 8 1 (varlenSize b) a (size-range b .0) (lt-of-le-of-lt h (size-holds b less)))
 
 -- a size that holds it is no less
 pub size-most : (m v : ℕ) → 1 ≤ m → v < 2 ^ (7 * m) → varlenSize v ≤ m

@@ -80,7 +80,8 @@ module _ (e : GtidEvent) (fits : Fits e) (tests : TaggedFits e) where
       let original = fits .original-version-fits in
       number 8 (e .«tx_length») (omega arith) (any (e .«tx_length»))
       plus number 9 (e .«immediate_server_version») (omega arith) (item 5 (e .«immediate_server_version») (omega arith) (omega arith))
-      plus unless 10 (e .«original_server_version») (e .«immediate_server_version») (omega arith) (item 5 (e .«original_server_version») (omega arith) (omega arith))
+      plus unless 10 (e .«original_server_version») (e .«immediate_server_version») (omega arith)
+      (item 5 (e .«original_server_version») (omega arith) (omega arith))
       plus unless 11 (e .«commit_group_ticket») 0 (omega arith) (any (e .«commit_group_ticket»))
 
   pub fields-within : Within (fieldBytes e) 34 152

@@ -74,7 +74,8 @@ greatest-fits : (k : ℕ) → k ≤ 32 → Fits (greatest k)
 greatest-fits k few = sample-fits k 255 (2 ^ 63 - 1) (2 ^ 64 - 1) (2 ^ 32 - 1) few (omega arith) (omega arith) (omega arith) (omega arith)
 
 pub totals : Totals
-unfolding leBytes sizeFrom varlenSize itemOf varlenBytes padded allTagBytes isTag sizeWith payloadSize signedTop allZero writable itemsBytes identityBytes clockBytes restBytes fieldBytes taggedBytes eventBytes
+unfolding leBytes sizeFrom varlenSize itemOf varlenBytes padded allTagBytes isTag sizeWith payloadSize signedTop allZero writable itemsBytes identityBytes
+    clockBytes restBytes fieldBytes taggedBytes eventBytes
 totals = record {
   least = least;
   most = most;

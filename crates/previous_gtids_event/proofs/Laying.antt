@@ -98,9 +98,11 @@ module _ (s : List ℕ) where
   pub uuid-there : (at : ℕ) (uuid rest : List ℕ) → length uuid ≡ 16 → From s at (uuid ++ rest) → (at + 16 ≤ length s) × From s (at + 16) rest
   uuid-there at uuid rest sixteen h = (omega (arith, from-room s at uuid rest h), rw sixteen at (from-next s at uuid rest h))
 
-  pub entry-reads : (tagged : Bool) (at : ℕ) (e : Entry) (bs rest : List ℕ) → EntryLaid tagged e bs → From s at (bs ++ rest) → entryAt tagged s at ≡ parsed e (at + length bs)
+  pub entry-reads : (tagged : Bool) (at : ℕ) (e : Entry) (bs rest : List ℕ) → EntryLaid tagged e bs → From s at (bs ++ rest)
+      → entryAt tagged s at ≡ parsed e (at + length bs)
   unfolding entryAt headAt keyAt
-  entry-reads tagged at e bs rest (EntryLaid.parts uuid {tag = t} {bytes = tag} {count = count} {intervals = list} {is = is} sixteen tag-is count-is list-is) h =
+  entry-reads tagged at e bs rest (EntryLaid.parts uuid {tag = t} {bytes = tag} {count = count} {intervals = list} {is = is} sixteen tag-is count-is list-is)
+      h =
       let flat : From s at (uuid ++ (tag ++ (count ++ (list ++ rest)))) = simp append-assoc at h in
       let (room, second) = uuid-there at uuid (tag ++ (count ++ (list ++ rest))) sixteen flat in
       let named : part s at 16 ≡ uuid = from-part s at uuid (tag ++ (count ++ (list ++ rest))) flat 16 (sym sixteen) in
@@ -156,7 +158,9 @@ tag-good (TagLaid.sized form good) = good
 
 pub laid-well-formed : (tagged : Bool) (es : List Entry) (bs : List ℕ) → EntriesLaid tagged es bs → Bytes bs → WellFormed es
 laid-well-formed tagged es bs EntriesLaid.none are = tt
-laid-well-formed tagged es bs (EntriesLaid.more {es = more} {one = one} {rest = others} (EntryLaid.parts uuid {tag = t} {bytes = tag} {count = count} {intervals = list} {is = is} sixteen tag-is count-is list-is) laid) are =
+laid-well-formed tagged es bs
+    (EntriesLaid.more {es = more} {one = one} {rest = others}
+    (EntryLaid.parts uuid {tag = t} {bytes = tag} {count = count} {intervals = list} {is = is} sixteen tag-is count-is list-is) laid) are =
     let counted = behind-bytes tag (count ++ list) (behind-bytes uuid (tag ++ (count ++ list)) (front-bytes (uuid ++ (tag ++ (count ++ list))) others are)) in (
       record { uuid = rw (uuid-of uuid t sixteen) sixteen; rule = rw (tag-of uuid t sixteen) (tag-good tag-is) },
       intervals-good is list list-is (behind-bytes count list counted),

@@ -15,7 +15,8 @@ use Rattle.misc.specs.declared.ReadUint.{ReadUint}
 use Rattle.misc.specs.Body.{bodyLimit, ofBody}
 use Rattle.misc.specs.Le.{leOf, leAt}
 use Rattle.misc.specs.Varlen.{varlenAt}
-use Rattle.misc.proofs.ParseLaws.{split, never, was-parsed, was-refused, then-parsed, mapped-parsed, judged-parsed, pick-parsed, bytes-here, bytes-gone, bytes-parsed, part-length}
+use Rattle.misc.proofs.ParseLaws.{split, never, was-parsed, was-refused, then-parsed, mapped-parsed, judged-parsed, pick-parsed, bytes-here, bytes-gone}
+use Rattle.misc.proofs.ParseLaws.{bytes-parsed, part-length}
 use Rattle.misc.proofs.BodyLaws.{body-fits, body-too-long, body-then}
 use Rattle.misc.proofs.LeLaws.{le-here, le-gone}
 use Rattle.misc.proofs.Forward.{le-forward, varlen-forward}
@@ -25,7 +26,8 @@ use Rattle.packets.specs.Key.{Key}
 use Rattle.packets.proofs.TagLaws.{none-or-tag-short}
 use Rattle.previous_gtids_event.specs.Entry.{Entry, entry, uuidOf, tagOf}
 use Rattle.packets.specs.Tag.{noneOrTag}
-use Rattle.previous_gtids_event.specs.Previous.{tagAt, keyAt, Head, head, headAt, intervalAt, intervalsAfter, entryAt, saysTagged, saysCount, entriesAfter, previous}
+use Rattle.previous_gtids_event.specs.Previous.{tagAt, keyAt, Head, head, headAt, intervalAt, intervalsAfter, entryAt, saysTagged, saysCount}
+use Rattle.previous_gtids_event.specs.Previous.{entriesAfter, previous}
 use Rattle.previous_gtids_event.specs.Answers.{previousRead, headerRead, entryRead, intervalRead}
 use Rattle.previous_gtids_event.specs.Inside.{tagRead, headRead, wholeRead}
 use Rattle.previous_gtids_event.specs.declared.HeaderRead.{HeaderRead}
@@ -405,7 +407,8 @@ module _ (tagged : Bool) (s : List ℕ) (at : ℕ) where
         ≡ wholeRead (entryAt tagged s at)
     whole-answer h =
         let (k, e, len) = head-told in
-        ap (λ (l : ℕ). laid l (r .intervals) (r .first)) len ∙ sym (ap wholeRead (entry-here tagged s at k (r .intervals) (r .first) e h) ∙ place k (r .intervals) (r .first))
+        ap (λ (l : ℕ). laid l (r .intervals) (r .first)) len
+        ∙ sym (ap wholeRead (entry-here tagged s at k (r .intervals) (r .first) e h) ∙ place k (r .intervals) (r .first))
       where
         laid : ℕ → ℕ → ℕ → WholeRead
         laid l n first = record { refusal = 0; «tag_len» = l; intervals = n; first = first; next = first + 16 * n }
@@ -484,7 +487,8 @@ entry-answer tagged s at r told uuid tag u g =
     let u-is : uuid ≡ uuidOf k = u ∙ kept-full 16 (drop at s) (part-length 16 s at room) ∙ sym (head .uuid) in
     let t-is : part s (r .first - 8 - r .«tag_len») (r .«tag_len») ≡ tagOf k = rw (told .first, told .tag-len) (there .bytes) in
     let g-is : tag ≡ padded 32 (tagOf k) = g ∙ ap (kept 32) t-is ∙ kept-short 32 (tagOf k) (there .short) in
-    fields uuid (uuidOf k) u-is tag (padded 32 (tagOf k)) g-is (r .«tag_len») (length (tagOf k)) (told .tag-len) (r .intervals) (length (told .list)) (told .count)
+    fields uuid (uuidOf k) u-is tag (padded 32 (tagOf k)) g-is (r .«tag_len») (length (tagOf k)) (told .tag-len) (r .intervals) (length (told .list))
+    (told .count)
     (r .first) (r .next - 16 * length (told .list)) first
     ∙ sym (ap entryRead (told .is))
   where

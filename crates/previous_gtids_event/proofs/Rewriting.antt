@@ -157,7 +157,8 @@ module _ (item : ℕ → Parse Entry) (tags : Bool) (out₀ : List ℕ) (at : �
       let one : WhereFits out put (entryBytes tags (turn .head)) out′ put′ =
       subst (λ (p : Parse Entry). WhereFits out put (entryBytesOf tags p) out′ put′) (turn .is) step in
       let all : entriesBytesOf tags (many item (suc n) next) ≡ entryBytes tags (turn .head) ++ entriesBytesOf tags (many item n (turn .next)) =
-      ap (entriesBytesOf tags) (many-next item n next (turn .head) (turn .next) (turn .is)) ∙ bytes-ahead tags (turn .head) (many item n (turn .next)) (turn .rest) in
+      ap (entriesBytesOf tags) (many-next item n next (turn .head) (turn .next) (turn .is))
+      ∙ bytes-ahead tags (turn .head) (many item n (turn .next)) (turn .rest) in
       subst (λ (m : ℕ). PutSoFar item tags out₀ at wanted n m out′ put′) (sym same) (record {
         whole = turn .rest;
         rest = λ {l′} {end} q. so-far .rest (subst (λ (bs : List ℕ). WhereFits out put bs l′ end) (sym all) (one also q));

@@ -58,7 +58,8 @@ module _ (s : List ℕ) (are : Bytes s) (small : length s ≤ 65536) (t : Bool) 
       let count : saysCount h ≡ n = ap (λ (y : HeaderRead). y .entries) told in
       rw (tagged, count) at (header-found s are h read))
       (λ over.
-      let told : headerRead (refuse ended) ≡ record { refusal = 0; tagged = t; entries = n } = ap headerRead (sym (body-fits s (leAt 8 s 0) small ∙ le-gone 8 s 0 over)) ∙ e in
+      let told : headerRead (refuse ended) ≡ record { refusal = 0; tagged = t; entries = n } =
+      ap headerRead (sym (body-fits s (leAt 8 s 0) small ∙ le-gone 8 s 0 over)) ∙ e in
       absurd (no-zero ended (ap (λ (y : HeaderRead). y .refusal) told)))
 
 -- ---- bodies
@@ -174,7 +175,12 @@ entries-take : (tagged : Bool) (es : List Entry) → WellFormed es → 24 * leng
 unfolding entriesBytes
 entries-take tagged [] good = omega arith
 entries-take tagged (entry k is ∷ es) good =
-    omega (arith, length-append (entryBytes tagged (entry k is)) (entriesBytes tagged es), entry-length tagged k is (good .0 .uuid), entries-take tagged es (good .3))
+    omega (
+      arith,
+      length-append (entryBytes tagged (entry k is)) (entriesBytes tagged es),
+      entry-length tagged k is (good .0 .uuid),
+      entries-take tagged es (good .3),
+    )
 
 module _ (es : List Entry) (good : WellFormed es) where
   few : length (bodyBytes es) < 2 ^ 48 → length es < 2 ^ 48
@@ -276,7 +282,8 @@ no-tags es bs EntriesLaid.none = refl
 no-tags es bs (EntriesLaid.more {es = more} {rest = rest} (EntryLaid.parts uuid {tag = t} {bytes = tag} sixteen tag-is count-is list-is) laid) =
     rw (tag-of uuid t sixteen, no-tag t tag tag-is) (no-tags more rest laid)
 
-written-least : (tagged : Bool) (es : List Entry) (bs : List ℕ) → EntriesLaid tagged es bs → length (entriesBytes (anyTag es) es) ≤ length (entriesBytes tagged es)
+written-least : (tagged : Bool) (es : List Entry) (bs : List ℕ) → EntriesLaid tagged es bs
+    → length (entriesBytes (anyTag es) es) ≤ length (entriesBytes tagged es)
 written-least false es bs l = rw (no-tags es bs l) (omega arith)
 written-least true es bs l = go (anyTag es)
   where

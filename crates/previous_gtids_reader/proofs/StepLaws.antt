@@ -23,7 +23,8 @@ use Rattle.previous_gtids_event.specs.declared.EntryRead.{EntryRead}
 use Rattle.previous_gtids_event.proofs.Reading.{was-read, was-not-read, header-says, headed}
 use Rattle.previous_gtids_reader.specs.declared.Cursor.{Cursor}
 use Rattle.previous_gtids_reader.specs.declared.Step.{Step}
-use Rattle.previous_gtids_reader.specs.Steps.{cursorAt, refusedCursor, cursorOf, startOf, refusedStep, endStep, entryStep, stepped, headedStep, stepOf, onwards, cursorAfter, stepAfter}
+use Rattle.previous_gtids_reader.specs.Steps.{cursorAt, refusedCursor, cursorOf, startOf, refusedStep, endStep, entryStep, stepped, headedStep, stepOf}
+use Rattle.previous_gtids_reader.specs.Steps.{onwards, cursorAfter, stepAfter}
 
 -- what the body's header says
 abbrev pub says : List ℕ → HeaderRead

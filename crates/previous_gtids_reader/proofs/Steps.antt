@@ -17,7 +17,8 @@ use Rattle.previous_gtids_event.proofs.Reading.{headless, headed}
 use Rattle.previous_gtids_reader.specs.declared.Cursor.{Cursor}
 use Rattle.previous_gtids_reader.specs.declared.Step.{Step}
 use Rattle.previous_gtids_reader.specs.Steps.{cursorAt, startOf, refusedStep, endStep, entryStep, stepOf, onwards, cursorAfter, stepAfter}
-use Rattle.previous_gtids_reader.proofs.StepLaws.{says, Hands, hands-told, start-read, step-unbegun, step-end, step-there, after-none, after-next, after-still, after-more, step-after}
+use Rattle.previous_gtids_reader.proofs.StepLaws.{says, Hands, hands-told, start-read, step-unbegun, step-end, step-there, after-none, after-next}
+use Rattle.previous_gtids_reader.proofs.StepLaws.{after-still, after-more, step-after}
 
 -- the steps from a cursor on hand out these entries, in order
 abbrev pub Gives : List ℕ → Cursor → List Entry → Type 0

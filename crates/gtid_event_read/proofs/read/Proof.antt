@@ -34,9 +34,11 @@ returns-2 c =
 
 returns-3 : tie.Need-returns-3
 returns-3 c =
-    let a = c .before .before .before .before .before .before .args in
+    let at-if1 = c .before .before .before .before in
+    let start = at-if1 .before .before in
+    let a = start .args in
     c .deserialize-untagged .ensures
-    ∙ ap gtidRead (sym (seen-untagged (a .event-type) (a .body .now) (c .before .before .before .before .if1 .left) (c .before .before .if2 .left) (c .before .if3 .taken)))
+    ∙ ap gtidRead (sym (seen-untagged (a .event-type) (a .body .now) (at-if1 .if1 .left) (c .before .before .if2 .left) (c .before .if3 .taken)))
 
 returns-4 : tie.Need-returns-4
 returns-4 c =

@@ -29,11 +29,14 @@ refused-requires c κs = search needs
 
 returns-3 : tie.Need-returns-3
 returns-3 c =
-    let a = c .before .before .before .before .before .before .before .args in
-    let r = c .before .before .before .before .before .read in
+    let at-if1 = c .before .before .before in
+    let at-read = at-if1 .before .before in
+    let start = at-read .before .before in
+    let a = start .args in
+    let r = at-read .read in
     let sent = c .before .before .sends-id in
     c .refused .ensures
-    ∙ named-absent (a .event-type) (a .body .now) (r .result) (r .ensures) (c .before .before .before .if1 .left) (sent .result) (sent .ensures) (c .before .if2 .left)
+    ∙ named-absent (a .event-type) (a .body .now) (r .result) (r .ensures) (at-if1 .if1 .left) (sent .result) (sent .ensures) (c .before .if2 .left)
 
 pub read-named-spec : {M : Type 1} → statement M
 read-named-spec =

@@ -31,9 +31,14 @@ loop-less c = search needs
 
 loop-again : tie.Need-loop-again Inv-loop μ-loop
 loop-again c =
-    let a = c .before .before .before .before .before .before .before .args in
-    let l = c .before .before .before .before .loop in
-    (omega arith, ahead-turn (now (a .body)) _ _ (l .cursor) (l .inv .1) (a .index - (l .done + 1)) (omega arith) _ (c .before .before .step-from .ensures) (c .before .if1 .taken))
+    let at-loop = c .before .before .before .before in
+    let start = at-loop .before .before .before in
+    let a = start .args in
+    let l = at-loop .loop in (
+      omega arith,
+      ahead-turn (now (a .body)) _ _ (l .cursor) (l .inv .1) (a .index - (l .done + 1)) (omega arith) _ (c .before .before .step-from .ensures)
+          (c .before .if1 .taken),
+    )
 
 returns : tie.Need-returns Inv-loop μ-loop
 returns c =

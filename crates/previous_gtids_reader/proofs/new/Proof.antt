@@ -1,5 +1,6 @@
--- `previous_gtids_reader::new` meets its contract: a walk of its MIR, by hand. `start` is called on the slice, and a struct is made of the slice and the cursor that it returns. All that the proof knows of `start` is that it meets its contract.
--- A `&[u8]` is Copy, so what it owns is had again for each use: for the callee, for body at exit, and inside the result.
+-- `previous_gtids_reader::new` meets its contract: a walk of its MIR, by hand. `start` is called on the slice, and a struct is made of the
+-- slice and the cursor that it returns. All that the proof knows of `start` is that it meets its contract. A `&[u8]` is Copy, so what it
+-- owns is had again for each use: for the callee, for body at exit, and inside the result.
 -- Assumes nothing.
 use mathlib.Core.Path.{_≡_, refl, sym, ap, subst}
 use Prim.Native.Nat.{ℕ}
@@ -68,7 +69,8 @@ module _ {M : Type 1} (𝓤 : URA M) (H : Heap 𝓤) (A : Atoms 𝓤) (mem : Mem
   abbrev Start : Contract 𝓤
   Start = tripleOf 𝓤 H A start.signature (start.spec 𝓤 H A mem run)
 
-module _ {M : Type 1} (𝓤 : URA M) (H : Heap 𝓤) (A : Atoms 𝓤) (W : Given 𝓤 H A) (mem : Memory → SProp 𝓤) (run : Routine → Fun 𝓤) (κ : Lft) (q : Share) (s : RefT (List ℕ)) where
+module _ {M : Type 1} (𝓤 : URA M) (H : Heap 𝓤) (A : Atoms 𝓤) (W : Given 𝓤 H A) (mem : Memory → SProp 𝓤) (run : Routine → Fun 𝓤) (κ : Lft) (q : Share)
+    (s : RefT (List ℕ)) where
   abbrev α : NamedLft
   α = namedLft 1 0 tt (κ, tt)
 
@@ -93,7 +95,9 @@ module _ {M : Type 1} (𝓤 : URA M) (H : Heap 𝓤) (A : Atoms 𝓤) (W : Given
   goes =
       qed W ((‵ (flft κ q) ⊛ ‵ ftrue) ∷ ‵ (owns (ShrSlice (named 0) κ u8 ∷ []) (s, tt) (v ∷ [], tt)) ∷ []) ∵
       move ! (1 ∷ []) $ fsplit ! $ use1 W (‵ Own ⊛ ‵ Own) (shr-slice-copy 𝓤 H A W (named 0) κ u8 .twice s (v ∷ [])) $ split ! $
-      move ! (0 ∷ 2 ∷ []) $ fjoin ! $ move ! (2 ∷ 0 ∷ []) $ use2 W (raw (Start 𝓤 H A mem run .pre to)) (qed W ((‵ (flft κ q) ⊛ ‵ ftrue) ∷ ‵ (owns (ShrSlice (named 0) κ u8 ∷ []) (s, tt) (v ∷ [], tt)) ∷ []) ∵ join ! $ frame ! $ done !) $ frame ! $ done !
+      move ! (0 ∷ 2 ∷ []) $ fjoin ! $ move ! (2 ∷ 0 ∷ []) $
+      use2 W (raw (Start 𝓤 H A mem run .pre to))
+      (qed W ((‵ (flft κ q) ⊛ ‵ ftrue) ∷ ‵ (owns (ShrSlice (named 0) κ u8 ∷ []) (s, tt) (v ∷ [], tt)) ∷ []) ∵ join ! $ frame ! $ done !) $ frame ! $ done !
 
   said : (r : Cursor) → ent 𝓤 (ensured 𝓤 H A start.ended (start.clauses 𝓤 H A mem run) (κ, tt) (s, tt) tt r) (fact 𝓤 (r ≡ found))
   said r = exE 𝓤 _ (λ ws. snd∗ 𝓤 (sem 𝓤 H A (lasts start.ended (κ, tt) (s, tt) ws)) (fact 𝓤 (r ≡ found)))
@@ -102,48 +106,63 @@ module _ {M : Type 1} (𝓤 : URA M) (H : Heap 𝓤) (A : Atoms 𝓤) (W : Given
   abbrev made : Val → Val
   made u = vstruct (vcons v (vcons u vnil))
 
-  exits-at : (r : Cursor) → r ≡ found → ent 𝓤 (⋆ 𝓤 H A (‵ (P.the-row .own r (P′.lowered r ∷ [])) ∷ (‵ (flft κ q) ⊛ ‵ ftrue) ∷ ‵ Own ∷ [])) (Post (made (P′.lowered r)))
+  exits-at : (r : Cursor) → r ≡ found
+      → ent 𝓤 (⋆ 𝓤 H A (‵ (P.the-row .own r (P′.lowered r ∷ [])) ∷ (‵ (flft κ q) ⊛ ‵ ftrue) ∷ ‵ Own ∷ [])) (Post (made (P′.lowered r)))
   exits-at r e =
       qed W (‵ (P.the-row .own r (P′.lowered r ∷ [])) ∷ (‵ (flft κ q) ⊛ ‵ ftrue) ∷ ‵ Own ∷ []) ∵
-      suffices ! _ (ends-at 𝓤 H A new.ended stayed (new.clauses 𝓤 H A mem run) W (((κ, tt), (q, tt), tt, (s, tt), (v ∷ [], tt)), tt) (made (P′.lowered r)) (readerAt s r) (tt, tt) (tt, tt)) $ says ! (ap (readerAt s) e) $
+      suffices ! _ (ends-at 𝓤 H A new.ended stayed (new.clauses 𝓤 H A mem run) W (((κ, tt), (q, tt), tt, (s, tt), (v ∷ [], tt)), tt) (made (P′.lowered r))
+      (readerAt s r) (tt, tt) (tt, tt)) $ says ! (ap (readerAt s) e) $
       move ! (1 ∷ []) $ frame ! $ move ! (1 ∷ 0 ∷ []) $ use1 W (‵ Own ⊛ ‵ Own) (shr-slice-copy 𝓤 H A W (named 0) κ u8 .twice s (v ∷ [])) $ split ! $
       nothing ! $ move ! (1 ∷ 0 ∷ []) $ fjoin ! $ frame ! $
       -- [what body owns; what the cursor owns]: together they are what the struct owns
       nothing ! $ move ! (2 ∷ 0 ∷ []) $ fjoin ! $ move ! (1 ∷ 0 ∷ []) $ fjoin ! $ by ! (own-shut 𝓤 H A W (T.the-type α) (T′.the-laws α) (s, (r, tt)))
 
   -- a cursor tells its machine value
-  exits : (r : Cursor) (u : Val) → r ≡ found → Is P.the-row r (u ∷ []) → ent 𝓤 (⋆ 𝓤 H A (‵ (P.the-row .own r (u ∷ [])) ∷ (‵ (flft κ q) ⊛ ‵ ftrue) ∷ ‵ Own ∷ [])) (Post (made u))
+  exits : (r : Cursor) (u : Val) → r ≡ found → Is P.the-row r (u ∷ [])
+      → ent 𝓤 (⋆ 𝓤 H A (‵ (P.the-row .own r (u ∷ [])) ∷ (‵ (flft κ q) ⊛ ‵ ftrue) ∷ ‵ Own ∷ [])) (Post (made u))
   exits r u e is =
       let low : u ≡ P′.lowered r = ap (λ (vs : List Val). getD vs 0 u) (LL.tells P.the-type P′.the-laws r (u ∷ []) is) in
       subst (λ (w : Val). ent 𝓤 (⋆ 𝓤 H A (‵ (P.the-row .own r (w ∷ [])) ∷ (‵ (flft κ q) ⊛ ‵ ftrue) ∷ ‵ Own ∷ [])) (Post (made w))) (sym low) (exits-at r e)
 
   module _ (C : Calls 𝓤 H) (Λ : Loops 𝓤 H) (fm : FmC 𝓤 H (W .laws) C) (known : Triple 𝓤 (C #previous-gtids-reader·start) (Start 𝓤 H A mem run)) where
-    walk : Is (ShrSlice (named 0) κ u8) s (v ∷ []) → ent 𝓤 (onEntry 𝓤 H A new.signature (κ, tt) (q, tt) (s, tt) (v ∷ [], tt)) (WpFn 𝓤 H C Λ code.function (v ∷ []) Post)
+    walk : Is (ShrSlice (named 0) κ u8) s (v ∷ [])
+        → ent 𝓤 (onEntry 𝓤 H A new.signature (κ, tt) (q, tt) (s, tt) (v ∷ [], tt)) (WpFn 𝓤 H C Λ code.function (v ∷ []) Post)
     walk p =
         qed W (raw (onEntry 𝓤 H A new.signature (κ, tt) (q, tt) (s, tt) (v ∷ [], tt)) ∷ []) ∵ enter ! C Λ code.function (v ∷ []) _ $
-        alloc1 ! (λ l₀. alloc1 ! (λ l₁. alloc1 ! (λ l₂. alloc0 ! $ params1 ! $ pass1 ! (init ! 2 refl (shr-slice-lawful 𝓤 H A W (named 0) κ u8 .typed s (v ∷ []) p .0)) $ pass0 ! $
+        alloc1 ! (λ l₀. alloc1 ! (λ l₁. alloc1 ! (λ l₂. alloc0 ! $ params1 ! $
+        pass1 ! (init ! 2 refl (shr-slice-lawful 𝓤 H A W (named 0) κ u8 .typed s (v ∷ []) p .0)) $ pass0 ! $
         move ! (6 ∷ []) $ use1 W (raw (Start 𝓤 H A mem run .pre to) ⊛ ‵ Own) goes $ split ! $
         calls-at ! fm (Start 𝓤 H A mem run) known to (and-then ! (load ! (from ! (stop !)) (look ! 4 refl)) (no-more !)) (λ u.
-        use1 W (later (some (λ (r : Cursor). ((‵ (flft κ q) ⊛ ‵ ftrue) ⊛ ‵ (P.the-row .own r (u ∷ []))) ⊛ raw (ensured 𝓤 H A start.ended (start.clauses 𝓤 H A mem run) (κ, tt) (s, tt) tt r)))) (id⊢ 𝓤 _) $ await ! tt $ pick ! (λ r.
+        use1 W (later (some (λ (r : Cursor). ((‵ (flft κ q) ⊛ ‵ ftrue) ⊛ ‵ (P.the-row .own r (u ∷ []))) ⊛ raw
+        (ensured 𝓤 H A start.ended (start.clauses 𝓤 H A mem run) (κ, tt) (s, tt) tt r)))) (id⊢ 𝓤 _) $ await ! tt $ pick ! (λ r.
         split ! $ move ! (1 ∷ []) $ use1 W (raw (fact 𝓤 (r ≡ found))) (said r) $ heard ! (r ≡ found) (λ e. split ! $ move ! (1 ∷ []) $
         -- [what the cursor owns; the token; what body owns; room for _2; …; _1; …; room for _0; …]
         peeks ! P.the-row (Is P.the-row) (shows 𝓤 H A P.the-row) r (u ∷ []) (λ is.
         land ! (from ! (stop !)) (init ! 3 refl (LL.lawful P.the-type P′.the-laws 𝓤 H A W .typed r _ is .0)) $
-        assigns ! (agg ! (and-then ! (load ! (from ! (stop !)) (look ! 5 refl)) (and-then ! (load ! (from ! (stop !)) (look ! 3 refl)) (no-more !)))) (from ! (stop !))
-        (init ! 7 refl (alone (hasTy P′.mir u) (LL.lawful P.the-type P′.the-laws 𝓤 H A W .typed r _ is .0 .0), (shr-slice-lawful 𝓤 H A W (named 0) κ u8 .typed s (v ∷ []) p .0 .1, (LL.lawful P.the-type P′.the-laws 𝓤 H A W .typed r _ is .0 .1, tt)))) $
-        returns ! (look ! 7 refl) $ forget ! 3 refl $ forget ! 5 refl $ forget ! 7 refl $ move ! (7 ∷ 8 ∷ []) $ free1 ! $ move ! (5 ∷ 6 ∷ []) $ free1 ! $ move ! (3 ∷ 4 ∷ []) $ free1 ! $ free0 ! $
+        assigns ! (agg ! (and-then ! (load ! (from ! (stop !)) (look ! 5 refl)) (and-then ! (load ! (from ! (stop !)) (look ! 3 refl)) (no-more !))))
+        (from ! (stop !))
+        (init ! 7 refl (
+          alone (hasTy P′.mir u) (LL.lawful P.the-type P′.the-laws 𝓤 H A W .typed r _ is .0 .0),
+          (shr-slice-lawful 𝓤 H A W (named 0) κ u8 .typed s (v ∷ []) p .0 .1, (LL.lawful P.the-type P′.the-laws 𝓤 H A W .typed r _ is .0 .1, tt)),
+        )) $
+        returns ! (look ! 7 refl) $ forget ! 3 refl $ forget ! 5 refl $ forget ! 7 refl $ move ! (7 ∷ 8 ∷ []) $ free1 ! $ move ! (5 ∷ 6 ∷ []) $ free1 ! $
+        move ! (3 ∷ 4 ∷ []) $ free1 ! $ free0 ! $
         by ! (exits r u e is))))))))
 
 module _ {M : Type 1} (𝓤 : URA M) (H : Heap 𝓤) (A : Atoms 𝓤) (W : Given 𝓤 H A) (mem : Memory → SProp 𝓤) (run : Routine → Fun 𝓤) where
   new-walks : (C : Calls 𝓤 H) (Λ : Loops 𝓤 H) → FmC 𝓤 H (W .laws) C → Triple 𝓤 (C #previous-gtids-reader·start) (Start 𝓤 H A mem run)
       → Walks 𝓤 H A new.ended stayed (WpFn 𝓤 H C Λ code.function) (new.clauses 𝓤 H A mem run)
-  new-walks C Λ fm known = walked 𝓤 H A new.ended stayed (new.clauses 𝓤 H A mem run) (WpFn 𝓤 H C Λ code.function) (λ κs. (slice-vals, tt)) (λ κs. (shr-slice-tells (named 0) (κs .0) u8, tt))
+  new-walks C Λ fm known =
+      walked 𝓤 H A new.ended stayed (new.clauses 𝓤 H A mem run) (WpFn 𝓤 H C Λ code.function) (λ κs. (slice-vals, tt))
+      (λ κs. (shr-slice-tells (named 0) (κs .0) u8, tt))
       (λ κs qs bounds a g are. via 𝓤 _ (fst∗ 𝓤 _ (emp 𝓤)) (walk 𝓤 H A W mem run (κs .0) (qs .0) (a .0) C Λ fm known (are .0)))
 
 new-meets : {M : Type 1} (𝓤 : URA M) (H : Heap 𝓤) (A : Atoms 𝓤) (W : Given 𝓤 H A) (mem : Memory → SProp 𝓤) (run : Routine → Fun 𝓤) (𝓣 : Tables 𝓤 H)
     → Triple 𝓤 (𝓣 .C #previous-gtids-reader·start) (Start 𝓤 H A mem run)
     → Meets 𝓤 H A new.signature (WpFn 𝓤 H (𝓣 .C) (𝓣 .Λ) code.function) (new.spec 𝓤 H A mem run)
-new-meets 𝓤 H A W mem run 𝓣 known = walk-meets 𝓤 H A new.ended stayed W (goes-none-slice 𝓤 H A W 1 (0 ∷ []) tt (plain (λ _. u8)) yes, tt) (new.clauses 𝓤 H A mem run) (WpFn 𝓤 H (𝓣 .C) (𝓣 .Λ) code.function) (WpFn-mono 𝓤 H (W .laws) 𝓣 code.function)
+new-meets 𝓤 H A W mem run 𝓣 known =
+    walk-meets 𝓤 H A new.ended stayed W (goes-none-slice 𝓤 H A W 1 (0 ∷ []) tt (plain (λ _. u8)) yes, tt) (new.clauses 𝓤 H A mem run)
+    (WpFn 𝓤 H (𝓣 .C) (𝓣 .Λ) code.function) (WpFn-mono 𝓤 H (W .laws) 𝓣 code.function)
     (new-walks 𝓤 H A W mem run (𝓣 .C) (𝓣 .Λ) (fmOf 𝓤 H (W .laws) 𝓣) known)
 
 pub new-spec : {M : Type 1} → stated.statement M
@@ -152,4 +171,5 @@ new-spec 𝓤 H 𝓜 𝓖 𝓡 =
     entered 𝓤 H (tripleOf 𝓤 H (𝓖 .A) new.signature (new.spec 𝓤 H (𝓖 .A) (𝓜 .mem) (𝓡 .run)))
     (tables 𝓤 H 𝓜 𝓡 code.env .C) (tables 𝓤 H 𝓜 𝓡 code.env .Λ) #previous-gtids-reader·new code.function (code.unfolded 𝓤 H 𝓜 𝓡)
     (new-meets 𝓤 H (𝓖 .A) (givenOf 𝓤 H 𝓜 𝓖) (𝓜 .mem) (𝓡 .run) (tablesOf 𝓤 H 𝓜 (tables 𝓤 H 𝓜 𝓡 code.env))
-    (cited 𝓤 H (Start 𝓤 H (𝓖 .A) (𝓜 .mem) (𝓡 .run)) 𝓜 𝓡 code.env #previous-gtids-reader·start start-def.routine code.calls-previous-gtids-reader·start (start-thm.met 𝓤 H 𝓜 𝓖 𝓡)))
+    (cited 𝓤 H (Start 𝓤 H (𝓖 .A) (𝓜 .mem) (𝓡 .run)) 𝓜 𝓡 code.env #previous-gtids-reader·start start-def.routine code.calls-previous-gtids-reader·start
+    (start-thm.met 𝓤 H 𝓜 𝓖 𝓡)))

@@ -22,8 +22,11 @@ empty-step-requires-2 c κs = search needs
 
 returns-2 : tie.Need-returns-2
 returns-2 c =
-    let a = c .before .before .before .before .before .args in
-    c .empty-step2 .ensures ∙ sym (step-end (now (a .body)) _ (c .before .before .before .header-of .ensures) (c .before .before .if1 .left) (a .cursor) (c .before .if2 .taken))
+    let at-header-of = c .before .before .before in
+    let start = at-header-of .before .before in
+    let a = start .args in
+    c .empty-step2 .ensures
+    ∙ sym (step-end (now (a .body)) _ (at-header-of .header-of .ensures) (c .before .before .if1 .left) (a .cursor) (c .before .if2 .taken))
 
 entry-at-requires : tie.Need-entry-at-requires
 entry-at-requires c κs = search needs
@@ -33,17 +36,26 @@ empty-step-requires-3 c κs = search needs
 
 returns-3 : tie.Need-returns-3
 returns-3 c =
-    let a = c .before .before .before .before .before .before .before .args in
+    let at-if2 = c .before .before .before in
+    let at-if1 = at-if2 .before in
+    let at-header-of = at-if1 .before in
+    let start = at-header-of .before .before in
+    let a = start .args in
     c .empty-step3 .ensures
-    ∙ step-refused (now (a .body)) _ (c .before .before .before .before .before .header-of .ensures) (c .before .before .before .before .if1 .left) (a .cursor) (c .before .before .before .if2 .left) _ (c .before .before .entry-at .ensures) (c .before .if3 .taken)
+    ∙ step-refused (now (a .body)) _ (at-header-of .header-of .ensures) (at-if1 .if1 .left) (a .cursor) (at-if2 .if2 .left) _
+    (c .before .before .entry-at .ensures) (c .before .if3 .taken)
 
 sub-t13 : tie.Need-sub-t13
 sub-t13 c = search needs
 
 returns-4 : tie.Need-returns-4
 returns-4 c =
-    let a = c .before .before .before .before .before .before .args in
-    step-read (now (a .body)) _ (c .before .before .before .before .header-of .ensures) (c .before .before .before .if1 .left) (a .cursor) (c .before .before .if2 .left) _ (c .before .entry-at .ensures) (c .if3 .left)
+    let at-if1 = c .before .before .before in
+    let at-header-of = at-if1 .before in
+    let start = at-header-of .before .before in
+    let a = start .args in
+    step-read (now (a .body)) _ (at-header-of .header-of .ensures) (at-if1 .if1 .left) (a .cursor) (c .before .before .if2 .left) _
+    (c .before .entry-at .ensures) (c .if3 .left)
 
 pub step-at-spec : {M : Type 1} → statement M
 step-at-spec =

@@ -18,7 +18,9 @@ tag-bytes-requires : tie.Need-tag-bytes-requires
 tag-bytes-requires c κs = search needs
 
 cast-self : tie.Need-cast-self
-cast-self c = omega (arith, tag-at-most-32 (c .before .before .before .before .args .tag .now) (sym (c .before .before .is-tag .ensures) ∙ c .before .if1 .taken))
+cast-self c =
+    let start = c .before .before .before .before in
+    omega (arith, tag-at-most-32 (start .args .tag .now) (sym (c .before .before .is-tag .ensures) ∙ c .before .if1 .taken))
 
 returns : tie.Need-returns
 unfolding withTag

@@ -42,27 +42,41 @@ tag-bytes-requires c κs = search needs
 
 cast-self : tie.Need-cast-self
 cast-self c =
-    let read = c .before .before .before .before .before .before .read-varlen-string .result in
-    omega (arith, tag-at-most-32 (part (c .before .before .before .before .before .before .before .before .args .s .now) (read .start) (read .end - read .start)) (sym (c .before .before .is-tag .ensures) ∙ c .before .if2 .taken))
+    let at-read-varlen-string = c .before .before .before .before .before .before in
+    let start = at-read-varlen-string .before .before in
+    let read = at-read-varlen-string .read-varlen-string .result in
+    omega (
+      arith,
+      tag-at-most-32 (part (start .args .s .now) (read .start) (read .end - read .start))
+          (sym (c .before .before .is-tag .ensures) ∙ c .before .if2 .taken),
+    )
 
 element-write-self : tie.Need-element-write-self
 element-write-self c = search needs
 
 returns-2 : tie.Need-returns-2
 returns-2 c =
-    let a = c .before .before .before .before .before .before .before .before .args in
-    let read = c .before .before .before .before .before .before .read-varlen-string in
+    let at-if1 = c .before .before .before .before in
+    let at-read-varlen-string = at-if1 .before .before in
+    let start = at-read-varlen-string .before .before in
+    let a = start .args in
+    let read = at-read-varlen-string .read-varlen-string in
     let bytes = part (a .s .now) (read .result .start) (read .result .end - read .result .start) in
     let is : isTag bytes ≡ true = sym (c .before .before .is-tag .ensures) ∙ c .before .if2 .taken in
-    rw (c .tag-bytes .ensures, take-all 32 bytes (tag-at-most-32 bytes is)) (tag-here (a .s .now) (a .at) (a .t1) (read .ensures) (c .before .before .before .before .if1 .left) is)
+    rw (c .tag-bytes .ensures, take-all 32 bytes (tag-at-most-32 bytes is)) (tag-here (a .s .now) (a .at) (a .t1) (read .ensures) (at-if1 .if1 .left) is)
 
 refused-requires-2 : tie.Need-refused-requires-2
 refused-requires-2 c κs = search needs
 
 returns-3 : tie.Need-returns-3
 returns-3 c =
-    let a = c .before .before .before .before .before .before .before .before .args in
-    same-number (c .refused2 .ensures) (tag-bad (a .s .now) (a .at) (a .t1) (c .before .before .before .before .before .before .read-varlen-string .ensures) (c .before .before .before .before .if1 .left) (sym (c .before .before .is-tag .ensures) ∙ c .before .if2 .left))
+    let at-if1 = c .before .before .before .before in
+    let at-read-varlen-string = at-if1 .before .before in
+    let start = at-read-varlen-string .before .before in
+    let a = start .args in
+    same-number (c .refused2 .ensures)
+    (tag-bad (a .s .now) (a .at) (a .t1) (at-read-varlen-string .read-varlen-string .ensures) (at-if1 .if1 .left)
+    (sym (c .before .before .is-tag .ensures) ∙ c .before .if2 .left))
 
 pub tag-spec : {M : Type 1} → statement M
 tag-spec =

@@ -16,8 +16,10 @@ refused-requires c κs = search needs
 returns : tie.Need-returns
 unfolding fieldAt
 returns c =
-    let a = c .before .before .before .before .before .args in
-    same-number (c .refused .ensures) (stops (uint (varlenAt (a .s .now) (a .at)) (c .before .before .before .read-varlen-uint .ensures)) (c .before .if1 .taken) _)
+    let at-read-varlen-uint = c .before .before .before in
+    let start = at-read-varlen-uint .before .before in
+    let a = start .args in
+    same-number (c .refused .ensures) (stops (uint (varlenAt (a .s .now) (a .at)) (at-read-varlen-uint .read-varlen-uint .ensures)) (c .before .if1 .taken) _)
 
 read-value-requires : tie.Need-read-value-requires
 read-value-requires c κs = search needs

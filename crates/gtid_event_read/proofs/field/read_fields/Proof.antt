@@ -1,4 +1,5 @@
--- `gtid_event_read::field::read_fields` meets its contract: the loop's invariant is `FieldsSoFar`: all fields are what those still to come make of what is known.
+-- `gtid_event_read::field::read_fields` meets its contract: the loop's invariant is `FieldsSoFar`: all fields are what those still to come
+-- make of what is known.
 -- Assumes nothing.
 use Prim.Native.Nat.{_-_}
 use native.Mathlib.Omega.{arith}
@@ -31,14 +32,24 @@ returns c =
 
 loop-less : tie.Need-loop-less Inv-loop μ-loop
 loop-less c =
-    let a = c .before .before .before .before .before .before .before .before .args in
-    let l = c .before .before .before .before .before .loop in
-    omega (arith, field-forward (a .s .now) (a .last-non-ignorable-field-id) (l .fields) (l .at) (c .before .before .before .read-field .ensures .found (c .before .if1 .left)))
+    let at-read-field = c .before .before .before in
+    let at-loop = at-read-field .before .before in
+    let start = at-loop .before .before .before in
+    let a = start .args in
+    let l = at-loop .loop in
+    omega (
+      arith,
+      field-forward (a .s .now) (a .last-non-ignorable-field-id) (l .fields) (l .at)
+          (at-read-field .read-field .ensures .found (c .before .if1 .left)),
+    )
 
 loop-again : tie.Need-loop-again Inv-loop μ-loop
 loop-again c =
-    let l = c .before .before .before .before .before .loop in
-    fields-next _ _ _ _ (l .inv) (c .before .before .before .before .loop-test .taken) (c .before .before .before .read-field .ensures .found (c .before .if1 .left))
+    let at-read-field = c .before .before .before in
+    let at-loop-test = at-read-field .before in
+    let at-loop = at-loop-test .before in
+    let l = at-loop .loop in
+    fields-next _ _ _ _ (l .inv) (at-loop-test .loop-test .taken) (at-read-field .read-field .ensures .found (c .before .if1 .left))
 
 returns-2 : tie.Need-returns-2 Inv-loop μ-loop
 returns-2 c = got (fields-end _ _ _ _ (c .before .loop .inv) (c .loop-test .left))

@@ -19,8 +19,10 @@ read-varlen-uint-requires c κs = search needs
 returns : tie.Need-returns
 unfolding limitedAt
 returns c =
-    let a = c .before .before .before .before .args in
-    passes (λ (v : ℕ). leb v (a .limit)) tooLarge (uint (varlenAt (a .s .now) (a .at)) (c .before .before .read-varlen-uint .ensures)) (λ z. le-leb _ _ (c .if1 .taken))
+    let start = c .before .before .before .before in
+    let a = start .args in
+    passes (λ (v : ℕ). leb v (a .limit)) tooLarge (uint (varlenAt (a .s .now) (a .at)) (c .before .before .read-varlen-uint .ensures))
+    (λ z. le-leb _ _ (c .if1 .taken))
 
 returns-2 : tie.Need-returns-2
 unfolding limitedAt

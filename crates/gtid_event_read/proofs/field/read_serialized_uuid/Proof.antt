@@ -27,14 +27,21 @@ read-limited-requires c κs = search needs
 
 returns : tie.Need-returns Inv-loop μ-loop
 returns c =
-    let a = c .before .before .before .before .before .before .args in
-    let l = c .before .before .before .before .loop in
-    uuid-stops (a .s .now) (a .at) (l .uuid) (l .next) (l .i) (l .inv .1) (l .inv .2) (c .before .before .before .loop-test .taken) (c .before .before .read-limited .ensures) (c .if1 .taken)
+    let at-loop-test = c .before .before .before in
+    let at-loop = at-loop-test .before in
+    let start = at-loop .before .before in
+    let a = start .args in
+    let l = at-loop .loop in
+    uuid-stops (a .s .now) (a .at) (l .uuid) (l .next) (l .i) (l .inv .1) (l .inv .2) (at-loop-test .loop-test .taken)
+    (c .before .before .read-limited .ensures) (c .if1 .taken)
 
 cast-uuid : tie.Need-cast-uuid Inv-loop μ-loop
 cast-uuid c =
-    let byte = c .before .before .before .read-limited in
-    omega (arith, limited-parsed 255 (c .before .before .before .before .before .before .before .args .s .now) (c .before .before .before .before .before .loop .next) _ _ (byte .ensures .found (c .before .if1 .left)) .1)
+    let at-read-limited = c .before .before .before in
+    let at-loop = at-read-limited .before .before in
+    let start = at-loop .before .before in
+    let byte = at-read-limited .read-limited in
+    omega (arith, limited-parsed 255 (start .args .s .now) (at-loop .loop .next) _ _ (byte .ensures .found (c .before .if1 .left)) .1)
 
 array-write-uuid : tie.Need-array-write-uuid Inv-loop μ-loop
 array-write-uuid c = omega arith
@@ -47,11 +54,16 @@ loop-less c = omega arith
 
 loop-again : tie.Need-loop-again Inv-loop μ-loop
 loop-again c =
-    let a = c .before .before .before .before .before .before .before .args in
-    let l = c .before .before .before .before .before .loop in (
+    let at-read-limited = c .before .before .before in
+    let at-loop-test = at-read-limited .before in
+    let at-loop = at-loop-test .before in
+    let start = at-loop .before .before in
+    let a = start .args in
+    let l = at-loop .loop in (
       omega arith,
       simp length-set (l .inv .1),
-      uuid-turn (a .s .now) (a .at) (l .uuid) (l .next) (l .i) (l .inv .1) (l .inv .2) (c .before .before .before .before .loop-test .taken) (c .before .before .before .read-limited .ensures) (c .before .if1 .left),
+      uuid-turn (a .s .now) (a .at) (l .uuid) (l .next) (l .i) (l .inv .1) (l .inv .2) (at-loop-test .loop-test .taken) (at-read-limited .read-limited .ensures)
+          (c .before .if1 .left),
     )
 
 returns-2 : tie.Need-returns-2 Inv-loop μ-loop

@@ -26,9 +26,13 @@ left-at-requires c κs = search needs
 
 returns-2 : tie.Need-returns-2
 returns-2 c =
-    let a = c .before .before .before .before .before .before .before .args in
+    let at-if1 = c .before .before .before in
+    let at-read-varlen-uint = at-if1 .before .before in
+    let start = at-read-varlen-uint .before .before in
+    let a = start .args in
     record {
-      told = goes (uint (varlenAt (a .s .now) (a .at)) (c .before .before .before .before .before .read-varlen-uint .ensures)) (c .before .before .before .if1 .left) _ (string-gone _ _ _ (omega arith));
+      told = goes (uint (varlenAt (a .s .now) (a .at)) (at-read-varlen-uint .read-varlen-uint .ensures)) (at-if1 .if1 .left) _
+          (string-gone _ _ _ (omega arith));
       ordered = omega arith;
       inside = omega arith;
     }

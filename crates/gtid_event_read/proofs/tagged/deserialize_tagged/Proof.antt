@@ -50,13 +50,19 @@ refused-requires-4 c κs = search needs
 returns-4 : tie.Need-returns-4
 unfolding tagged
 returns-4 c =
-    let s = c .before .before .before .before .before .before .before .before .before .before .before .args .body .now in
-    let size = c .before .before .before .before .before .before .read-varlen-uint in
+    let at-read-varlen-uint2 = c .before .before .before in
+    let at-if3 = at-read-varlen-uint2 .before in
+    let at-read-varlen-uint = at-if3 .before .before in
+    let at-if2 = at-read-varlen-uint .before in
+    let at-if1 = at-if2 .before .before in
+    let start = at-if1 .before .before in
+    let s = start .args .body .now in
+    let size = at-read-varlen-uint .read-varlen-uint in
     c .refused4 .ensures
     ∙ refused-so
-    (goes (version-here s (c .before .before .before .before .before .before .before .before .before .if1 .left) (c .before .before .before .before .before .before .before .if2 .left)) refl _
-    (goes (uint (varlenAt s 1) (size .ensures)) (c .before .before .before .before .if3 .left) _
-    (stops (uint (varlenAt s (size .result .next)) (c .before .before .before .read-varlen-uint2 .ensures)) (c .before .if4 .taken) _)))
+    (goes (version-here s (at-if1 .if1 .left) (at-if2 .if2 .left)) refl _
+    (goes (uint (varlenAt s 1) (size .ensures)) (at-if3 .if3 .left) _
+    (stops (uint (varlenAt s (size .result .next)) (at-read-varlen-uint2 .read-varlen-uint2 .ensures)) (c .before .if4 .taken) _)))
     (c .before .if4 .taken)
 
 read-payload-requires : tie.Need-read-payload-requires
@@ -64,12 +70,18 @@ read-payload-requires c κs = search needs
 
 returns-5 : tie.Need-returns-5
 returns-5 c =
-    let s = c .before .before .before .before .before .before .before .before .before .before .before .args .body .now in
-    let size = c .before .before .before .before .before .before .read-varlen-uint in
-    let last = c .before .before .before .read-varlen-uint2 in
+    let at-read-varlen-uint2 = c .before .before .before in
+    let at-if3 = at-read-varlen-uint2 .before in
+    let at-read-varlen-uint = at-if3 .before .before in
+    let at-if2 = at-read-varlen-uint .before in
+    let at-if1 = at-if2 .before .before in
+    let start = at-if1 .before .before in
+    let s = start .args .body .now in
+    let size = at-read-varlen-uint .read-varlen-uint in
+    let last = at-read-varlen-uint2 .read-varlen-uint2 in
     c .read-payload .ensures
-    ∙ ap gtidRead (sym (tagged-here s (c .before .before .before .before .before .before .before .before .before .if1 .left) (c .before .before .before .before .before .before .before .if2 .left)
-    (uint (varlenAt s 1) (size .ensures) .found (c .before .before .before .before .if3 .left))
+    ∙ ap gtidRead (sym (tagged-here s (at-if1 .if1 .left) (at-if2 .if2 .left)
+    (uint (varlenAt s 1) (size .ensures) .found (at-if3 .if3 .left))
     (uint (varlenAt s (size .result .next)) (last .ensures) .found (c .before .if4 .left))))
 
 pub deserialize-tagged-spec : {M : Type 1} → statement M

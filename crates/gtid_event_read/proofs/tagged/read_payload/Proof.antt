@@ -24,8 +24,10 @@ refused-requires-2 c κs = search needs
 
 returns-2 : tie.Need-returns-2
 returns-2 c =
-    let a = c .before .before .before .before .args in
-    c .refused2 .ensures ∙ ap gtidRead (sym (payload-cut (a .body .now) (a .payload-size) (a .last-non-ignorable-field-id) (a .start) (c .before .before .if1 .left) (c .before .if2 .taken)))
+    let start = c .before .before .before .before in
+    let a = start .args in
+    c .refused2 .ensures ∙ ap gtidRead
+    (sym (payload-cut (a .body .now) (a .payload-size) (a .last-non-ignorable-field-id) (a .start) (c .before .before .if1 .left) (c .before .if2 .taken)))
 
 sub-read-fields : tie.Need-sub-read-fields
 sub-read-fields c = search needs
@@ -44,22 +46,35 @@ refused-requires-3 c κs = search needs
 
 returns-3 : tie.Need-returns-3
 returns-3 c =
-    let a = c .before .before .before .before .before .before .before .before .args in
+    let at-read-fields = c .before .before .before in
+    let at-if2 = at-read-fields .before .before in
+    let at-if1 = at-if2 .before in
+    let start = at-if1 .before .before in
+    let a = start .args in
     c .refused3 .ensures
-    ∙ payload-refused (a .body .now) (a .payload-size) (a .last-non-ignorable-field-id) (a .start) (c .before .before .before .before .before .before .if1 .left) (c .before .before .before .before .before .if2 .left) (c .before .before .before .read-fields .ensures) (c .before .if3 .taken)
+    ∙ payload-refused (a .body .now) (a .payload-size) (a .last-non-ignorable-field-id) (a .start) (at-if1 .if1 .left) (at-if2 .if2 .left)
+    (at-read-fields .read-fields .ensures) (c .before .if3 .taken)
 
 finished-requires : tie.Need-finished-requires
 finished-requires c κs =
-    let a = c .before .before .before .before .before .before .before .args in
+    let at-shared-slice-known = c .before .before .before .before .before .before in
+    let start = at-shared-slice-known .before in
+    let a = start .args in
     let size = a .payload-size - a .start in
-    fields-in-range (a .last-non-ignorable-field-id) (part (a .body .now) (a .start) size) (part-bytes (a .body .now) (a .start) size (λ i. c .before .before .before .before .before .before .shared-slice-known .given i .fits))
+    fields-in-range (a .last-non-ignorable-field-id) (part (a .body .now) (a .start) size)
+    (part-bytes (a .body .now) (a .start) size (λ i. at-shared-slice-known .shared-slice-known .given i .fits))
     (c .before .before .read-fields .ensures .found (c .if3 .left))
 
 returns-4 : tie.Need-returns-4
 returns-4 c =
-    let a = c .before .before .before .before .before .before .before .before .args in
+    let at-read-fields = c .before .before .before in
+    let at-if2 = at-read-fields .before .before in
+    let at-if1 = at-if2 .before in
+    let start = at-if1 .before .before in
+    let a = start .args in
     c .finished .ensures
-    ∙ payload-read (a .body .now) (a .payload-size) (a .last-non-ignorable-field-id) (a .start) (c .before .before .before .before .before .before .if1 .left) (c .before .before .before .before .before .if2 .left) (c .before .before .before .read-fields .ensures) (c .before .if3 .left)
+    ∙ payload-read (a .body .now) (a .payload-size) (a .last-non-ignorable-field-id) (a .start) (at-if1 .if1 .left) (at-if2 .if2 .left)
+    (at-read-fields .read-fields .ensures) (c .before .if3 .left)
 
 pub read-payload-spec : {M : Type 1} → statement M
 read-payload-spec =

@@ -28,7 +28,10 @@ read-clock-requires : tie.Need-read-clock-requires
 read-clock-requires c κs = search needs
 
 returns-2 : tie.Need-returns-2
-returns-2 c = c .read-clock .ensures ∙ ap untaggedRead (sym (untagged-clock _ (opening-here _ (c .before .before .before .before .if1 .left)) (c .before .before .before .if2 .taken) (c .before .if3 .taken)))
+returns-2 c =
+    let at-if2 = c .before .before .before in
+    let at-if1 = at-if2 .before in
+    c .read-clock .ensures ∙ ap untaggedRead (sym (untagged-clock _ (opening-here _ (at-if1 .if1 .left)) (at-if2 .if2 .taken) (c .before .if3 .taken)))
 
 read-opening-requires : tie.Need-read-opening-requires
 read-opening-requires c κs = search needs
@@ -36,10 +39,12 @@ read-opening-requires c κs = search needs
 returns-3 : tie.Need-returns-3
 unfolding bitsOf
 returns-3 c =
-    let s = c .before .before .before .before .args .s .now in
+    let start = c .before .before .before .before in
+    let s = start .args .s .now in
     let opening : openingAt s 0 ≡ parsed (openedIn s) 25 = opening-here s (c .before .before .if1 .left) in
     let other : untagged s ≡ parsed (openedIn s) 25 =
-    ⊎-elim (λ w. let (there, _, not) = w in untagged-other s opening (there .taken) (not .left)) (λ w. untagged-end s opening (w .left)) (c .before .if2 .came) in
+    ⊎-elim (λ w. let (there, _, not) = w in untagged-other s opening (there .taken) (not .left)) (λ w. untagged-end s opening (w .left))
+    (c .before .if2 .came) in
     rw (c .read-opening .ensures, other)
 
 pub deserialize-untagged-spec : {M : Type 1} → statement M

@@ -20,8 +20,11 @@ refused-requires c κs = search needs
 returns : tie.Need-returns
 unfolding clockAt
 returns c =
-    let a = c .before .before .before .before .before .args in
-    c .refused .ensures ∙ untagged-refused (stops (uint (leAt 8 (a .s .now) (a .at)) (c .before .before .before .read-u64-le .ensures)) (c .before .if1 .taken) _) (c .before .if1 .taken)
+    let at-read-u64-le = c .before .before .before in
+    let start = at-read-u64-le .before .before in
+    let a = start .args in
+    c .refused .ensures ∙ untagged-refused (stops (uint (leAt 8 (a .s .now) (a .at)) (at-read-u64-le .read-u64-le .ensures)) (c .before .if1 .taken) _)
+    (c .before .if1 .taken)
 
 read-u64-le-requires-2 : tie.Need-read-u64-le-requires-2
 read-u64-le-requires-2 c κs = search needs

@@ -13,7 +13,8 @@ refused-requires : tie.Need-refused-requires
 refused-requires c κs = search needs
 
 returns : tie.Need-returns
-returns c = c .refused .ensures ∙ untagged-refused (stops (c .before .before .before .read-timestamps .ensures) (c .before .if1 .taken) _) (c .before .if1 .taken)
+returns c =
+    c .refused .ensures ∙ untagged-refused (stops (c .before .before .before .read-timestamps .ensures) (c .before .if1 .taken) _) (c .before .if1 .taken)
 
 read-tx-length-requires : tie.Need-read-tx-length-requires
 read-tx-length-requires c κs = search needs
@@ -37,11 +38,16 @@ refused-requires-3 c κs = search needs
 
 returns-3 : tie.Need-returns-3
 returns-3 c =
+    let at-read-versions = c .before .before .before in
+    let at-if2 = at-read-versions .before in
+    let at-read-tx-length = at-if2 .before .before in
+    let at-if1 = at-read-tx-length .before in
+    let at-read-timestamps = at-if1 .before .before in
     c .refused3 .ensures
     ∙ untagged-refused
-    (goes (c .before .before .before .before .before .before .before .before .before .read-timestamps .ensures) (c .before .before .before .before .before .before .before .if1 .left) _
-    (goes (c .before .before .before .before .before .before .read-tx-length .ensures) (c .before .before .before .before .if2 .left) _
-    (stops-mapped (c .before .before .before .read-versions .ensures) (c .before .if3 .taken) _)))
+    (goes (at-read-timestamps .read-timestamps .ensures) (at-if1 .if1 .left) _
+    (goes (at-read-tx-length .read-tx-length .ensures) (at-if2 .if2 .left) _
+    (stops-mapped (at-read-versions .read-versions .ensures) (c .before .if3 .taken) _)))
     (c .before .if3 .taken)
 
 read-opening-requires : tie.Need-read-opening-requires
@@ -52,11 +58,16 @@ clocked-requires c κs = search needs
 
 returns-4 : tie.Need-returns-4
 returns-4 c =
+    let at-read-versions = c .before .before .before .before in
+    let at-if2 = at-read-versions .before in
+    let at-read-tx-length = at-if2 .before .before in
+    let at-if1 = at-read-tx-length .before in
+    let at-read-timestamps = at-if1 .before .before in
     rw (c .clocked .ensures, c .before .read-opening .ensures)
     (untagged-told
-    (goes (c .before .before .before .before .before .before .before .before .before .before .read-timestamps .ensures) (c .before .before .before .before .before .before .before .before .if1 .left) _
-    (goes (c .before .before .before .before .before .before .before .read-tx-length .ensures) (c .before .before .before .before .before .if2 .left) _
-    (maps (c .before .before .before .before .read-versions .ensures) _)))
+    (goes (at-read-timestamps .read-timestamps .ensures) (at-if1 .if1 .left) _
+    (goes (at-read-tx-length .read-tx-length .ensures) (at-if2 .if2 .left) _
+    (maps (at-read-versions .read-versions .ensures) _)))
     (c .before .before .if3 .left))
 
 pub read-later-spec : {M : Type 1} → statement M

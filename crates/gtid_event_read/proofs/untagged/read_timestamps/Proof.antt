@@ -32,9 +32,13 @@ clear-bit-55-requires c κs = search needs
 returns-2 : tie.Need-returns-2
 unfolding timestampsAt
 returns-2 c =
-    let a = c .before .before .before .before .before .before .before .before .args in
+    let at-has-bit-55 = c .before .before .before in
+    let at-read-u56-le = at-has-bit-55 .before in
+    let start = at-read-u56-le .before .before .before .before in
+    let a = start .args in
     left-there 7 (a .s .now) (a .at) _ _ (omega arith)
-    (pair-both 7 (a .s .now) (a .at) (omega arith) (c .before .before .before .before .read-u56-le .ensures .0) (sym (c .before .before .before .has-bit-55 .ensures) ∙ c .before .before .if2 .taken) (c .clear-bit-55 .ensures) (c .before .read-u56-le2 .ensures .0))
+    (pair-both 7 (a .s .now) (a .at) (omega arith) (at-read-u56-le .read-u56-le .ensures .0)
+    (sym (at-has-bit-55 .has-bit-55 .ensures) ∙ c .before .before .if2 .taken) (c .clear-bit-55 .ensures) (c .before .read-u56-le2 .ensures .0))
 
 returns-3 : tie.Need-returns-3
 unfolding timestampsAt

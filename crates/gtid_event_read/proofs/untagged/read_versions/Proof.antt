@@ -38,9 +38,14 @@ cast-t10 c = search needs
 returns-2 : tie.Need-returns-2
 unfolding versionsAt
 returns-2 c =
-    let a = c .before .before .before .before .before .before .before .before .before .before .args in
+    let at-if2 = c .before .before .before in
+    let at-has-bit-31 = at-if2 .before in
+    let at-read-u32-le = at-has-bit-31 .before .before in
+    let start = at-read-u32-le .before .before .before .before in
+    let a = start .args in
     left-there 4 (a .s .now) (a .at) _ _ (omega arith)
-    (pair-both 4 (a .s .now) (a .at) (omega arith) (c .before .before .before .before .before .before .read-u32-le .ensures .0) (sym (c .before .before .before .before .has-bit-31 .ensures) ∙ c .before .before .before .if2 .taken) (c .before .clear-bit-31 .ensures) (c .before .before .read-u32-le2 .ensures .0))
+    (pair-both 4 (a .s .now) (a .at) (omega arith) (at-read-u32-le .read-u32-le .ensures .0) (sym (at-has-bit-31 .has-bit-31 .ensures) ∙ at-if2 .if2 .taken)
+    (c .before .clear-bit-31 .ensures) (c .before .before .read-u32-le2 .ensures .0))
 
 returns-3 : tie.Need-returns-3
 unfolding versionsAt

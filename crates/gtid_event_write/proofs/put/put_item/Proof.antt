@@ -31,7 +31,12 @@ same-length-2 : tie.Need-same-length-2
 same-length-2 c = search needs
 
 returns-2 : tie.Need-returns-2
-returns-2 c = with-bytes (two-bytes (c .before .before .before .before .before .before .before .before .before .before .args .b) (omega arith) (omega arith)) (put-placed (c .before .before .before .before .before .before .put-byte .ensures) also put-placed (c .before .before .put-byte2 .ensures))
+returns-2 c =
+    let at-put-byte = c .before .before .before .before .before .before in
+    let start = at-put-byte .before .before .before .before in
+    with-bytes (two-bytes (start .args .b) (omega arith) (omega arith))
+    (put-placed (at-put-byte .put-byte .ensures) also put-placed (c .before .before .put-byte2 .ensures))
 
 pub put-item-spec : {M : Type 1} → statement M
-put-item-spec = tie.close (tie.spec put-small-requires same-length returns mul-put-byte add-put-byte put-byte-requires put-byte-requires-2 same-length-2 returns-2)
+put-item-spec =
+    tie.close (tie.spec put-small-requires same-length returns mul-put-byte add-put-byte put-byte-requires put-byte-requires-2 same-length-2 returns-2)

@@ -47,8 +47,12 @@ loop-less c = search needs
 
 loop-again : tie.Need-loop-again Inv-loop μ-loop
 loop-again c =
-    let w = c .before .before .before .loop in
-    (omega arith, omega arith, size-passed (w .n) _ _ (omega arith) (c .before .before .loop-test .taken) (λ e. c .if2 .left (c .before .varlen-uint-size .ensures .0 ∙ e)) ∙ w .inv .2)
+    let at-loop = c .before .before .before in
+    let w = at-loop .loop in (
+      omega arith,
+      omega arith,
+      size-passed (w .n) _ _ (omega arith) (c .before .before .loop-test .taken) (λ e. c .if2 .left (c .before .varlen-uint-size .ensures .0 ∙ e)) ∙ w .inv .2,
+    )
 
 add-result-2 : tie.Need-add-result-2 Inv-loop μ-loop
 add-result-2 c = search needs

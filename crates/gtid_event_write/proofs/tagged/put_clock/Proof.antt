@@ -14,7 +14,9 @@ put-number-requires : tie.Need-put-number-requires
 put-number-requires c κs = search needs
 
 mul-put-number-2 : tie.Need-mul-put-number-2
-mul-put-number-2 c = omega (arith, tagged-fits (c .before .before .before .before .before .before .before .args .event) (c .before .before .before .before .before .before .before .pre) .sequence)
+mul-put-number-2 c =
+    let start = c .before .before .before .before .before .before .before in
+    omega (arith, tagged-fits (start .args .event) (start .pre) .sequence)
 
 put-number-requires-2 : tie.Need-put-number-requires-2
 put-number-requires-2 c κs = search needs
@@ -30,7 +32,12 @@ same-length c = search needs
 
 returns : tie.Need-returns
 unfolding clockBytes
-returns c = c .before .before .before .before .before .before .before .before .before .before .before .before .before .before .before .put-number .ensures also c .before .before .before .before .before .before .before .before .before .before .put-number2 .ensures also c .before .before .before .before .before .before .put-number3 .ensures also c .before .before .put-unless .ensures
+returns c =
+    let at-put-number3 = c .before .before .before .before .before .before in
+    let at-put-number2 = at-put-number3 .before .before .before .before in
+    let at-put-number = at-put-number2 .before .before .before .before .before in
+    at-put-number .put-number .ensures also at-put-number2 .put-number2 .ensures also at-put-number3 .put-number3 .ensures
+    also c .before .before .put-unless .ensures
 
 pub put-clock-spec : {M : Type 1} → statement M
 put-clock-spec =

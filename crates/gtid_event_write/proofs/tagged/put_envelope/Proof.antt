@@ -17,7 +17,10 @@ same-length : tie.Need-same-length
 same-length c = search needs
 
 returns : tie.Need-returns
-returns c = put-placed (c .before .before .before .before .before .before .before .before .before .before .put-byte .ensures) also c .before .before .before .before .before .before .put-item .ensures also c .before .before .put-small .ensures
+returns c =
+    let at-put-item = c .before .before .before .before .before .before in
+    let at-put-byte = at-put-item .before .before .before .before in
+    put-placed (at-put-byte .put-byte .ensures) also at-put-item .put-item .ensures also c .before .before .put-small .ensures
 
 pub put-envelope-spec : {M : Type 1} → statement M
 put-envelope-spec = tie.close (tie.spec put-byte-requires put-item-requires put-small-requires same-length returns)

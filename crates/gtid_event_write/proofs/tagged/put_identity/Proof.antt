@@ -20,13 +20,19 @@ put-serialized-uuid-requires : tie.Need-put-serialized-uuid-requires
 put-serialized-uuid-requires c κs = search needs
 
 mul-put-number : tie.Need-mul-put-number
-mul-put-number c = omega (arith, tagged-fits (c .before .before .before .before .before .before .before .before .before .before .before .before .before .before .before .before .before .before .before .before .args .event) (c .before .before .before .before .before .before .before .before .before .before .before .before .before .before .before .before .before .before .before .before .pre) .gno)
+mul-put-number c =
+    let midway = c .before .before .before .before .before .before .before .before .before .before in
+    let start = midway .before .before .before .before .before .before .before .before .before .before in
+    omega (arith, tagged-fits (start .args .event) (start .pre) .gno)
 
 put-number-requires : tie.Need-put-number-requires
 put-number-requires c κs = search needs
 
 put-tag-requires : tie.Need-put-tag-requires
-put-tag-requires c κs = tagged-fits (c .before .before .before .before .before .before .before .before .before .before .before .before .before .before .before .before .before .before .before .before .before .before .before .before .before .args .event) (c .before .before .before .before .before .before .before .before .before .before .before .before .before .before .before .before .before .before .before .before .before .before .before .before .before .pre) .tag
+put-tag-requires c κs =
+    let midway = c .before .before .before .before .before .before .before .before .before .before .before .before in
+    let start = midway .before .before .before .before .before .before .before .before .before .before .before .before .before in
+    tagged-fits (start .args .event) (start .pre) .tag
 
 same-length : tie.Need-same-length
 same-length c = search needs
@@ -34,9 +40,16 @@ same-length c = search needs
 returns : tie.Need-returns
 unfolding identityBytes
 returns c =
-    (c .before .before .before .before .before .before .before .before .before .before .before .before .before .before .before .before .before .before .before .before .before .before .before .put-id .ensures also c .before .before .before .before .before .before .before .before .before .before .before .before .before .before .before .before .before .before .before .put-item .ensures)
-    also (c .before .before .before .before .before .before .before .before .before .before .before .before .before .before .before .put-id2 .ensures also c .before .before .before .before .before .before .before .before .before .before .before .put-serialized-uuid .ensures)
-    also c .before .before .before .before .before .before .put-number .ensures also c .before .before .put-tag .ensures
+    let at-put-number = c .before .before .before .before .before .before in
+    let at-put-serialized-uuid = at-put-number .before .before .before .before .before in
+    let at-put-id2 = at-put-serialized-uuid .before .before .before .before in
+    let at-put-item = at-put-id2 .before .before .before .before in
+    let at-put-id = at-put-item .before .before .before .before in
+    (at-put-id .put-id .ensures also at-put-item .put-item .ensures)
+    also (at-put-id2 .put-id2 .ensures also at-put-serialized-uuid .put-serialized-uuid .ensures)
+    also at-put-number .put-number .ensures also c .before .before .put-tag .ensures
 
 pub put-identity-spec : {M : Type 1} → statement M
-put-identity-spec = tie.close (tie.spec put-id-requires put-item-requires put-id-requires-2 put-serialized-uuid-requires mul-put-number put-number-requires put-tag-requires same-length returns)
+put-identity-spec =
+    tie.close (tie.spec put-id-requires put-item-requires put-id-requires-2 put-serialized-uuid-requires mul-put-number put-number-requires put-tag-requires
+    same-length returns)

@@ -28,7 +28,12 @@ same-length c = search needs
 
 returns : tie.Need-returns
 unfolding restBytes
-returns c = c .before .before .before .before .before .before .before .before .before .before .before .before .before .before .put-number .ensures also c .before .before .before .before .before .before .before .before .before .before .put-number2 .ensures also c .before .before .before .before .before .before .put-unless .ensures also c .before .before .put-unless2 .ensures
+returns c =
+    let at-put-unless = c .before .before .before .before .before .before in
+    let at-put-number2 = at-put-unless .before .before .before .before in
+    let at-put-number = at-put-number2 .before .before .before .before in
+    at-put-number .put-number .ensures also at-put-number2 .put-number2 .ensures also at-put-unless .put-unless .ensures
+    also c .before .before .put-unless2 .ensures
 
 pub put-rest-spec : {M : Type 1} → statement M
 put-rest-spec =

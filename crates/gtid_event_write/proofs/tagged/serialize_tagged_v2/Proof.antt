@@ -19,7 +19,11 @@ record-size-requires : tie.Need-record-size-requires
 record-size-requires c κs = search needs
 
 returns : tie.Need-returns
-returns c = output-short _ _ _ (size-is (c .before .before .before .before .before .before .args .event) (c .before .before .before .write-tagged-fields-v2 .ensures .0) _ (c .before .record-size .ensures .0)) (c .if1 .taken)
+returns c =
+    let at-write-tagged-fields-v2 = c .before .before .before in
+    let start = at-write-tagged-fields-v2 .before .before .before in
+    output-short _ _ _ (size-is (start .args .event) (at-write-tagged-fields-v2 .write-tagged-fields-v2 .ensures .0) _ (c .before .record-size .ensures .0))
+    (c .if1 .taken)
 
 cast-put-envelope : tie.Need-cast-put-envelope
 cast-put-envelope c = search needs
@@ -41,11 +45,17 @@ same-length c = search needs
 
 returns-2 : tie.Need-returns-2
 returns-2 c =
-    let e = c .before .before .before .before .before .before .before .before .before .before .before .before .before .before .before .args .event in
-    let fields = c .before .before .before .before .before .before .before .before .before .before .before .before .write-tagged-fields-v2 .ensures in
-    let size = c .before .before .before .before .before .before .before .before .before .before .record-size .ensures .0 in
+    let at-put-envelope = c .before .before .before .before .before .before .before in
+    let at-record-size = at-put-envelope .before .before .before in
+    let at-write-tagged-fields-v2 = at-record-size .before .before in
+    let start = at-write-tagged-fields-v2 .before .before .before in
+    let e = start .args .event in
+    let fields = at-write-tagged-fields-v2 .write-tagged-fields-v2 .ensures in
+    let size = at-record-size .record-size .ensures .0 in
     wrote-all _ (size-is e (fields .0) _ size) (omega arith)
-    (whole-placed e (fields .0) (omega (arith, fields .1)) size (c .before .before .before .before .before .before .before .put-envelope .ensures) (put-placed (c .before .before .put-bytes .ensures)))
+    (whole-placed e (fields .0) (omega (arith, fields .1)) size (at-put-envelope .put-envelope .ensures) (put-placed (c .before .before .put-bytes .ensures)))
 
 pub serialize-tagged-v2-spec : {M : Type 1} → statement M
-serialize-tagged-v2-spec = tie.close (tie.spec slice-aggregate-write-tagged-fields-v2 write-tagged-fields-v2-requires record-size-requires returns cast-put-envelope put-envelope-requires array-share-prefix-fields slice-aggregate-put-bytes put-bytes-requires same-length returns-2)
+serialize-tagged-v2-spec =
+    tie.close (tie.spec slice-aggregate-write-tagged-fields-v2 write-tagged-fields-v2-requires record-size-requires returns cast-put-envelope
+    put-envelope-requires array-share-prefix-fields slice-aggregate-put-bytes put-bytes-requires same-length returns-2)

@@ -22,9 +22,13 @@ same-length c = search needs
 
 returns : tie.Need-returns
 returns c =
-    let s = c .before .before .before .before .before .before .before .before .before .before .before .before .before in
+    let at-put-clock = c .before .before .before .before .before .before in
+    let at-put-identity = at-put-clock .before .before .before .before in
+    let at-before = at-put-identity .before .before in
+    let s = at-before .before in
     let few = fields-within (s .args .event) (fits (s .args .event) _ (s .good .0)) (tagged-fits _ (s .pre .0)) .most in
-    let placed = fields-placed (s .args .event) (omega (arith, few, s .pre .1)) (c .before .before .before .before .before .before .before .before .before .before .put-identity .ensures) (c .before .before .before .before .before .before .put-clock .ensures) (c .before .before .put-rest .ensures) in
+    let placed = fields-placed (s .args .event) (omega (arith, few, s .pre .1)) (at-put-identity .put-identity .ensures) (at-put-clock .put-clock .ensures)
+    (c .before .before .put-rest .ensures) in
     (placed, omega (arith, few, count-is (s .args .event) placed))
 
 pub write-tagged-fields-v2-spec : {M : Type 1} → statement M

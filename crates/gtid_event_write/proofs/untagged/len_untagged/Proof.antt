@@ -55,9 +55,11 @@ add-result-4 c = search needs
 
 returns-2 : tie.Need-returns-2
 returns-2 c =
-    let e = c .before .before .before .before .before .before .before .args .event in
+    let at-if1 = c .before .before .before .before .before in
+    let start = at-if1 .before .before in
+    let e = start .args .event in
     let sized : length (e .sid) ≡ 16 = search needs in
-    omega (arith, length-long e sized (c .before .before .before .before .before .if1 .left), c .before .before .pair-len .ensures .0 (2 ^ 55), c .pair-len2 .ensures .0 (2 ^ 31))
+    omega (arith, length-long e sized (at-if1 .if1 .left), c .before .before .pair-len .ensures .0 (2 ^ 55), c .pair-len2 .ensures .0 (2 ^ 31))
 
 pub len-untagged-spec : {M : Type 1} → statement M
 len-untagged-spec =

@@ -22,7 +22,10 @@ same-length c = search needs
 
 returns : tie.Need-returns
 unfolding openingBytes
-returns c = put-placed (c .before .before .before .before .before .before .before .before .before .before .before .put-byte .ensures) also put-placed (c .before .before .before .before .before .before .put-bytes .ensures) also put-placed (c .before .before .put-u64-le .ensures)
+returns c =
+    let at-put-bytes = c .before .before .before .before .before .before in
+    let at-put-byte = at-put-bytes .before .before .before .before .before in
+    put-placed (at-put-byte .put-byte .ensures) also put-placed (at-put-bytes .put-bytes .ensures) also put-placed (c .before .before .put-u64-le .ensures)
 
 pub put-opening-spec : {M : Type 1} → statement M
 put-opening-spec =

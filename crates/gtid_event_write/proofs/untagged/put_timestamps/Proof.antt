@@ -25,7 +25,12 @@ same-length-2 : tie.Need-same-length-2
 same-length-2 c = search needs
 
 returns-2 : tie.Need-returns-2
-returns-2 c = pair-placed 55 7 _ _ (c .before .before .before .before .before .before .before .before .before .before .pre) (c .before .before .before .before .before .before .before .before .if1 .left) (put-placed (c .before .before .before .before .before .before .put-u56-le2 .ensures)) (put-placed (c .before .before .put-u56-le3 .ensures))
+returns-2 c =
+    let at-put-u56-le2 = c .before .before .before .before .before .before in
+    let at-if1 = at-put-u56-le2 .before .before in
+    let start = at-if1 .before .before in
+    pair-placed 55 7 _ _ (start .pre) (at-if1 .if1 .left) (put-placed (at-put-u56-le2 .put-u56-le2 .ensures))
+    (put-placed (c .before .before .put-u56-le3 .ensures))
 
 pub put-timestamps-spec : {M : Type 1} → statement M
 put-timestamps-spec =

@@ -20,7 +20,12 @@ same-length : tie.Need-same-length
 same-length c = search needs
 
 returns-2 : tie.Need-returns-2
-returns-2 c = wrote (omega (arith, c .before .before .before .before .before .before .before .len-untagged .ensures)) (with-bytes (short-is (c .before .before .before .before .before .before .before .before .before .args .event) (c .if2 .taken)) (c .before .before .before .before .put-opening .ensures))
+returns-2 c =
+    let at-put-opening = c .before .before .before .before in
+    let at-len-untagged = at-put-opening .before .before .before in
+    let start = at-len-untagged .before .before in
+    wrote (omega (arith, at-len-untagged .len-untagged .ensures))
+    (with-bytes (short-is (start .args .event) (c .if2 .taken)) (at-put-opening .put-opening .ensures))
 
 put-later-requires : tie.Need-put-later-requires
 put-later-requires c κs = search needs
@@ -30,8 +35,13 @@ same-length-2 c = search needs
 
 returns-3 : tie.Need-returns-3
 returns-3 c =
-    wrote (omega (arith, c .before .before .before .before .before .before .before .before .before .before .before .len-untagged .ensures))
-    (with-bytes (long-is (c .before .before .before .before .before .before .before .before .before .before .before .before .before .args .event) (c .before .before .before .before .if2 .left)) (c .before .before .before .before .before .before .before .before .put-opening .ensures also c .before .before .put-later .ensures))
+    let at-if2 = c .before .before .before .before in
+    let at-put-opening = at-if2 .before .before .before .before in
+    let at-len-untagged = at-put-opening .before .before .before in
+    let start = at-len-untagged .before .before in
+    wrote (omega (arith, at-len-untagged .len-untagged .ensures))
+    (with-bytes (long-is (start .args .event) (at-if2 .if2 .left)) (at-put-opening .put-opening .ensures also c .before .before .put-later .ensures))
 
 pub serialize-untagged-spec : {M : Type 1} → statement M
-serialize-untagged-spec = tie.close (tie.spec len-untagged-requires returns put-opening-requires same-length returns-2 put-later-requires same-length-2 returns-3)
+serialize-untagged-spec =
+    tie.close (tie.spec len-untagged-requires returns put-opening-requires same-length returns-2 put-later-requires same-length-2 returns-3)

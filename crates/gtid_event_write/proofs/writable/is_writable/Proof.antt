@@ -11,7 +11,9 @@ is-kept-requires : tie.Need-is-kept-requires
 is-kept-requires c κs = search needs
 
 returns : tie.Need-returns
-returns c = judged-tagged (c .before .before .before .before .args .event) _ _ (c .before .before .if1 .taken) (c .before .is-writable-tagged .ensures) (c .is-kept .ensures)
+returns c =
+    let start = c .before .before .before .before in
+    judged-tagged (start .args .event) _ _ (c .before .before .if1 .taken) (c .before .is-writable-tagged .ensures) (c .is-kept .ensures)
 
 is-writable-untagged-requires : tie.Need-is-writable-untagged-requires
 is-writable-untagged-requires c κs = search needs
@@ -20,7 +22,9 @@ is-kept-requires-2 : tie.Need-is-kept-requires-2
 is-kept-requires-2 c κs = search needs
 
 returns-2 : tie.Need-returns-2
-returns-2 c = judged-untagged (c .before .before .before .before .args .event) _ _ (c .before .before .if1 .left) (c .before .is-writable-untagged .ensures) (c .is-kept2 .ensures)
+returns-2 c =
+    let start = c .before .before .before .before in
+    judged-untagged (start .args .event) _ _ (c .before .before .if1 .left) (c .before .is-writable-untagged .ensures) (c .is-kept2 .ensures)
 
 pub is-writable-spec : {M : Type 1} → statement M
 is-writable-spec =

@@ -33,9 +33,11 @@ loop-less c = search needs
 
 loop-again : tie.Need-loop-again Inv-loop μ-loop
 loop-again c =
-    let w = c .before .before .before .before .loop in
+    let at-loop = c .before .before .before .before in
+    let start = at-loop .before .before in
+    let w = at-loop .loop in
     let read = c .before .before .read-u64-le in
-    word-passed (c .before .before .before .before .before .before .args .tag .now) (w .at) (search needs) (sym (ap (λ (r : ReadUint). r .value) (read .ensures)) ∙ c .if1 .left) ∙ w .inv
+    word-passed (start .args .tag .now) (w .at) (search needs) (sym (ap (λ (r : ReadUint). r .value) (read .ensures)) ∙ c .if1 .left) ∙ w .inv
 
 returns-2 : tie.Need-returns-2 Inv-loop μ-loop
 returns-2 c = sym (c .before .loop .inv)

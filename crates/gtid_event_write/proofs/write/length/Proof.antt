@@ -12,20 +12,31 @@ is-writable-requires : tie.Need-is-writable-requires
 is-writable-requires c κs = search needs
 
 len-tagged-v2-requires : tie.Need-len-tagged-v2-requires
-len-tagged-v2-requires c κs = as-tagged (c .before .before .before .before .args .event) (sym (c .before .before .before .is-writable .ensures) ∙ c .before .before .if1 .taken) (lt-ltb 0 _ (c .if2 .taken))
+len-tagged-v2-requires c κs =
+    let at-is-writable = c .before .before .before in
+    let start = at-is-writable .before in
+    as-tagged (start .args .event) (sym (at-is-writable .is-writable .ensures) ∙ c .before .before .if1 .taken) (lt-ltb 0 _ (c .if2 .taken))
 
 returns : tie.Need-returns
 returns c =
-    let e = c .before .before .before .before .before .args .event in
-    length-able e (sym (c .before .before .before .before .is-writable .ensures) ∙ c .before .before .before .if1 .taken) _ (c .len-tagged-v2 .ensures ∙ ap length (bytes-tagged e (lt-ltb 0 _ (c .before .if2 .taken))))
+    let at-if1 = c .before .before .before in
+    let at-is-writable = at-if1 .before in
+    let start = at-is-writable .before in
+    let e = start .args .event in
+    length-able e (sym (at-is-writable .is-writable .ensures) ∙ at-if1 .if1 .taken) _
+    (c .len-tagged-v2 .ensures ∙ ap length (bytes-tagged e (lt-ltb 0 _ (c .before .if2 .taken))))
 
 len-untagged-requires : tie.Need-len-untagged-requires
 len-untagged-requires c κs = search needs
 
 returns-2 : tie.Need-returns-2
 returns-2 c =
-    let e = c .before .before .before .before .before .args .event in
-    length-able e (sym (c .before .before .before .before .is-writable .ensures) ∙ c .before .before .before .if1 .taken) _ (c .len-untagged .ensures ∙ ap length (bytes-untagged e (le-ltb 0 _ (c .before .if2 .left))))
+    let at-if1 = c .before .before .before in
+    let at-is-writable = at-if1 .before in
+    let start = at-is-writable .before in
+    let e = start .args .event in
+    length-able e (sym (at-is-writable .is-writable .ensures) ∙ at-if1 .if1 .taken) _
+    (c .len-untagged .ensures ∙ ap length (bytes-untagged e (le-ltb 0 _ (c .before .if2 .left))))
 
 returns-3 : tie.Need-returns-3
 returns-3 c = length-refused _ (sym (c .before .is-writable .ensures) ∙ c .if1 .left)

@@ -15,7 +15,8 @@ use Rattle.previous_gtids_event.proofs.read.entries_at.Statement.{state
 use Rattle.previous_gtids_event.proofs.read.entries_at.Tie as tie
 
 abbrev Inv-loop : tie.InvT-loop
-Inv-loop body from tagged count at₀ done₀ at done = (done ≤ count) × SoFar readAfter (entryAt tagged body) count (previousRead (many (entryAt tagged body) count from)) done at done
+Inv-loop body from tagged count at₀ done₀ at done =
+    (done ≤ count) × SoFar readAfter (entryAt tagged body) count (previousRead (many (entryAt tagged body) count from)) done at done
 
 abbrev μ-loop : tie.MeasureT-loop
 μ-loop body from tagged count at₀ done₀ at done = count - done
@@ -48,16 +49,22 @@ loop-less c = search needs
 
 loop-again : tie.Need-loop-again Inv-loop μ-loop
 loop-again c =
-    let a = c .before .before .before .before .before .args in
-    let l = c .before .before .before .loop in
-    let t = whole-told (a .tagged) (now (a .body)) (l .at) _ (c .before .whole-at .ensures) (c .if1 .left) in
-    (omega arith, walk-next readAfter (entryAt (a .tagged) (now (a .body))) (a .count) _ (l .done) (l .at) (l .done) (l .inv .1) (omega arith) _ _ (t .is) _ (read-next (l .done) (entry (t .key) (t .list))))
+    let at-loop = c .before .before .before in
+    let start = at-loop .before .before in
+    let a = start .args in
+    let l = at-loop .loop in
+    let t = whole-told (a .tagged) (now (a .body)) (l .at) _ (c .before .whole-at .ensures) (c .if1 .left) in (
+      omega arith,
+      walk-next readAfter (entryAt (a .tagged) (now (a .body))) (a .count) _ (l .done) (l .at) (l .done) (l .inv .1) (omega arith) _ _ (t .is) _
+          (read-next (l .done) (entry (t .key) (t .list))),
+    )
 
 returns-2 : tie.Need-returns-2 Inv-loop μ-loop
 returns-2 c =
     let a = c .before .before .before .args in
     let l = c .before .loop in
-    sym (walk-end readAfter (entryAt (a .tagged) (now (a .body))) (a .count) _ (l .done) (l .at) (l .done) (l .inv .1) (omega arith) ∙ read-end (l .done) (l .at))
+    sym (walk-end readAfter (entryAt (a .tagged) (now (a .body))) (a .count) _ (l .done) (l .at) (l .done) (l .inv .1) (omega arith)
+    ∙ read-end (l .done) (l .at))
 
 pub entries-at-spec : {M : Type 1} → statement M
 entries-at-spec =

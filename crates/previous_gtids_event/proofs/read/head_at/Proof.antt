@@ -50,18 +50,24 @@ refused-head-requires-3 c κs = search needs
 
 returns-3 : tie.Need-returns-3
 returns-3 c =
-    let a = c .before .before .before .before .before .before .before .before .args in
+    let at-if2 = c .before .before .before in
+    let at-tag-if = at-if2 .before in
+    let start = at-tag-if .before .before .before .before in
+    let a = start .args in
     let s = now (a .body) in
-    let t = c .before .before .before .before .tag-if in
-    let (tag, m, e, read) = was-read tagRead (λ y. y .refusal) tag-says (tagAt (a .tagged) s (a .at + 16)) (t .result) (t .ensures) (c .before .before .before .if2 .left) in
+    let t = at-tag-if .tag-if in
+    let (tag, m, e, read) = was-read tagRead (λ y. y .refusal) tag-says (tagAt (a .tagged) s (a .at + 16)) (t .result) (t .ensures) (at-if2 .if2 .left) in
     let (x, gone, told) = uint-refused _ _ (c .before .before .read-u64-le .ensures) (c .before .if3 .taken) in
     c .refused-head3 .ensures ∙ ap (λ (y : ReadUint). refusedHead (y .refusal)) told
     ∙ ap headRead (sym (head-uncounted (a .tagged) s (a .at) (omega arith) tag m e x (ap (λ (y : TagRead). leAt 8 s (y .next)) (sym read) ∙ gone)))
 
 returns-4 : tie.Need-returns-4
 returns-4 c =
-    let a = c .before .before .before .before .before .before .before .args in
-    head-answer (a .tagged) (now (a .body)) (a .at) (c .before .before .before .tag-if .result) (omega arith) (c .before .before .before .tag-if .ensures) (c .before .before .if2 .left) _ _ (uint-told _ _ (c .before .read-u64-le .ensures) (c .if3 .left))
+    let at-tag-if = c .before .before .before in
+    let start = at-tag-if .before .before .before .before in
+    let a = start .args in
+    head-answer (a .tagged) (now (a .body)) (a .at) (at-tag-if .tag-if .result) (omega arith) (at-tag-if .tag-if .ensures) (c .before .before .if2 .left) _ _
+    (uint-told _ _ (c .before .read-u64-le .ensures) (c .if3 .left))
 
 pub head-at-spec : {M : Type 1} → statement M
 head-at-spec =

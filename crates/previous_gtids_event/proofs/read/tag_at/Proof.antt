@@ -46,8 +46,10 @@ refused-tag-requires-2 c κs = search needs
 
 returns-2 : tie.Need-returns-2
 returns-2 c =
-    let a = c .before .before .before .before .before .before .args in
-    c .refused-tag2 .ensures ∙ ap tagRead (sym (tag-cut (now (a .body)) (a .at) _ _ (size (c .before .before .before)) (omega (arith, ends (c .before .before .before)))))
+    let start = c .before .before .before .before .before .before in
+    let a = start .args in
+    c .refused-tag2 .ensures
+    ∙ ap tagRead (sym (tag-cut (now (a .body)) (a .at) _ _ (size (c .before .before .before)) (omega (arith, ends (c .before .before .before)))))
 
 add-next : tie.Need-add-next
 add-next c = search needs
@@ -66,10 +68,13 @@ none-or-tag-requires c κs = search needs
 
 returns-3 : tie.Need-returns-3
 returns-3 c =
-    let a = c .before .before .before .before .before .before .before .before .args in
+    let at-before = c .before .before .before .before in
+    let at-read-varlen-uint = at-before .before .before in
+    let start = at-read-varlen-uint .before .before in
+    let a = start .args in
     let s = now (a .body) in
-    let v = c .before .before .before .before .before .before .read-varlen-uint .result in
-    tag-answer s (a .at) (v .value) (v .next) (size (c .before .before .before .before .before)) (omega (arith, ends (c .before .before .before .before .before)))
+    let v = at-read-varlen-uint .read-varlen-uint .result in
+    tag-answer s (a .at) (v .value) (v .next) (size (at-before .before)) (omega (arith, ends (at-before .before)))
     (rw add-sub-cancel-left at (sym (c .before .none-or-tag .ensures) ∙ c .if3 .taken))
 
 refused-tag-requires-3 : tie.Need-refused-tag-requires-3
@@ -77,11 +82,15 @@ refused-tag-requires-3 c κs = search needs
 
 returns-4 : tie.Need-returns-4
 returns-4 c =
-    let a = c .before .before .before .before .before .before .before .before .before .args in
+    let at-before = c .before .before .before .before .before in
+    let at-read-varlen-uint = at-before .before .before in
+    let start = at-read-varlen-uint .before .before in
+    let a = start .args in
     let s = now (a .body) in
-    let v = c .before .before .before .before .before .before .before .read-varlen-uint .result in
+    let v = at-read-varlen-uint .read-varlen-uint .result in
     let bad = rw add-sub-cancel-left at (sym (c .before .before .none-or-tag .ensures) ∙ c .before .if3 .left) in
-    c .refused-tag3 .ensures ∙ ap tagRead (sym (tag-bad s (a .at) (v .value) (v .next) (size (c .before .before .before .before .before .before)) (omega (arith, ends (c .before .before .before .before .before .before))) bad))
+    c .refused-tag3 .ensures
+    ∙ ap tagRead (sym (tag-bad s (a .at) (v .value) (v .next) (size (at-before .before)) (omega (arith, ends (at-before .before))) bad))
 
 pub tag-at-spec : {M : Type 1} → statement M
 tag-at-spec =

@@ -37,9 +37,13 @@ refused-whole-requires-2 c κs = search needs
 
 returns-2 : tie.Need-returns-2
 returns-2 c =
-    let a = c .before .before .before .before .before .before .args in
+    let at-if1 = c .before .before .before in
+    let at-head-at = at-if1 .before in
+    let start = at-head-at .before .before in
+    let a = start .args in
     c .refused-whole2 .ensures
-    ∙ ap wholeRead (sym (whole-cut (a .tagged) (now (a .body)) (a .at) _ (c .before .before .before .before .head-at .ensures) (c .before .before .before .if1 .left) (omega (arith, inside (c .before .before .before)))))
+    ∙ ap wholeRead (sym (whole-cut (a .tagged) (now (a .body)) (a .at) _ (at-head-at .head-at .ensures) (at-if1 .if1 .left)
+    (omega (arith, inside (c .before .before .before)))))
 
 mul-t12 : tie.Need-mul-t12
 mul-t12 c = search needs
@@ -49,8 +53,10 @@ add-t13 c = search needs
 
 returns-3 : tie.Need-returns-3
 returns-3 c =
-    let a = c .before .before .before .before .before .args in
-    whole-answer (a .tagged) (now (a .body)) (a .at) _ (c .before .before .before .head-at .ensures) (c .before .before .if1 .left) (omega (arith, inside (c .before .before)))
+    let at-head-at = c .before .before .before in
+    let start = at-head-at .before .before in
+    let a = start .args in
+    whole-answer (a .tagged) (now (a .body)) (a .at) _ (at-head-at .head-at .ensures) (c .before .before .if1 .left) (omega (arith, inside (c .before .before)))
 
 pub whole-at-spec : {M : Type 1} → statement M
 whole-at-spec =

@@ -23,8 +23,10 @@ same-length c = search needs
 
 returns : tie.Need-returns
 returns c =
-    let a = c .before .before .before .before .before .before .args in
-    put-as (now (a .out)) (a .at) (header-tagged (a .tagged) (a .count) (c .before .before .before .before .if1 .taken)) (c .before .before .put-u64-le .ensures)
+    let at-if1 = c .before .before .before .before in
+    let start = at-if1 .before .before in
+    let a = start .args in
+    put-as (now (a .out)) (a .at) (header-tagged (a .tagged) (a .count) (at-if1 .if1 .taken)) (c .before .before .put-u64-le .ensures)
 
 put-u64-le-requires-2 : tie.Need-put-u64-le-requires-2
 put-u64-le-requires-2 c κs = search needs

@@ -18,7 +18,8 @@ returns c =
 
 rewrite-entries-requires : tie.Need-rewrite-entries-requires
 rewrite-entries-requires c κs =
-    let (_, some, small) = headed (now (c .before .before .before .before .before .args .body)) _ (c .before .before .header-of .ensures) (c .before .if1 .left) in
+    let start = c .before .before .before .before .before in
+    let (_, some, small) = headed (now (start .args .body)) _ (c .before .before .header-of .ensures) (c .before .if1 .left) in
     (some, omega (arith, bodyLimit-is))
 
 same-length : tie.Need-same-length
@@ -26,7 +27,10 @@ same-length c = search needs
 
 returns-2 : tie.Need-returns-2
 returns-2 c =
-    let (e, _, _) = headed (now (c .before .before .before .before .before .before .before .before .args .body)) _ (c .before .before .before .before .before .header-of .ensures) (c .before .before .before .before .if1 .left) in
+    let at-if1 = c .before .before .before .before in
+    let at-header-of = at-if1 .before in
+    let start = at-header-of .before .before .before in
+    let (e, _, _) = headed (now (start .args .body)) _ (at-header-of .header-of .ensures) (at-if1 .if1 .left) in
     rw e (c .before .before .rewrite-entries .ensures)
 
 pub rewrite-spec : {M : Type 1} → statement M

@@ -30,25 +30,37 @@ body-len-requires c κs = search needs
 
 returns-2 : tie.Need-returns-2
 returns-2 c =
-    let a = c .before .before .before .before .before .before .args in
-    rewrite-short (entries (now (a .body)) (a .tagged) (a .count)) _ (c .before .before .before .sizes-at .ensures .0) _ (c .before .before .if1 .left) _ (c .before .body-len .ensures) (c .if2 .taken)
+    let at-sizes-at = c .before .before .before in
+    let start = at-sizes-at .before .before .before in
+    let a = start .args in
+    rewrite-short (entries (now (a .body)) (a .tagged) (a .count)) _ (at-sizes-at .sizes-at .ensures .0) _ (c .before .before .if1 .left) _
+    (c .before .body-len .ensures) (c .if2 .taken)
 
 put-header-requires : tie.Need-put-header-requires
 put-header-requires c κs = search needs
 
 put-entries-requires : tie.Need-put-entries-requires
 put-entries-requires c κs =
-    let a = c .before .before .before .before .before .before .before .before .before .before .before .args in
-    was-whole (entries (now (a .body)) (a .tagged) (a .count)) _ (c .before .before .before .before .before .before .before .before .sizes-at .ensures .0) (now (a .out)) (c .before .before .before .before .before .before .before .if1 .left)
+    let at-if1 = c .before .before .before .before .before .before .before in
+    let at-sizes-at = at-if1 .before in
+    let start = at-sizes-at .before .before .before in
+    let a = start .args in
+    was-whole (entries (now (a .body)) (a .tagged) (a .count)) _ (at-sizes-at .sizes-at .ensures .0) (now (a .out)) (at-if1 .if1 .left)
 
 same-length : tie.Need-same-length
 same-length c = search needs
 
 returns-3 : tie.Need-returns-3
 returns-3 c =
-    let a = c .before .before .before .before .before .before .before .before .before .before .before .before .before .before .args in
-    rewrite-whole (entries (now (a .body)) (a .tagged) (a .count)) _ (c .before .before .before .before .before .before .before .before .before .before .before .sizes-at .ensures .0) _ (c .before .before .before .before .before .before .before .before .before .before .if1 .left) _ (c .before .before .before .before .before .before .before .before .before .body-len .ensures) (omega arith)
-    (put-placed (c .before .before .before .before .before .before .put-header .ensures)) (c .before .before .put-entries .ensures)
+    let at-put-header = c .before .before .before .before .before .before in
+    let at-body-len = at-put-header .before .before .before in
+    let at-if1 = at-body-len .before in
+    let at-sizes-at = at-if1 .before in
+    let start = at-sizes-at .before .before .before in
+    let a = start .args in
+    rewrite-whole (entries (now (a .body)) (a .tagged) (a .count)) _ (at-sizes-at .sizes-at .ensures .0) _ (at-if1 .if1 .left) _
+    (at-body-len .body-len .ensures) (omega arith)
+    (put-placed (at-put-header .put-header .ensures)) (c .before .before .put-entries .ensures)
 
 pub rewrite-entries-spec : {M : Type 1} → statement M
 rewrite-entries-spec =

@@ -15,14 +15,17 @@ use Rattle.previous_gtids_event.proofs.rewrite.sizes_at.Statement.{stat
 use Rattle.previous_gtids_event.proofs.rewrite.sizes_at.Tie as tie
 
 abbrev Inv-loop : tie.InvT-loop
-Inv-loop body from tagged count at₀ done₀ any₀ plain₀ full₀ at done any plain full = (done ≤ count) × (at ≤ length body) × (done ≤ at) × (plain ≤ at) × (full ≤ 2 * at) × SoFar sizesAfter (entryAt tagged body) count (sizesOf (many (entryAt tagged body) count from)) (gathered done any plain full) at done
+Inv-loop body from tagged count at₀ done₀ any₀ plain₀ full₀ at done any plain full =
+    (done ≤ count) × (at ≤ length body) × (done ≤ at) × (plain ≤ at) × (full ≤ 2 * at)
+    × SoFar sizesAfter (entryAt tagged body) count (sizesOf (many (entryAt tagged body) count from)) (gathered done any plain full) at done
 
 abbrev μ-loop : tie.MeasureT-loop
 μ-loop body from tagged count at₀ done₀ any₀ plain₀ full₀ at done any plain full = count - done
 
 -- the entry's parts lie in the body
 order : (c : tie.Else1 Inv-loop μ-loop) → let r = c .before .whole-at .result in
-    (c .before .before .before .loop .at + 16 + r .«tag_len» + 8 + 16 * r .intervals ≤ r .next) × (r .next ≤ length (now (c .before .before .before .before .before .args .body)))
+    (c .before .before .before .loop .at + 16 + r .«tag_len» + 8 + 16 * r .intervals ≤ r .next)
+    × (r .next ≤ length (now (c .before .before .before .before .before .args .body)))
 order c =
     let a = c .before .before .before .before .before .args in
     let t = whole-told (a .tagged) (now (a .body)) (c .before .before .before .loop .at) _ (c .before .whole-at .ensures) (c .if1 .left) in
@@ -33,14 +36,24 @@ more : (c : tie.After-varlen-uint-size Inv-loop μ-loop) → let a = c .before .
     let r = c .before .before .whole-at .result in
     Sized (a .tagged) (now (a .body)) (c .before .before .before .before .loop .at) r (24 + 16 * r .intervals) (c .varlen-uint-size .result)
 more c =
-    let a = c .before .before .before .before .before .before .args in
-    sized (a .tagged) (now (a .body)) (c .before .before .before .before .loop .at) _ (whole-told (a .tagged) (now (a .body)) (c .before .before .before .before .loop .at) _ (c .before .before .whole-at .ensures) (c .before .if1 .left)) _ (c .varlen-uint-size .ensures .0)
+    let at-loop = c .before .before .before .before in
+    let start = at-loop .before .before in
+    let a = start .args in
+    sized (a .tagged) (now (a .body)) (at-loop .loop .at) _
+    (whole-told (a .tagged) (now (a .body)) (at-loop .loop .at) _ (c .before .before .whole-at .ensures) (c .before .if1 .left)) _
+    (c .varlen-uint-size .ensures .0)
 
 loop-holds : tie.Need-loop-holds Inv-loop μ-loop
 loop-holds c =
     let a = c .before .args in
-    let all : a .count - 0 ≡ a .count = omega arith in
-    (omega arith, c .before .pre .0, omega arith, omega arith, omega arith, rw all (sizes-none (many (entryAt (a .tagged) (now (a .body))) (a .count) (a .from))))
+    let all : a .count - 0 ≡ a .count = omega arith in (
+      omega arith,
+      c .before .pre .0,
+      omega arith,
+      omega arith,
+      omega arith,
+      rw all (sizes-none (many (entryAt (a .tagged) (now (a .body))) (a .count) (a .from))),
+    )
 
 whole-at-requires : tie.Need-whole-at-requires Inv-loop μ-loop
 whole-at-requires c κs = search needs
@@ -50,11 +63,15 @@ refused-sizes-requires c κs = search needs
 
 returns : tie.Need-returns Inv-loop μ-loop
 returns c =
-    let a = c .before .before .before .before .before .before .args in
-    let l = c .before .before .before .before .loop in
+    let at-loop = c .before .before .before .before in
+    let start = at-loop .before .before in
+    let a = start .args in
+    let l = at-loop .loop in
     let (x, e, n) = whole-refused (a .tagged) (now (a .body)) (l .at) _ (c .before .before .whole-at .ensures) (c .before .if1 .taken) in
     let same = c .refused-sizes .ensures in (
-      same ∙ ap refusedSizes n ∙ sym (walk-refused sizesAfter (entryAt (a .tagged) (now (a .body))) (a .count) _ (gathered (l .done) (l .any) (l .plain) (l .full)) (l .at) (l .done) (l .inv .5) (omega arith) x e),
+      same ∙ ap refusedSizes n
+          ∙ sym (walk-refused sizesAfter (entryAt (a .tagged) (now (a .body))) (a .count) _ (gathered (l .done) (l .any) (l .plain) (l .full)) (l .at) (l .done)
+          (l .inv .5) (omega arith) x e),
       rw same (omega arith, omega arith, omega arith),
     )
 
@@ -87,15 +104,18 @@ loop-less c = search needs
 
 loop-again : tie.Need-loop-again Inv-loop μ-loop
 loop-again c =
-    let a = c .before .before .before .before .before .before .args in
-    let l = c .before .before .before .before .loop in
+    let at-loop = c .before .before .before .before in
+    let start = at-loop .before .before in
+    let a = start .args in
+    let l = at-loop .loop in
     let m = more c in (
       omega arith,
       order (c .before) .1,
       omega (arith, order (c .before)),
       omega (arith, order (c .before)),
       omega (arith, order (c .before)),
-      walk-next sizesAfter (entryAt (a .tagged) (now (a .body))) (a .count) _ (gathered (l .done) (l .any) (l .plain) (l .full)) (l .at) (l .done) (l .inv .5) (omega arith)
+      walk-next sizesAfter (entryAt (a .tagged) (now (a .body))) (a .count) _ (gathered (l .done) (l .any) (l .plain) (l .full)) (l .at) (l .done) (l .inv .5)
+          (omega arith)
           (m .entry) _ (m .is) _ (m .more (l .done) (l .any) (l .plain) (l .full)),
     )
 
@@ -103,7 +123,8 @@ returns-2 : tie.Need-returns-2 Inv-loop μ-loop
 returns-2 c =
     let a = c .before .before .before .args in
     let l = c .before .loop in (
-      sym (walk-end sizesAfter (entryAt (a .tagged) (now (a .body))) (a .count) _ (gathered (l .done) (l .any) (l .plain) (l .full)) (l .at) (l .done) (l .inv .5) (omega arith)
+      sym (walk-end sizesAfter (entryAt (a .tagged) (now (a .body))) (a .count) _ (gathered (l .done) (l .any) (l .plain) (l .full)) (l .at) (l .done)
+          (l .inv .5) (omega arith)
           ∙ sizes-end (l .done) (l .any) (l .plain) (l .full) (l .at)),
       (omega arith, omega arith, omega arith),
     )
