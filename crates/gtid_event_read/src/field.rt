@@ -45,8 +45,8 @@ pub(crate) struct StringRead {
     pub end: usize,
 }
 
-// An integer that is at most `limit`: the greatest that the part of the record holds which keeps it. What a success tells (`limitedAt`
-// judges every value that it gives) makes the casts into that part exact: of a uuid's bytes here, of flags and versions in `record_of`.
+// An integer that is at most `limit`, the most that the record holds where it is kept: so the casts are exact, of a uuid's bytes below and
+// of flags and versions in `record_of`. A refused answer has the value 0, and is handed on as it is.
 fn read_limited(s: &[u8], at: usize, limit: u64) -> ReadUint
     ensures { λ r. ⌜ Told (limitedAt limit (now (s .entry)) at) (r .refusal) (r .value) (r .next) ⌝ }
 {
