@@ -3,6 +3,7 @@
 ghost use mathlib.Core.Path.{_≡_};
 ghost use Rattle.gtid_event.specs.Event.{fresh, noEvent, newUntagged, newTagged, withTag, setNumber, setSid, setTypecode, tagged, typeOf};
 use misc::refusal::BAD_TAG;
+use packets::MAX_TAG;
 use packets::is_tag;
 use packets::tag_bytes;
 
@@ -38,7 +39,7 @@ pub struct GtidEvent {
     pub flags: u8,
     pub sid: [u8; 16],
     pub gno: u64,
-    pub tag: [u8; 32],
+    pub tag: [u8; MAX_TAG],
     pub tag_len: u8,
     pub lc_typecode: u8,
     pub last_committed: u64,
@@ -66,7 +67,7 @@ impl GtidEvent {
             flags: 0,
             sid,
             gno,
-            tag: [0u8; 32],
+            tag: [0u8; MAX_TAG],
             tag_len: 0,
             lc_typecode,
             last_committed: 0,

@@ -22,6 +22,7 @@ use misc::refusal::TOO_LARGE;
 use misc::refusal::UNKNOWN_FIELD;
 use misc::signed::read_varlen_natural;
 use misc::varlen::read_varlen_uint;
+use packets::MAX_TAG;
 use packets::is_tag;
 use packets::tag_bytes;
 
@@ -125,7 +126,7 @@ impl Fields {
         Self {
             numbers,
             sid: [0u8; 16],
-            tag: [0u8; 32],
+            tag: [0u8; MAX_TAG],
             tag_len: 0,
             present: [false; field_id::FIELDS],
         }

@@ -12,6 +12,7 @@ use misc::MAX_BODY;
 use misc::refusal::ABSENT_ID;
 use misc::refusal::TOO_LONG;
 use misc::refusal::WRONG_TYPE;
+use packets::MAX_TAG;
 
 mod field;
 mod tagged;
@@ -31,7 +32,7 @@ pub struct GtidRead {
 pub struct Fields {
     pub numbers: [u64; field_id::FIELDS],
     pub sid: [u8; 16],
-    pub tag: [u8; 32],
+    pub tag: [u8; MAX_TAG],
     pub tag_len: u8,
     pub present: [bool; field_id::FIELDS],
 }

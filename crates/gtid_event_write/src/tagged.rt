@@ -23,6 +23,7 @@ use misc::put::put_byte;
 use misc::put::put_bytes;
 use misc::put::put_sized;
 use misc::refusal::NO_ROOM;
+use packets::MAX_TAG;
 
 // The server marks all fields as ignorable.
 const LAST_NON_IGNORABLE_FIELD_ID: u8 = 0;
@@ -32,7 +33,7 @@ const COMMIT_GROUP_TICKET_UNSET: u64 = 0;
 // A record that can be written has no more.
 const MOST_FIELD_BYTES: usize = 152;
 
-fn put_tag(tag: [u8; 32], tag_len: u8, out: &mut [u8], at: usize) -> usize
+fn put_tag(tag: [u8; MAX_TAG], tag_len: u8, out: &mut [u8], at: usize) -> usize
     requires { ⌜ «tag_len» ≤ 32 ⌝ }
     ensures { λ r. ⌜ WhereFits (now (out .entry)) at (varlenBytes 3 ++ varlenBytes «tag_len» ++ take «tag_len» tag) (now (out .exit)) r ⌝ }
 {

@@ -9,6 +9,7 @@ use gtid_event::GtidEvent;
 use gtid_event::LOGICAL_TIMESTAMP_TYPECODE;
 use gtid_event::UNDEFINED_SERVER_VERSION;
 use misc::le::read_u64_le;
+use packets::MAX_TAG;
 use packets::is_tag;
 
 // The first number that is too great for the tagged layout's signed integers.
@@ -43,7 +44,7 @@ fn cleared_beyond(tag: &[u8], tag_len: u8) -> bool
     ensures { λ r. ⌜ r ≡ allZero (drop «tag_len» (now (tag .entry))) ⌝ }
 {
     let mut i = past_zero_words(tag, tag_len as usize);
-    while i < 32 {
+    while i < MAX_TAG {
         if tag[i] != 0 {
             return false;
         }
@@ -52,11 +53,11 @@ fn cleared_beyond(tag: &[u8], tag_len: u8) -> bool
     true
 }
 
-fn has_good_tag(tag: [u8; 32], tag_len: u8) -> bool
+fn has_good_tag(tag: [u8; MAX_TAG], tag_len: u8) -> bool
     ensures { λ r. ⌜ r ≡ (leb «tag_len» 32 && isTag (take «tag_len» tag)) ⌝ }
 {
     let len = tag_len as usize;
-    if 32 < len {
+    if MAX_TAG < len {
         return false;
     }
     is_tag(&tag[..len])

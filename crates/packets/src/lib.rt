@@ -11,6 +11,9 @@ ghost use lib.ListN.{length, take, drop};
 ghost use Rattle.packets.specs.Kept.{kept};
 use misc::bytes::write_bytes;
 
+// A tag has so many bytes at most.
+pub const MAX_TAG: usize = 32;
+
 // The first number that is too great for a gno; an interval ends there at the latest.
 const GNO_TOP: u64 = 0x7FFF_FFFF_FFFF_FFFF;
 
@@ -41,7 +44,7 @@ pub fn is_tag(tag: &[u8]) -> bool
     if tag.len() == 0 {
         return false;
     }
-    if 32 < tag.len() {
+    if MAX_TAG < tag.len() {
         return false;
     }
     let first = tag[0];
@@ -183,10 +186,10 @@ pub fn uuid_bytes(uuid: &[u8]) -> [u8; 16]
 }
 
 // A tag as records keep it: the first 32 bytes, and zeros after them.
-pub fn tag_bytes(tag: &[u8]) -> [u8; 32]
+pub fn tag_bytes(tag: &[u8]) -> [u8; MAX_TAG]
     ensures { λ r. ⌜ r ≡ kept 32 (now (tag .entry)) ⌝ }
 {
-    let mut field = [0u8; 32];
-    write_bytes(front(tag, 32), &mut field);
+    let mut field = [0u8; MAX_TAG];
+    write_bytes(front(tag, MAX_TAG), &mut field);
     field
 }

@@ -1,4 +1,5 @@
 // The body of a Previous-GTIDs event (type 35): read from left to right, handed out entry by entry, written anew.
+use packets::MAX_TAG;
 // Every answer begins with the number of its refusal, 0 for none, and is zero in every other part then (13 tells the length needed).
 pub mod read;
 pub mod rewrite;
@@ -31,7 +32,7 @@ pub struct HeaderRead {
 pub struct EntryRead {
     pub refusal: u8,
     pub uuid: [u8; 16],
-    pub tag: [u8; 32],
+    pub tag: [u8; MAX_TAG],
     pub tag_len: usize,
     pub intervals: u64,
     pub first: usize,

@@ -15,6 +15,7 @@ use misc::refusal::BAD_TAG;
 use misc::refusal::ENDED;
 use misc::refusal::TOO_LONG;
 use misc::varlen::read_varlen_uint;
+use packets::MAX_TAG;
 use packets::none_or_tag;
 use packets::tag_bytes;
 use packets::uuid_bytes;
@@ -156,7 +157,7 @@ fn refused_entry(refusal: u8) -> EntryRead
     EntryRead {
         refusal,
         uuid: [0u8; 16],
-        tag: [0u8; 32],
+        tag: [0u8; MAX_TAG],
         tag_len: 0,
         intervals: 0,
         first: 0,

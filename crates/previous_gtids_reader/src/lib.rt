@@ -1,5 +1,6 @@
 // Hands out the entries of a Previous-GTIDs body (type 35) one after another. Every answer has the number of its refusal, 0
 // for none. A refused answer is all zero but for its number and leaves the reader where it was, so asking again repeats it.
+use packets::MAX_TAG;
 use previous_gtids_event::EntryRead;
 use previous_gtids_event::read::entry_at;
 use previous_gtids_event::read::header_of;
@@ -33,7 +34,7 @@ fn empty_step(refusal: u8, cursor: Cursor) -> Step
         entry: EntryRead {
             refusal,
             uuid: [0u8; 16],
-            tag: [0u8; 32],
+            tag: [0u8; MAX_TAG],
             tag_len: 0,
             intervals: 0,
             first: 0,
