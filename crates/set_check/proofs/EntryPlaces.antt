@@ -2,18 +2,19 @@
 use Prim.Native.Nat.{ℕ, _+_, _*_, _/_, _^_, _<_, _≤_}
 use mathlib.Core.Path.{_≡_, refl, sym, ap, _∙_}
 use mathlib.Core.Bool.{Bool, true, false, or-false}
-use mathlib.Core.List.{List, [], _∷_, _++_}
+use mathlib.Core.List.{List, [], _∷_, _++_, append-assoc}
 use native.Mathlib.Omega.{arith}
-use lib.Dec.{ltb}
-use borrow.Author.Tests.{ltb-false, le-leb, lt-leb}
+use lib.Dec.{ltb, leb}
+use borrow.Author.Tests.{ltb-false, leb-true, le-leb, lt-leb}
 use lib.ListN.{length, drop, getD, length-append, length-drop}
 use Rattle.misc.specs.Parse.{part}
 use Rattle.misc.specs.Le.{leBytes, numberAt}
 use Rattle.misc.proofs.LeLaws.{length-leBytes}
 use Rattle.packets.specs.Gno.{Interval}
 use Rattle.packets.specs.Key.{Key}
+use Rattle.packets.proofs.Tests.{split}
 use Rattle.previous_gtids_event.specs.Entry.{Entry, entry, uuidOf, tagOf}
-use Rattle.previous_gtids_event.specs.Rewrite.{intervalsBytes, tagBytes, entriesBytes, anyTag}
+use Rattle.previous_gtids_event.specs.Rewrite.{intervalsBytes, entryBytes, entriesBytes, anyTag}
 use Rattle.packets.proofs.TagLaws.{none-or-tag-short}
 use Rattle.previous_gtids_event.proofs.Reading.{key-whole}
 use Rattle.previous_gtids_event.proofs.Writing.{length-intervals-bytes}
@@ -29,9 +30,26 @@ use Rattle.misc.proofs.Places.{part-there, after-there, left-there, byte-there}
 use Rattle.misc.proofs.NumberLaws.{number-there}
 use Rattle.misc.proofs.VarlenLaws.{one-byte}
 use Rattle.set_check.proofs.PlaceLaws.{intervals-there}
-use Rattle.set_check.proofs.RestLaws.{entries-head}
+
+-- the bytes of some entries begin with the head of the first
+pub entries-head : (w : Bool) (k : Key) (is : List Interval) (s : List Entry)
+    → entriesBytes w (entry k is ∷ s) ≡ headBytes w k (length is) (intervalsBytes is ++ entriesBytes w s)
+unfolding entriesBytes entryBytes
+entries-head w k is s = simp append-assoc
 
 -- ---- the entry at a place
+
+-- in a tagged set the byte of the tag's length, which is twice the length, stands after the uuid, and then the tag
+pub tag-stands : (bs : List ℕ) (at : ℕ) (k : Key) (n : ℕ) (rest : List ℕ) → KeyOk true k → drop at bs ≡ headBytes true k n rest
+    → (getD bs (at + 16) 0 ≡ 2 * length (tagOf k)) × (drop (at + 17) bs ≡ tagOf k ++ (leBytes 8 n ++ rest))
+tag-stands bs at k n rest ok e =
+    let t : List ℕ = tagOf k in
+    let x : List ℕ = t ++ (leBytes 8 n ++ rest) in
+    let short = none-or-tag-short t (ok .good .rule) in
+    let d : drop (at + 16) bs ≡ (2 * length t ∷ []) ++ x =
+    after-there bs at 16 (uuidOf k) _ e (ok .good .uuid) ∙ rw (one-byte (length t) (omega arith)) in
+    let m : at + 16 + 1 ≡ at + 17 = omega arith in
+    (byte-there bs (at + 16) (2 * length t) x d, rw m at (after-there bs (at + 16) 1 (2 * length t ∷ []) x d refl))
 
 -- an entry with this key and these intervals stands there, before other bytes
 pub record EntryHere (bs : List ℕ) (at : ℕ) (k : Key) (is : List Interval) (rest : List ℕ) (p : EntryPlace) : Type 0 where
@@ -67,7 +85,7 @@ module _ (bs : List ℕ) (at : ℕ) (k : Key) (is : List Interval) (rest : List 
 
   pub entry-here : (w : Bool) → KeyOk w k → drop at bs ≡ headBytes w k (length is) (intervalsBytes is ++ rest)
       → EntryHere bs at k is rest (placeAt w bs at)
-  entry-here w ok e = go w ok (part-there bs at 16 (uuidOf k) _ e long) (after-there bs at 16 (uuidOf k) _ e long)
+  entry-here w ok e = go w ok e (part-there bs at 16 (uuidOf k) _ e long)
     where
       long : length (uuidOf k) ≡ 16
       long = ok .good .uuid
@@ -76,16 +94,14 @@ module _ (bs : List ℕ) (at : ℕ) (k : Key) (is : List Interval) (rest : List 
       none [] h = refl
       none (x ∷ t) h = absurd (omega arith)
 
-      go : (w : Bool) → KeyOk w k → part bs at 16 ≡ uuidOf k → drop (at + 16) bs ≡ tagBytes w (tagOf k) ++ counted
+      go : (w : Bool) → KeyOk w k → drop at bs ≡ headBytes w k (length is) (intervalsBytes is ++ rest) → part bs at 16 ≡ uuidOf k
           → EntryHere bs at k is rest (placeAt w bs at)
-      go false ok u d = from-tag (at + 16) 0 u (omega arith) (ok .plain refl) (d ∙ none (tagOf k) (ok .plain refl))
-      go true ok u d =
-          let short = none-or-tag-short (tagOf k) (ok .good .rule) in
-          let d′ : drop (at + 16) bs ≡ (2 * length (tagOf k) ∷ []) ++ (tagOf k ++ counted) = d ∙ rw (one-byte (length (tagOf k)) (omega arith)) in
-          let b : getD bs (at + 16) 0 ≡ 2 * length (tagOf k) = byte-there bs (at + 16) (2 * length (tagOf k)) (tagOf k ++ counted) d′ in
-          let m : at + 16 + 1 ≡ at + 17 = omega arith in
-          from-tag (at + 17) (getD bs (at + 16) 0 / 2) u (omega arith) (omega arith)
-          (rw m at (after-there bs (at + 16) 1 (2 * length (tagOf k) ∷ []) (tagOf k ++ counted) d′ refl))
+      go false ok d u =
+          let after = after-there bs at 16 (uuidOf k) _ d long in
+          from-tag (at + 16) 0 u (omega arith) (ok .plain refl) (after ∙ none (tagOf k) (ok .plain refl))
+      go true ok d u =
+          let (twice, after) = tag-stands bs at k (length is) (intervalsBytes is ++ rest) ok d in
+          from-tag (at + 17) (getD bs (at + 16) 0 / 2) u (omega arith) (omega arith) after
 
 -- ---- what the code makes of an entry
 
@@ -115,6 +131,13 @@ module _ (bs : List ℕ) (w : Bool) (at : ℕ) where
   -- all of an entry that is there
   pub place-here : placeAt w bs at .next ≤ length bs → placeIn w bs at ≡ placeAt w bs at
   place-here h = whole bs (placeAt w bs at) h
+
+  -- an entry with intervals that was found is there
+  pub place-found : (p : EntryPlace) → p ≡ placeIn w bs at → 0 < p .count → (p ≡ placeAt w bs at) × (p .next ≤ length bs)
+  place-found p told some =
+      split (leb (placeAt w bs at .next) (length bs))
+      (λ h. let same : p ≡ placeAt w bs at = told ∙ rw h in (same, rw same (leb-true _ _ h)))
+      (λ h. let none : p ≡ nowhere = told ∙ rw h in absurd (omega (arith, ap (λ (x : EntryPlace). x .count) none)))
 
   -- an entry has 24 bytes at least
   pub place-gone : length bs < at + 24 → nowhere ≡ placeIn w bs at

@@ -17,7 +17,10 @@ use Rattle.gtid_sets.specs.Limits.{maxEntries, maxIntervals, maxOfEntry, interv
 use Rattle.gtid_sets.specs.Lent.{Lent, form, unfit, GoodKeys}
 use Rattle.set_check.specs.Places.{intervalsAt}
 use Rattle.set_check.specs.Head.{headBytes, KeyOk, HeadIs}
-use Rattle.set_check.specs.declared.Head.{Head}
+use Rattle.set_check.specs.Cursor.{keyAt}
+use Rattle.set_check.specs.declared.Cursor.{Cursor}
+use Rattle.set_check.specs.declared.EntryPlace.{EntryPlace}
+use Rattle.set_check.specs.declared.KeyPlace.{KeyPlace}
 use Rattle.set_check.specs.declared.Header.{Header}
 use Rattle.set_check.specs.declared.Entries.{Entries}
 use Rattle.set_check.specs.declared.Checked.{Checked}
@@ -40,41 +43,40 @@ NoHeader bs = (w : Bool) (n : ℕ) (rest : List ℕ) → n ≤ maxEntries → bs
 -- ---- inside: an entry after a lower key
 
 -- the key in two parts of the bytes
-abbrev pub keyIn : List ℕ → ℕ → ℕ → ℕ → ℕ → Key
-keyIn bs at n «tag_at» «tag_len» = part bs at n ++ part bs «tag_at» «tag_len»
+abbrev pub keyIn : List ℕ → KeyPlace → Key
+keyIn bs k = part bs (k .at) (k .len) ++ part bs (k .«tag_at») (k .«tag_len»)
 
 -- the parts lie inside; they are a key's, or empty
-pub record LowKey (bs : List ℕ) (at n «tag_at» «tag_len» : ℕ) : Type 0 where
-  pub there : at + n ≤ length bs
-  pub tag-there : «tag_at» + «tag_len» ≤ length bs
-  pub shape : (n ≡ 16) ⊎ ((n ≡ 0) × («tag_len» ≡ 0))
+pub record LowKey (bs : List ℕ) (k : KeyPlace) : Type 0 where
+  pub there : k .at + k .len ≤ length bs
+  pub tag-there : k .«tag_at» + k .«tag_len» ≤ length bs
+  pub shape : (k .len ≡ 16) ⊎ ((k .len ≡ 0) × (k .«tag_len» ≡ 0))
 
-pub record EntryIs (bs : List ℕ) (w : Bool) (at : ℕ) (low : Key) (r : Head) : Type 0 where
-  pub head : HeadIs bs w at r
-  pub few : r .count ≤ maxOfEntry
-  pub gapped : Gapped 0 (intervalsAt (r .count) bs (r .first))
-  pub rises : low ≺ head .key
+pub record EntryIs (bs : List ℕ) (c : Cursor) (low : Key) (p : EntryPlace) : Type 0 where
+  pub head : HeadIs bs c p
+  pub gapped : Gapped 0 (intervalsAt (p .count) bs (p .first))
+  pub rises : low ≺ keyAt bs c p
 
-abbrev pub NoEntry : List ℕ → Bool → ℕ → Key → Type 0
-NoEntry bs w at low =
-    (k : Key) (is : List Interval) (rest : List ℕ) → KeyOk w k → Some is → Gapped 0 is → length is ≤ maxOfEntry → low ≺ k
-    → drop at bs ≡ headBytes w k (length is) (intervalsBytes is ++ rest) → ⊥
+abbrev pub NoEntry : List ℕ → Cursor → Key → Type 0
+NoEntry bs c low =
+    (k : Key) (is : List Interval) (rest : List ℕ) → KeyOk (c .tagged) k → Some is → Gapped 0 is → length is ≤ maxOfEntry → low ≺ k
+    → drop (c .at) bs ≡ headBytes (c .tagged) k (length is) (intervalsBytes is ++ rest) → ⊥
 
--- ---- inside: the entries from a place on
+-- ---- inside: the entries from a cursor on
 
--- n entries stand from a place on to the end, in set form above a key, none with too many intervals; with those before them they keep the
--- limit of all intervals and say whether there are tags
-pub record Rest (bs : List ℕ) (w : Bool) (n at : ℕ) (low : Key) (used : ℕ) (any : Bool) : Type 0 where
+-- the entries that are left stand there to the end, in set form above a key, none with too many intervals; with those before them they keep
+-- the limit of all intervals and say whether there are tags
+pub record Rest (bs : List ℕ) (c : Cursor) (low : Key) (used : ℕ) (any : Bool) : Type 0 where
   pub set : List Entry
-  pub is : drop at bs ≡ entriesBytes w set
-  pub count : length set ≡ n
+  pub is : drop (c .at) bs ≡ entriesBytes (c .tagged) set
+  pub count : length set ≡ c .left
   pub formed : SetForm set
   pub above : Above low set
   pub keyed : GoodKeys set
   pub fair : crowds set ≡ 0
   pub limit : used + intervals set ≤ maxIntervals
-  pub tags : (any || anyTag set) ≡ w
+  pub tags : (any || anyTag set) ≡ c .tagged
 
-pub record Whole (bs : List ℕ) (w : Bool) (n : ℕ) (r : Entries) : Type 0 where
-  pub rest : Rest bs w n 8 [] 0 false
+pub record Whole (bs : List ℕ) (c : Cursor) (r : Entries) : Type 0 where
+  pub rest : Rest bs c [] 0 false
   pub total : intervals (rest .set) ≡ r .intervals

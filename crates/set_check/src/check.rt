@@ -1,12 +1,16 @@
 // The check itself: the header, and then one entry after another.
 use crate::Checked;
+use crate::Cursor;
 use crate::Entries;
-use crate::Head;
+use crate::EntryPlace;
+use crate::HEADER;
 use crate::Header;
+use crate::KeyPlace;
 use crate::MAX_ENTRIES;
 use crate::MAX_INTERVALS;
-use crate::MAX_OF_ENTRY;
-use crate::heads::head_at;
+use crate::heads::right_head;
+use crate::walk::beyond;
+use crate::walk::entry_here;
 use misc::le::number_at;
 use misc::refusal::NOT_A_SET;
 use packets::KeyOrder;
@@ -19,7 +23,7 @@ ghost use Prim.Native.Nat.{_+_, _*_, _≤_};
 ghost use lib.ListN.{length};
 ghost use Rattle.gtid_sets.specs.Interval.{gapped};
 ghost use Rattle.gtid_sets.specs.Lent.{lentSet};
-ghost use Rattle.set_check.specs.Places.{intervalsAt};
+ghost use Rattle.set_check.specs.Places.{intervalsAt, placeIn};
 ghost use Rattle.set_check.specs.Head.{Told};
 ghost use Rattle.set_check.specs.Check.{checkedOf, HeaderIs, NoHeader, keyIn, LowKey, EntryIs, NoEntry, Rest, Whole};
 
@@ -85,97 +89,78 @@ fn header_at(set: &[u8]) -> Header
     }
 }
 
-// The head of the entry at a place, if its key comes after a lower key, which stands in two parts of the set, and its intervals are
-// gapped and no more than an entry may have.
-fn entry_above(
-    set: &[u8],
-    at: usize,
-    tagged: bool,
-    low: usize,
-    len: usize,
-    low_tag: usize,
-    low_tag_len: usize,
-) -> Head
-    requires { ⌜ LowKey (now set) low len «low_tag» «low_tag_len» ⌝ }
-    ensures { λ r. ⌜ Told (r .ok)
-        (EntryIs (now (set .entry)) tagged at (keyIn (now (set .entry)) low len «low_tag» «low_tag_len») r)
-        (NoEntry (now (set .entry)) tagged at (keyIn (now (set .entry)) low len «low_tag» «low_tag_len»)) ⌝ }
+// Whether the entry that stands at a cursor has a right head, gapped intervals and a key after a lower one.
+fn entry_above(set: &[u8], from: Cursor, entry: EntryPlace, low: KeyPlace) -> bool
+    requires { ⌜ entry ≡ placeIn (from .tagged) (now set) (from .at) ⌝ }
+    requires { ⌜ LowKey (now set) low ⌝ }
+    ensures { λ r. ⌜ Told r (EntryIs (now (set .entry)) from (keyIn (now (set .entry)) low) entry)
+        (NoEntry (now (set .entry)) from (keyIn (now (set .entry)) low)) ⌝ }
 {
-    let none = Head {
-        ok: false,
-        tag_at: 0,
-        tag_len: 0,
-        count: 0,
-        first: 0,
-    };
-    let head = head_at(set, at, tagged);
-    let ok = head.ok;
-    let tag_at = head.tag_at;
-    let tag_len = head.tag_len;
-    let count = head.count;
-    if !ok {
-        return none;
+    let right = right_head(set, from, entry);
+    if !right {
+        return false;
     }
-    if MAX_OF_ENTRY < count {
-        return none;
-    }
-    let gapped = gapped_at(set, head.first, count);
+    let gapped = gapped_at(set, entry.first, entry.count);
     if !gapped {
-        return none;
+        return false;
     }
-    let low_uuid = &set[low..low + len];
-    let low_name = &set[low_tag..low_tag + low_tag_len];
-    let order = parts_order(
-        low_uuid,
-        low_name,
-        &set[at..at + 16],
-        &set[tag_at..tag_at + tag_len],
-    );
+    let low_at = low.at;
+    let low_end = low_at + low.len;
+    let low_tag = low.tag_at;
+    let low_tag_end = low_tag + low.tag_len;
+    let at = from.at;
+    let tag_at = entry.tag_at;
+    let tag_end = tag_at + entry.tag_len;
+    let low_uuid = &set[low_at..low_end];
+    let low_name = &set[low_tag..low_tag_end];
+    let order = parts_order(low_uuid, low_name, &set[at..at + 16], &set[tag_at..tag_end]);
     match order {
-        KeyOrder::Before => head,
-        KeyOrder::Same => none,
-        KeyOrder::After => none,
+        KeyOrder::Before => true,
+        KeyOrder::Same => false,
+        KeyOrder::After => false,
     }
 }
 
-fn check_entries(set: &[u8], tagged: bool, count: usize) -> Entries
-    requires { ⌜ 8 ≤ length (now set) ⌝ }
-    ensures { λ r. ⌜ Told (r .ok) (Whole (now (set .entry)) tagged count r)
-        (Rest (now (set .entry)) tagged count 8 [] 0 false → ⊥) ⌝ }
+fn check_entries(set: &[u8], from: Cursor) -> Entries
+    requires { ⌜ from .at ≤ length (now set) ⌝ }
+    ensures { λ r. ⌜ Told (r .ok) (Whole (now (set .entry)) from r) (Rest (now (set .entry)) from [] 0 false → ⊥) ⌝ }
 {
     let none = Entries {
         ok: false,
         intervals: 0,
     };
-    let mut at: usize = 8;
-    let mut low: usize = 0;
-    let mut len: usize = 0;
-    let mut low_tag: usize = 0;
-    let mut low_tag_len: usize = 0;
+    let mut rest = from;
+    let mut low = KeyPlace {
+        at: 0,
+        len: 0,
+        tag_at: 0,
+        tag_len: 0,
+    };
     let mut used: usize = 0;
     let mut any = false;
-    let mut done: usize = 0;
-    while done < count {
-        let head = entry_above(set, at, tagged, low, len, low_tag, low_tag_len);
-        let ok = head.ok;
+    while 0 < rest.left {
+        let entry = entry_here(set, rest);
+        let ok = entry_above(set, rest, entry, low);
         if !ok {
             return none;
         }
-        low = at;
-        len = 16;
-        low_tag = head.tag_at;
-        low_tag_len = head.tag_len;
-        used += head.count;
-        any = any | (0 < head.tag_len);
-        at = head.first + 16 * head.count;
-        done += 1;
+        low = KeyPlace {
+            at: rest.at,
+            len: 16,
+            tag_at: entry.tag_at,
+            tag_len: entry.tag_len,
+        };
+        used += entry.count;
+        any = any | (0 < entry.tag_len);
+        rest = beyond(rest, entry);
     }
-    if at != set.len() {
+    if rest.at != set.len() {
         return none;
     }
     if MAX_INTERVALS < used {
         return none;
     }
+    let tagged = rest.tagged;
     let as_said = (tagged & any) | !(tagged | any);
     if !as_said {
         return none;
@@ -203,7 +188,12 @@ pub fn check(set: &[u8]) -> Checked
     if !ok {
         return unfit;
     }
-    let entries = check_entries(set, tagged, count);
+    let from = Cursor {
+        tagged,
+        at: HEADER,
+        left: count,
+    };
+    let entries = check_entries(set, from);
     let whole = entries.ok;
     if !whole {
         return unfit;

@@ -50,20 +50,12 @@ pub struct EntryPlace {
 
 // ---- inside
 
-// Where a tag stands, and its length.
-pub(crate) struct TagPlace {
-    pub(crate) ok: bool,
+// The two parts of a key in a set: its uuid, and its tag.
+pub(crate) struct KeyPlace {
     pub(crate) at: usize,
     pub(crate) len: usize,
-}
-
-// The head of an entry: where its tag stands, how many intervals it has, and where they begin.
-pub(crate) struct Head {
-    pub(crate) ok: bool,
     pub(crate) tag_at: usize,
     pub(crate) tag_len: usize,
-    pub(crate) count: usize,
-    pub(crate) first: usize,
 }
 
 // The header of a set: whether its entries have tags, and how many there are.

@@ -21,10 +21,16 @@ check-entries-requires : tie.Need-check-entries-requires
 check-entries-requires c κs = header c .there
 
 returns-2 : tie.Need-returns-2
-returns-2 c = check-broken (now (c .before .before .before .before .before .args .set)) (c .before .before .before .header-at .result) (header (c .before .before)) (c .before .check-entries .ensures .no (not-true _ (c .if2 .taken)))
+returns-2 c =
+    let said = c .before .before .before in
+    let broken = c .before .check-entries .ensures .no (not-true _ (c .if2 .taken)) in
+    check-broken (now (said .before .before .args .set)) (said .header-at .result) (header (c .before .before)) broken
 
 returns-3 : tie.Need-returns-3
-returns-3 c = check-whole (now (c .before .before .before .before .before .args .set)) (c .before .before .before .header-at .result) (header (c .before .before)) (c .before .check-entries .result) (c .before .check-entries .ensures .yes (not-false _ (c .if2 .left)))
+returns-3 c =
+    let said = c .before .before .before in
+    let whole = c .before .check-entries .ensures .yes (not-false _ (c .if2 .left)) in
+    check-whole (now (said .before .before .args .set)) (said .header-at .result) (header (c .before .before)) (c .before .check-entries .result) whole
 
 pub check-spec : {M : Type 1} → statement M
 check-spec =

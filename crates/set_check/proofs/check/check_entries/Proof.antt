@@ -1,119 +1,102 @@
 -- `set_check::check::check_entries` meets its contract.
-use Prim.Native.Nat.{suc, _+_, _-_, _*_, _≤_}
+use Prim.Native.Nat.{_+_, _*_, _≤_}
+use mathlib.Core.Path.{refl, ap}
 use mathlib.Core.Logic.{inl, inr}
-use mathlib.Core.Path.{_≡_, refl}
 use native.Mathlib.Omega.{arith}
 use lib.ListN.{length}
 use denote.Ref.{now}
-use borrow.Author.Needs.{needs}
 use borrow.Author.Tests.{not-true, not-false}
+use borrow.Author.Needs.{needs}
 use Rattle.gtid_sets.proofs.LimitLaws.{maxIntervals-is}
+use Rattle.set_check.specs.declared.Cursor.{Cursor}
 use Rattle.set_check.specs.Check.{keyIn, LowKey, EntryIs}
 use Rattle.set_check.proofs.CheckLaws.{Walked, walked-none, walked-not, walked-next, walked-short, walked-many, walked-untagged, walked-whole}
-use Rattle.set_check.proofs.RestLaws.{key-there}
+use Rattle.set_check.proofs.RestLaws.{head-lies}
+use Rattle.set_check.proofs.EntryPlaces.{Lies}
 use Rattle.set_check.proofs.PlaceLaws.{says-yes, says-no}
 use Rattle.set_check.proofs.check.check_entries.Statement.{statement}
 use Rattle.set_check.proofs.check.check_entries.Tie as tie
 
 abbrev Inv-loop : tie.InvT-loop
-Inv-loop set tagged count none at₀ low₀ len₀ low-tag₀ low-tag-len₀ used₀ any₀ done₀ at low len low-tag low-tag-len used any done =
-    (done ≤ count) × (at ≤ length set) × (16 * used ≤ at) × LowKey set low len low-tag low-tag-len
-    × Walked set tagged count (count - done) at (keyIn set low len low-tag low-tag-len) used any
+Inv-loop set none rest₀ low₀ used₀ any₀ rest low used any = (rest .at ≤ length set) × (16 * used ≤ rest .at) × LowKey set low × Walked set rest₀ rest (keyIn set low) used any
 
 abbrev μ-loop : tie.MeasureT-loop
-μ-loop set tagged count none at₀ low₀ len₀ low-tag₀ low-tag-len₀ used₀ any₀ done₀ at low len low-tag low-tag-len used any done =
-    count - done
+μ-loop set none rest₀ low₀ used₀ any₀ rest low used any = rest .left
 
--- the invariant in a turn, with one entry at least left
-walked : (c : tie.In-loop Inv-loop μ-loop)
-    → let a = c .before .before .before .args in
-    let l = c .before .loop in
-    Walked (now (a .set)) (a .tagged) (a .count) (suc (a .count - (l .done + 1))) (l .at) (keyIn (now (a .set)) (l .low) (l .len) (l .low-tag) (l .low-tag-len)) (l .used) (l .any)
-walked c =
-    let a = c .before .before .before .args in
-    let l = c .before .loop in
-    let one : a .count - l .done ≡ suc (a .count - (l .done + 1)) = omega arith in
-    rw one at (l .inv .4)
+-- the entry, once it is right, and how its parts lie
+entry : (c : tie.Else2 Inv-loop μ-loop)
+    → let l = c .before .before .before .before .before .loop in
+    EntryIs (now (c .before .before .before .before .before .before .before .args .set)) (l .rest) (keyIn (now (c .before .before .before .before .before .before .before .args .set)) (l .low)) (c .before .before .entry-here .result)
+entry c = c .before .entry-above .ensures .yes (not-false _ (c .if2 .left))
 
--- the entry, once it is there
-entry : (c : tie.Else1 Inv-loop μ-loop)
-    → let a = c .before .before .before .before .before .args in
-    let l = c .before .before .before .loop in
-    EntryIs (now (a .set)) (a .tagged) (l .at) (keyIn (now (a .set)) (l .low) (l .len) (l .low-tag) (l .low-tag-len)) (c .before .entry-above .result)
-entry c = c .before .entry-above .ensures .yes (not-false _ (c .if1 .left))
+parts : (c : tie.Else2 Inv-loop μ-loop) → Lies (c .before .before .before .before .before .loop .rest .at) (c .before .before .entry-here .result)
+parts c = head-lies _ _ _ (entry c .head)
 
 loop-holds : tie.Need-loop-holds Inv-loop μ-loop
 loop-holds c =
-    let a = c .before .args in
-    let all : a .count - 0 ≡ a .count = omega arith in
-    (omega arith, c .before .pre, omega arith, record { there = omega arith; tag-there = omega arith; shape = inr (refl, refl) }, rw all (walked-none (now (a .set)) (a .tagged) (a .count)))
+    let s = c .before in
+    (s .pre, omega arith, record { there = omega arith; tag-there = omega arith; shape = inr (refl, refl) }, walked-none (now (s .args .set)) (s .args .from))
+
+entry-here-requires : tie.Need-entry-here-requires Inv-loop μ-loop
+entry-here-requires c κs = search needs
 
 entry-above-requires : tie.Need-entry-above-requires Inv-loop μ-loop
-entry-above-requires c κs = c .before .loop .inv .3
+entry-above-requires c κs = (c .entry-here .ensures, c .before .before .before .loop .inv .2)
 
 returns : tie.Need-returns Inv-loop μ-loop
 returns c =
-    let a = c .before .before .before .before .before .args in
-    let l = c .before .before .before .loop in
-    says-no (walked-not (now (a .set)) (a .tagged) (a .count) (a .count - (l .done + 1)) (l .at) (keyIn (now (a .set)) (l .low) (l .len) (l .low-tag) (l .low-tag-len)) (l .used) (l .any) (walked (c .before .before)) (c .before .entry-above .ensures .no (not-true _ (c .if1 .taken))))
+    let l = c .before .before .before .before .before .loop in
+    let none = c .before .entry-above .ensures .no (not-true _ (c .if2 .taken)) in
+    says-no (walked-not (now (c .before .before .before .before .before .before .before .args .set)) (c .before .before .before .before .before .before .before .args .from) (l .rest) _ (l .used) (l .any) (l .inv .3) (omega arith) none)
 
 add-used : tie.Need-add-used Inv-loop μ-loop
-add-used c = let e = entry (c .before) in record { fits = omega (arith, e .head .room) }
+add-used c = let e = c .before in record { fits = omega (arith, parts e .next-is, entry e .head .inside) }
 
-mul-at : tie.Need-mul-at Inv-loop μ-loop
-mul-at c = let e = entry (c .before .before .before) in record { fits = omega (arith, e .head .room) }
-
-add-at : tie.Need-add-at Inv-loop μ-loop
-add-at c = let e = entry (c .before .before .before .before) in record { fits = omega (arith, e .head .room) }
-
-add-done : tie.Need-add-done Inv-loop μ-loop
-add-done c = search needs
+beyond-requires : tie.Need-beyond-requires Inv-loop μ-loop
+beyond-requires c κs = search needs
 
 loop-less : tie.Need-loop-less Inv-loop μ-loop
-loop-less c = omega arith
+loop-less c = omega (arith, ap (λ (x : Cursor). x .left) (c .beyond .ensures))
 
 loop-again : tie.Need-loop-again Inv-loop μ-loop
 loop-again c =
-    let a = c .before .before .before .before .before .before .before .before .before .args in
-    let l = c .before .before .before .before .before .before .before .loop in
-    let s = now (a .set) in
-    let r = c .before .before .before .before .before .entry-above .result in
-    let e = entry (c .before .before .before .before) in
-    let h = e .head in (
-      omega arith,
-      h .room,
-      omega (arith, h .place, h .after),
-      record { there = omega (arith, h .place, h .after, h .room); tag-there = omega (arith, h .after, h .room); shape = inl refl },
-      rw (key-there s (a .tagged) (l .at) r h) (walked-next s (a .tagged) (a .count) (a .count - (l .done + 1)) (l .at) (keyIn s (l .low) (l .len) (l .low-tag) (l .low-tag-len)) (l .used) (l .any) (walked (c .before .before .before .before .before .before)) (λ i. c .before .before .before .before .before .before .before .before .shared-slice-known .given i .fits) r e),
+    let e = c .before .before .before in
+    let l = e .before .before .before .before .before .loop in
+    let s = e .before .before .before .before .before .before .before in
+    let place = ap (λ (x : Cursor). x .at) (c .beyond .ensures) in
+    let h = entry e .head in
+    let there : l .rest .at + 16 ≤ length (now (s .args .set)) = omega (arith, parts e .tag-after, parts e .first-is, parts e .next-is, h .inside) in (
+      omega (arith, place, h .inside),
+      omega (arith, place, parts e .tag-after, parts e .first-is, parts e .next-is),
+      record { there = there; tag-there = omega (arith, parts e .first-is, parts e .next-is, h .inside); shape = inl refl },
+      walked-next (now (s .args .set)) (s .args .from) (l .rest) _ (l .used) (l .any) (l .inv .3) (omega arith)
+          (λ i. e .before .before .before .before .before .before .shared-slice-known .given i .fits) _ (entry e) _ (c .beyond .ensures),
     )
 
 returns-2 : tie.Need-returns-2 Inv-loop μ-loop
 returns-2 c =
-    let a = c .before .before .before .before .args in
-    let l = c .before .before .loop in
-    let none : a .count - l .done ≡ 0 = omega arith in
-    says-no (walked-short (now (a .set)) (a .tagged) (a .count) (l .at) (keyIn (now (a .set)) (l .low) (l .len) (l .low-tag) (l .low-tag-len)) (l .used) (l .any) (rw none at (l .inv .4)) (l .inv .1) (c .if2 .taken))
+    let l = c .before .before .before .before .loop in
+    let a = c .before .before .before .before .before .before .args in
+    says-no (walked-short (now (a .set)) (a .from) (l .rest) _ (l .used) (l .any) (l .inv .3) (omega arith) (l .inv .0) (c .if3 .taken))
 
 returns-3 : tie.Need-returns-3 Inv-loop μ-loop
 returns-3 c =
-    let a = c .before .before .before .before .before .args in
-    let l = c .before .before .before .loop in
-    let none : a .count - l .done ≡ 0 = omega arith in
-    says-no (walked-many (now (a .set)) (a .tagged) (a .count) (l .at) (keyIn (now (a .set)) (l .low) (l .len) (l .low-tag) (l .low-tag-len)) (l .used) (l .any) (rw none at (l .inv .4)) (omega (arith, maxIntervals-is)))
+    let l = c .before .before .before .before .before .loop in
+    let a = c .before .before .before .before .before .before .before .args in
+    says-no (walked-many (now (a .set)) (a .from) (l .rest) _ (l .used) (l .any) (l .inv .3) (omega arith) (omega (arith, maxIntervals-is)))
 
 returns-4 : tie.Need-returns-4 Inv-loop μ-loop
 returns-4 c =
-    let a = c .before .before .before .before .before .before .args in
-    let l = c .before .before .before .before .loop in
-    let none : a .count - l .done ≡ 0 = omega arith in
-    says-no (walked-untagged (now (a .set)) (a .tagged) (a .count) (l .at) (keyIn (now (a .set)) (l .low) (l .len) (l .low-tag) (l .low-tag-len)) (l .used) (l .any) (rw none at (l .inv .4)) (not-true _ (c .if4 .taken)))
+    let l = c .before .before .before .before .before .before .loop in
+    let a = c .before .before .before .before .before .before .before .before .args in
+    says-no (walked-untagged (now (a .set)) (a .from) (l .rest) _ (l .used) (l .any) (l .inv .3) (omega arith) (not-true _ (c .if5 .taken)))
 
 returns-5 : tie.Need-returns-5 Inv-loop μ-loop
 returns-5 c =
-    let a = c .before .before .before .before .before .before .args in
-    let l = c .before .before .before .before .loop in
-    let none : a .count - l .done ≡ 0 = omega arith in
-    says-yes (walked-whole (now (a .set)) (a .tagged) (a .count) (l .at) (keyIn (now (a .set)) (l .low) (l .len) (l .low-tag) (l .low-tag-len)) (l .used) (l .any) (rw none at (l .inv .4)) (c .before .before .if2 .left) (omega (arith, maxIntervals-is)) (not-false _ (c .if4 .left)))
+    let l = c .before .before .before .before .before .before .loop in
+    let a = c .before .before .before .before .before .before .before .before .args in
+    says-yes (walked-whole (now (a .set)) (a .from) (l .rest) _ (l .used) (l .any) (l .inv .3) (omega arith) (c .before .before .if3 .left) (omega (arith, maxIntervals-is))
+    (not-false _ (c .if5 .left)))
 
 pub check-entries-spec : {M : Type 1} → statement M
 check-entries-spec =
@@ -122,12 +105,11 @@ check-entries-spec =
     Inv-loop
     μ-loop
     loop-holds
+    entry-here-requires
     entry-above-requires
     returns
     add-used
-    mul-at
-    add-at
-    add-done
+    beyond-requires
     loop-less
     loop-again
     returns-2
