@@ -35,7 +35,7 @@ use Rattle.misc.proofs.Places.{part-there, after-there}
 use Rattle.misc.proofs.NumberLaws.{number-there}
 use Rattle.misc.proofs.VarlenLaws.{one-byte}
 use Rattle.set_check.proofs.PlaceLaws.{intervals-count, intervals-stand}
-use Rattle.set_check.proofs.RestLaws.{entries-head}
+use Rattle.set_check.proofs.EntryPlaces.{entries-head}
 use Rattle.set_check.specs.SetOf.{setOf, IsSet}
 use Rattle.resume_set.specs.Find.{added, old, FoundIs}
 use Rattle.resume_set.specs.Put.{widerRun, widened, Untagged, entriesRun, EntriesThere}
