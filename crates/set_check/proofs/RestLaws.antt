@@ -1,5 +1,5 @@
 -- The entries of a set, one after another: what the check of an entry says of those from it on.
-use Prim.Native.Nat.{ℕ, _+_, _*_, _<_, _≤_}
+use Prim.Native.Nat.{ℕ, _+_, _*_, _^_, _<_, _≤_}
 use mathlib.Core.Path.{_≡_, sym, ap, _∙_}
 use mathlib.Core.Logic.{_⊎_, inl, inr}
 use mathlib.Core.Bool.{Bool, true, false, _||_, or-assoc}
@@ -172,7 +172,8 @@ module _ (bs : List ℕ) (c : Cursor) (low : Key) (used : ℕ) (any : Bool) (lef
       go [] e n f g v l t = absurd (omega arith)
       go (entry k is ∷ s) e n f g v l t =
           let o : KeyOk w k = key-ok w any k is s (g .0) t in
-          let found = rw (← h .head .stands) at (entry-here bs (c .at) k is (entriesBytes w s) (omega (arith, maxIntervals-is)) w o (e ∙ entries-head w k is s)) in
+          let small : length is < 2 ^ 64 = omega (arith, maxIntervals-is) in
+          let found = rw (← h .head .stands) at (entry-here bs (c .at) k is (entriesBytes w s) small w o (e ∙ entries-head w k is s)) in
           let same : keyAt bs c p ≡ k = here-key bs c p k is (entriesBytes w s) found in
           let len : p .«tag_len» ≡ length (tagOf k) = len-is ∙ ap (λ (j : Key). length (tagOf j)) same in
           record {

@@ -18,7 +18,8 @@ use Rattle.set_check.proofs.check.check_entries.Statement.{statement}
 use Rattle.set_check.proofs.check.check_entries.Tie as tie
 
 abbrev Inv-loop : tie.InvT-loop
-Inv-loop set none rest₀ low₀ used₀ any₀ rest low used any = (rest .at ≤ length set) × (16 * used ≤ rest .at) × LowKey set low × Walked set rest₀ rest (keyIn set low) used any
+Inv-loop set none rest₀ low₀ used₀ any₀ rest low used any =
+    (rest .at ≤ length set) × (16 * used ≤ rest .at) × LowKey set low × Walked set rest₀ rest (keyIn set low) used any
 
 abbrev μ-loop : tie.MeasureT-loop
 μ-loop set none rest₀ low₀ used₀ any₀ rest low used any = rest .left
@@ -26,7 +27,8 @@ abbrev μ-loop : tie.MeasureT-loop
 -- the entry, once it is right, and how its parts lie
 entry : (c : tie.Else2 Inv-loop μ-loop)
     → let l = c .before .before .before .before .before .loop in
-    EntryIs (now (c .before .before .before .before .before .before .before .args .set)) (l .rest) (keyIn (now (c .before .before .before .before .before .before .before .args .set)) (l .low)) (c .before .before .entry-here .result)
+    let set = now (c .before .before .before .before .before .before .before .args .set) in
+    EntryIs set (l .rest) (keyIn set (l .low)) (c .before .before .entry-here .result)
 entry c = c .before .entry-above .ensures .yes (not-false _ (c .if2 .left))
 
 parts : (c : tie.Else2 Inv-loop μ-loop) → Lies (c .before .before .before .before .before .loop .rest .at) (c .before .before .entry-here .result)
@@ -46,8 +48,9 @@ entry-above-requires c κs = (c .entry-here .ensures, c .before .before .before 
 returns : tie.Need-returns Inv-loop μ-loop
 returns c =
     let l = c .before .before .before .before .before .loop in
+    let a = c .before .before .before .before .before .before .before .args in
     let none = c .before .entry-above .ensures .no (not-true _ (c .if2 .taken)) in
-    says-no (walked-not (now (c .before .before .before .before .before .before .before .args .set)) (c .before .before .before .before .before .before .before .args .from) (l .rest) _ (l .used) (l .any) (l .inv .3) (omega arith) none)
+    says-no (walked-not (now (a .set)) (a .from) (l .rest) _ (l .used) (l .any) (l .inv .3) (omega arith) none)
 
 add-used : tie.Need-add-used Inv-loop μ-loop
 add-used c = let e = c .before in record { fits = omega (arith, parts e .next-is, entry e .head .inside) }
@@ -95,8 +98,8 @@ returns-5 : tie.Need-returns-5 Inv-loop μ-loop
 returns-5 c =
     let l = c .before .before .before .before .before .before .loop in
     let a = c .before .before .before .before .before .before .before .before .args in
-    says-yes (walked-whole (now (a .set)) (a .from) (l .rest) _ (l .used) (l .any) (l .inv .3) (omega arith) (c .before .before .if3 .left) (omega (arith, maxIntervals-is))
-    (not-false _ (c .if5 .left)))
+    says-yes (walked-whole (now (a .set)) (a .from) (l .rest) _ (l .used) (l .any) (l .inv .3) (omega arith) (c .before .before .if3 .left)
+    (omega (arith, maxIntervals-is)) (not-false _ (c .if5 .left)))
 
 pub check-entries-spec : {M : Type 1} → statement M
 check-entries-spec =

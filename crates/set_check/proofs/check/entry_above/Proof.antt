@@ -42,7 +42,8 @@ right-head-requires c κs = search needs
 returns : tie.Need-returns
 returns c =
     let s = c .before .before .before in
-    says-no (entry-headless (now (s .args .set)) (s .args .from) (keyIn (now (s .args .set)) (s .args .low)) (c .before .right-head .ensures .no (not-true _ (c .if1 .taken))))
+    let none = c .before .right-head .ensures .no (not-true _ (c .if1 .taken)) in
+    says-no (entry-headless (now (s .args .set)) (s .args .from) (keyIn (now (s .args .set)) (s .args .low)) none)
 
 gapped-at-requires : tie.Need-gapped-at-requires
 gapped-at-requires c κs = omega (arith, parts c .next-is, head c .inside)
@@ -50,7 +51,9 @@ gapped-at-requires c κs = omega (arith, parts c .next-is, head c .inside)
 returns-2 : tie.Need-returns-2
 returns-2 c =
     let s = c .before .before .before .before .before in
-    says-no (entry-ungapped (now (s .args .set)) (s .args .from) (keyIn (now (s .args .set)) (s .args .low)) (s .args .entry) (s .pre .0) (sym (c .before .gapped-at .ensures) ∙ not-true _ (c .if2 .taken)))
+    let k = keyIn (now (s .args .set)) (s .args .low) in
+    let ungapped = sym (c .before .gapped-at .ensures) ∙ not-true _ (c .if2 .taken) in
+    says-no (entry-ungapped (now (s .args .set)) (s .args .from) k (s .args .entry) (s .pre .0) ungapped)
 
 add-low-end : tie.Need-add-low-end
 add-low-end c = search needs
@@ -80,7 +83,9 @@ part-low-name-end : tie.Need-part-low-name-end
 part-low-name-end c = search needs
 
 add-parts-order : tie.Need-add-parts-order
-add-parts-order c = let h = c .before .before .before .before .before .before .before in record { fits = omega (arith, parts h .tag-after, parts h .first-is, parts h .next-is, head h .inside) }
+add-parts-order c =
+    let h = c .before .before .before .before .before .before .before in
+    record { fits = omega (arith, parts h .tag-after, parts h .first-is, parts h .next-is, head h .inside) }
 
 sub-parts-order : tie.Need-sub-parts-order
 sub-parts-order c = search needs
@@ -89,7 +94,9 @@ part-parts-order-start : tie.Need-part-parts-order-start
 part-parts-order-start c = search needs
 
 part-parts-order-end : tie.Need-part-parts-order-end
-part-parts-order-end c = let h = c .before .before .before .before .before .before .before in omega (arith, parts h .tag-after, parts h .first-is, parts h .next-is, head h .inside)
+part-parts-order-end c =
+    let h = c .before .before .before .before .before .before .before in
+    omega (arith, parts h .tag-after, parts h .first-is, parts h .next-is, head h .inside)
 
 sub-parts-order-2 : tie.Need-sub-parts-order-2
 sub-parts-order-2 c = search needs
@@ -98,7 +105,9 @@ part-parts-order-start-2 : tie.Need-part-parts-order-start-2
 part-parts-order-start-2 c = search needs
 
 part-parts-order-end-2 : tie.Need-part-parts-order-end-2
-part-parts-order-end-2 c = let h = c .before .before .before .before .before .before .before .before in omega (arith, parts h .first-is, parts h .next-is, head h .inside)
+part-parts-order-end-2 c =
+    let h = c .before .before .before .before .before .before .before .before in
+    omega (arith, parts h .first-is, parts h .next-is, head h .inside)
 
 parts-order-requires : tie.Need-parts-order-requires
 parts-order-requires c κs = search needs
@@ -118,7 +127,8 @@ returns-3 c =
     let h = told .before .before .before .before .before .before .before .before .before .before in
     let a = h .before .before .before .args in
     let k = keyIn (now (a .set)) (a .low) in
-    let gapped = sym (told .before .before .before .before .before .before .before .before .before .gapped-at .ensures) ∙ not-false _ (told .before .before .before .before .before .before .before .before .if2 .left) in
+    let tested = told .before .before .before .before .before .before .before .before in
+    let gapped = sym (tested .before .gapped-at .ensures) ∙ not-false _ (tested .if2 .left) in
     let above = says-before (order k (keyAt (now (a .set)) (a .from) (a .entry))) (order-told told ∙ c .enum-told .given .1) in
     says-yes (entry-is (now (a .set)) (a .from) k (a .entry) (head h) gapped above)
 

@@ -35,7 +35,9 @@ returns : tie.Need-returns Inv-loop μ-loop
 returns c =
     let a = c .before .before .before .before .before .before .before .args in
     let l = c .before .before .before .before .before .loop in
-    gapped-stops (now (a .set)) (a .first) (a .count) (l .low) (l .at) (l .left) (l .inv .1) (omega arith) _ _ (c .before .before .before .number-at .ensures) (c .before .before .number-at2 .ensures) _ (c .before .is-interval .ensures) (not-true _ (c .if1 .taken))
+    gapped-stops (now (a .set)) (a .first) (a .count) (l .low) (l .at) (l .left) (l .inv .1) (omega arith) _ _
+    (c .before .before .before .number-at .ensures) (c .before .before .number-at2 .ensures) _ (c .before .is-interval .ensures)
+    (not-true _ (c .if1 .taken))
 
 add-at : tie.Need-add-at Inv-loop μ-loop
 add-at c = search needs
@@ -50,7 +52,11 @@ loop-again : tie.Need-loop-again Inv-loop μ-loop
 loop-again c =
     let a = c .before .before .before .before .before .before .before .args in
     let l = c .before .before .before .before .before .loop in
-    (omega arith, gapped-turn (now (a .set)) (a .first) (a .count) (l .low) (l .at) (l .left) (l .inv .1) (omega arith) _ _ (c .before .before .before .number-at .ensures) (c .before .before .number-at2 .ensures) _ (c .before .is-interval .ensures) (not-false _ (c .if1 .left)))
+    let fine = not-false _ (c .if1 .left) in (
+      omega arith,
+      gapped-turn (now (a .set)) (a .first) (a .count) (l .low) (l .at) (l .left) (l .inv .1) (omega arith) _ _
+          (c .before .before .before .number-at .ensures) (c .before .before .number-at2 .ensures) _ (c .before .is-interval .ensures) fine,
+    )
 
 returns-2 : tie.Need-returns-2 Inv-loop μ-loop
 returns-2 c =

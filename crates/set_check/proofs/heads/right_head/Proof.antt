@@ -62,8 +62,9 @@ returns-4 c =
     let s = tests .before .before .before .before .before .before .before in
     let told = rw add-sub-cancel-left at (c .none-or-tag .ensures) in
     record {
-      yes = λ good. head-is (now (s .args .set)) (s .args .from) (s .args .entry) (s .pre) (λ i. tests .before .before .before .before .before .before .shared-slice-known .given i .fits) (omega arith)
-          (omega arith) _ (tests .before .before .wide .ensures) (tests .if3 .left) (sym told ∙ good);
+      yes = λ good. head-is (now (s .args .set)) (s .args .from) (s .args .entry) (s .pre)
+          (λ i. tests .before .before .before .before .before .before .shared-slice-known .given i .fits) (omega arith) (omega arith)
+          _ (tests .before .before .wide .ensures) (tests .if3 .left) (sym told ∙ good);
       no = λ bad. head-bad (now (s .args .set)) (s .args .from) (s .args .entry) (s .pre) (sym told ∙ bad);
     }
 
