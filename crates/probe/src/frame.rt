@@ -3,19 +3,19 @@ use probe_binlog::TWIN_ROOM;
 use probe_lines::parts::byte_at;
 use probe_lines::parts::u32_at;
 use probe_lines::parts::u64_at;
+use probe_lines::request::Request;
 use probe_listing::TEXT_ROOM;
 ghost use Prim.Native.Nat.{_<_};
 
 pub const HEAD_LEN: usize = 24;
 
+// Which call it is, and how long its parts and its output are.
 pub struct Head {
-    pub call: u8,
-    pub event_type: u8,
+    pub request: Request,
     pub c_len: usize,
     pub a_len: usize,
     pub b_len: usize,
     pub out_len: usize,
-    pub number: u64,
 }
 
 fn wide(b: u8) -> usize
@@ -42,14 +42,17 @@ fn out_len_of(call: u8, told: usize) -> usize {
 
 pub(crate) fn head_of(raw: &[u8]) -> Head {
     let call = byte_at(raw, 0);
-    Head {
+    let request = Request {
         call,
         event_type: byte_at(raw, 1),
+        number: u64_at(raw, 16),
+    };
+    Head {
+        request,
         c_len: two_at(raw, 2, 3),
         a_len: u32_at(raw, 4) as usize,
         b_len: u32_at(raw, 8) as usize,
         out_len: out_len_of(call, u32_at(raw, 12) as usize),
-        number: u64_at(raw, 16),
     }
 }
 

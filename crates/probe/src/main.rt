@@ -1,11 +1,13 @@
 // A test program. It answers the requests of standard input, one line each on standard output, until the input ends.
 //
-// A request is a head of 24 bytes and three parts, A, B and C (frame.rt). The calls of a library crate stand in a
-// module or a crate of their own (probe_*), whose `answer` has an arm for each; `answer` here asks one of them.
-mod calls_integers;
+// A request is a head of 24 bytes and three parts, A, B and C (frame.rt). The calls of a library crate stand in a crate of their own
+// (probe_*), whose `answer` has an arm for each; `answer_by_call` here asks one of them.
 mod frame;
 
 use crate::frame::Head;
+use probe_abi::OUT_ROOM;
+use probe_lines::parts::front;
+use probe_lines::request::Request;
 
 const A_ROOM: usize = 140_000;
 
@@ -13,60 +15,88 @@ const B_ROOM: usize = 70_000;
 
 const C_ROOM: usize = 65_535;
 
-const OUT_ROOM: usize = 140_000;
-
 const LINE_ROOM: usize = 450_000;
 
-// The line by the library's answer. That of call 51 has the archive's held against it already.
-fn answer_by_call<'a>(
-    head: Head,
+fn of_two_sets(call: u8) -> bool {
+    (52 <= call) & (call < 57)
+}
+
+// B; but to a call of two sets an odd number lends A as both.
+fn second_part<'a>(request: Request, a: &'a [u8], b: &'a [u8]) -> &'a [u8] {
+    if of_two_sets(request.call) & (request.number % 2 == 1) {
+        return a;
+    }
+    b
+}
+
+// The line by the library's answer, for the calls over integers and events.
+fn answer_of_events(request: Request, a: &[u8], out: &mut [u8], line: &mut [u8]) -> usize {
+    let call = request.call;
+    if call < 9 {
+        return probe_integers::answer(request, a, out, line);
+    }
+    if call < 32 {
+        return probe_gtid::answer(request, a, out, line);
+    }
+    probe_previous::answer(call, a, out, line)
+}
+
+// And for those over sets, with the listing. That of call 51 has the archive's held against it already.
+fn answer_of_sets<'a>(
+    request: Request,
     a: &'a [u8],
     b: &'a [u8],
     c: &[u8],
     out: &mut [u8],
     line: &mut [u8],
 ) -> usize {
-    let call = head.call;
-    if call < 9 {
-        return calls_integers::answer(call, head.number, a, out, line);
-    }
-    if call < 32 {
-        return probe_gtid::answer(call, head.event_type, head.number, a, out, line);
-    }
-    if call < 48 {
-        return probe_previous::answer(call, a, out, line);
-    }
+    let call = request.call;
     if call == 51 {
-        return probe_binlog::answer(head.number, a, b, c, out, line);
+        return probe_binlog::answer(request.number, a, b, c, out, line);
     }
-    if (52 <= call) & (call < 57) {
-        return probe_two_sets::answer(call, head.number, a, b, out, line);
+    if of_two_sets(call) {
+        return probe_two_sets::answer(call, a, b, out, line);
     }
     if call == 57 {
         return probe_report::answer(call, a, b, out, line);
     }
     if (call < 64) | (call == 66) {
-        return probe_sets::answer(call, head.event_type, head.number, a, b, c, out, line);
+        return probe_sets::answer(request, a, b, c, out, line);
     }
     probe_listing::answer(call, a, out, line)
 }
 
-// Puts the line that answers a request, without its end, at the front of `line`; returns its length. It ends in ` abi` where the
-// archive's function for the same call answers or writes something else.
-fn answer<'a>(
-    head: Head,
+fn answer_by_call<'a>(
+    request: Request,
     a: &'a [u8],
     b: &'a [u8],
     c: &[u8],
     out: &mut [u8],
     line: &mut [u8],
 ) -> usize {
-    let end = answer_by_call(head, a, b, c, out, line);
-    let another = probe_abi::another(head.call, head.event_type, head.number, a, b, c, out);
+    if request.call < 48 {
+        return answer_of_events(request, a, out, line);
+    }
+    answer_of_sets(request, a, b, c, out, line)
+}
+
+// Puts the line that answers a request, without its end, at the front of `line`; returns its length. It ends in ` abi` where the
+// archive's function for the same call answers or writes something else.
+fn answer<'a>(
+    request: Request,
+    a: &'a [u8],
+    b: &'a [u8],
+    c: &[u8],
+    out: &mut [u8],
+    line: &mut [u8],
+) -> usize {
+    let second = second_part(request, a, b);
+    let end = answer_by_call(request, a, second, c, out, line);
+    let another = probe_abi::another(request, a, second, c, out);
     probe_lines::line::push_text_if(line, end, another, b" abi")
 }
 
-// Answers the request whose parts stand at the front of `a`, `b` and `c`; false where one doesn't fit there.
+// Answers the request whose parts stand at the front of `a`, `b` and `c`; false where its output doesn't fit in `out`.
 fn answer_read<'a>(
     head: Head,
     a: &'a [u8],
@@ -75,18 +105,15 @@ fn answer_read<'a>(
     out: &mut [u8],
     line: &mut [u8],
 ) -> bool {
-    let a_len = head.a_len;
-    let b_len = head.b_len;
-    let c_len = head.c_len;
     let out_len = head.out_len;
-    if a.len() < a_len || b.len() < b_len || c.len() < c_len || out.len() < out_len {
+    if out.len() < out_len {
         return false;
     }
     let end = answer(
-        head,
-        &a[..a_len],
-        &b[..b_len],
-        &c[..c_len],
+        head.request,
+        front(a, head.a_len),
+        front(b, head.b_len),
+        front(c, head.c_len),
         &mut out[..out_len],
         line,
     );

@@ -1,11 +1,9 @@
-// The archive's functions over Previous-GTIDs bodies, and its listing.
-use crate::UNSET;
-use crate::differs;
+// The archive's functions that read Previous-GTIDs bodies.
 use previous_gtids_event::EntryRead;
 use previous_gtids_event::read::entry_at;
 use previous_gtids_event::read::header_of;
 use previous_gtids_event::read::read;
-use probe_lines::checks::fill;
+use probe_lines::beside::UNSET;
 
 // Whether the archive says something else of the entry at a place.
 fn entry_differs(body: &[u8], at: usize, said: EntryRead) -> bool {
@@ -58,22 +56,4 @@ pub(crate) fn previous(body: &[u8]) -> bool {
         return true;
     }
     entries_differ(body)
-}
-
-pub(crate) fn rewrite(body: &[u8], out: &mut [u8], twin: &mut [u8]) -> bool {
-    fill(out);
-    fill(twin);
-    let wrote = previous_gtids_event::rewrite::rewrite(body, out);
-    let mut len = UNSET;
-    let refusal = abi::gtid_rewrite(body, twin, &mut len);
-    differs(wrote, refusal, len, out, twin)
-}
-
-pub(crate) fn list(input: &[u8], out: &mut [u8], twin: &mut [u8]) -> bool {
-    fill(out);
-    fill(twin);
-    let wrote = listing::event_text::list_input(input, out);
-    let mut len = UNSET;
-    let refusal = abi::gtid_list(input, twin, &mut len);
-    differs(wrote, refusal, len, out, twin)
 }

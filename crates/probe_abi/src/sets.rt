@@ -1,18 +1,9 @@
-// The archive's functions over sets.
-use crate::UNSET;
-use crate::differs;
+// The archive's functions over one set.
 use misc::Wrote;
-use probe_lines::checks::fill;
+use probe_lines::beside::UNSET;
+use probe_lines::beside::differs;
+use probe_lines::checks::MARK;
 use resume_set::Offered;
-
-pub(crate) fn take_in(body: &[u8], out: &mut [u8], twin: &mut [u8]) -> bool {
-    fill(out);
-    fill(twin);
-    let wrote = resume_set::take_in::take_in(body, out);
-    let mut len = UNSET;
-    let refusal = abi::gtid_take_in(body, twin, &mut len);
-    differs(wrote, refusal, len, out, twin)
-}
 
 // What the archive should say of an offer: 0 refused, 1 taken, 2 already there, 3 no id.
 struct Numbers {
@@ -49,10 +40,8 @@ pub(crate) fn offer(
     out: &mut [u8],
     twin: &mut [u8],
 ) -> bool {
-    fill(out);
-    fill(twin);
     let wanted = numbers_of(resume_set::offer(set, event_type, body, out));
-    let mut kind: u8 = 0xa5;
+    let mut kind: u8 = MARK;
     let mut len = UNSET;
     let refusal = abi::gtid_offer(set, event_type, body, twin, &mut kind, &mut len);
     let wrote = Wrote {
@@ -72,7 +61,7 @@ pub(crate) fn check_set(set: &[u8]) -> bool {
 
 pub(crate) fn contains(set: &[u8], uuid: &[u8], tag: &[u8], gno: u64) -> bool {
     let said = resume_set::contains(set, uuid, tag, gno);
-    let mut present: u8 = 0xa5;
+    let mut present: u8 = MARK;
     let refusal = abi::gtid_contains(set, uuid, tag, gno, &mut present);
     (said.refusal != refusal) | (said.present as u8 != present)
 }

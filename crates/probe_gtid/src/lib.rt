@@ -9,6 +9,7 @@ use probe_lines::checks;
 use probe_lines::line::push_byte;
 use probe_lines::line::push_decimal;
 use probe_lines::line::push_text_if;
+use probe_lines::request::Request;
 
 fn paysize(number: u64, line: &mut [u8]) -> usize {
     let size = gtid_event_write::size::payload_size(number);
@@ -109,16 +110,11 @@ fn build_record(a: &[u8], line: &mut [u8]) -> usize {
     record::push_record(line, at, event)
 }
 
-pub fn answer(
-    call: u8,
-    event_type: u8,
-    number: u64,
-    a: &[u8],
-    out: &mut [u8],
-    line: &mut [u8],
-) -> usize {
+pub fn answer(request: Request, a: &[u8], out: &mut [u8], line: &mut [u8]) -> usize {
+    let event_type = request.event_type;
+    let call = request.call;
     match call {
-        9 => paysize(number, line),
+        9 => paysize(request.number, line),
         16 => gtid(event_type, a, line),
         17 => regtid(event_type, a, out, line),
         18 => gtidlen(event_type, a, line),

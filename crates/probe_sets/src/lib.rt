@@ -4,6 +4,7 @@ use probe_lines::answers;
 use probe_lines::checks;
 use probe_lines::line::push_decimal;
 use probe_lines::line::push_text;
+use probe_lines::request::Request;
 use resume_set::Offered;
 use resume_set::take_in::take_in;
 
@@ -61,20 +62,19 @@ fn contains(set: &[u8], uuid: &[u8], tag: &[u8], gno: u64, line: &mut [u8]) -> u
 }
 
 pub fn answer(
-    call: u8,
-    event_type: u8,
-    number: u64,
+    request: Request,
     a: &[u8],
     b: &[u8],
     c: &[u8],
     out: &mut [u8],
     line: &mut [u8],
 ) -> usize {
+    let call = request.call;
     match call {
         48 => takein(a, out, line),
-        49 => offer(a, event_type, b, out, line),
+        49 => offer(a, request.event_type, b, out, line),
         50 => isset(a, line),
-        66 => contains(a, b, c, number, line),
+        66 => contains(a, b, c, request.number, line),
         _ => answers::none(line),
     }
 }

@@ -1,4 +1,4 @@
-// Calls 52 to 56 of the test program: two sets. An odd number lends the first set as both.
+// Calls 52 to 56 of the test program: two sets.
 use misc::Wrote;
 use probe_lines::answers;
 use probe_lines::checks;
@@ -54,7 +54,7 @@ fn head<'a>(first: &'a [u8], second: &'a [u8], line: &mut [u8]) -> usize {
     }
 }
 
-fn asked<'a>(
+pub fn answer<'a>(
     call: u8,
     first: &'a [u8],
     second: &'a [u8],
@@ -67,18 +67,4 @@ fn asked<'a>(
         56 => head(first, second, line),
         _ => answers::none(line),
     }
-}
-
-pub fn answer<'a>(
-    call: u8,
-    number: u64,
-    a: &'a [u8],
-    b: &'a [u8],
-    out: &mut [u8],
-    line: &mut [u8],
-) -> usize {
-    if number % 2 == 1 {
-        return asked(call, a, a, out, line);
-    }
-    asked(call, a, b, out, line)
 }

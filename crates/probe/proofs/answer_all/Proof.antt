@@ -6,7 +6,8 @@ use Rattle.probe.proofs.answer_all.Statement.{statement}
 use Rattle.probe.proofs.answer_all.Tie as tie
 
 abbrev Inv-loop : tie.InvT-loop
-Inv-loop a₀ b₀ c₀ out₀ line₀ turns₀ a b c out line turns = (length a ≡ length a₀) × (length b ≡ length b₀) × (length c ≡ length c₀) × (length out ≡ length out₀) × (length line ≡ length line₀)
+Inv-loop a₀ b₀ c₀ out₀ line₀ turns₀ a b c out line turns =
+    (length a ≡ length a₀) × (length b ≡ length b₀) × (length c ≡ length c₀) × (length out ≡ length out₀) × (length line ≡ length line₀)
 
 abbrev μ-loop : tie.MeasureT-loop
 μ-loop a₀ b₀ c₀ out₀ line₀ turns₀ a b c out line turns = turns

@@ -1,4 +1,4 @@
--- `probe::answer_read` is safe: each part that is lent is within its buffer, which the tests before say.
+-- `probe::answer_read` is safe: the part of the output that is lent is within its buffer, which the test before says.
 use mathlib.Core.Path.{sym}
 use native.Mathlib.Omega.{arith}
 use lib.Seq.{length-take-le}
@@ -10,20 +10,20 @@ use Rattle.probe.proofs.answer_read.Tie as tie
 returns : tie.Need-returns
 returns c = search needs
 
-slice-aggregate-answer : tie.Need-slice-aggregate-answer
-slice-aggregate-answer c = sym (length-take-le _ _ (omega (arith, ltb-false)))
+front-requires : tie.Need-front-requires
+front-requires c κs = search needs
 
-slice-aggregate-answer-2 : tie.Need-slice-aggregate-answer-2
-slice-aggregate-answer-2 c = sym (length-take-le _ _ (omega (arith, ltb-false)))
+front-requires-2 : tie.Need-front-requires-2
+front-requires-2 c κs = search needs
 
-slice-aggregate-answer-3 : tie.Need-slice-aggregate-answer-3
-slice-aggregate-answer-3 c = sym (length-take-le _ _ (omega (arith, ltb-false)))
+front-requires-3 : tie.Need-front-requires-3
+front-requires-3 c κs = search needs
 
 slice-relend-prefix-answer : tie.Need-slice-relend-prefix-answer
 slice-relend-prefix-answer c = search needs
 
-slice-aggregate-answer-4 : tie.Need-slice-aggregate-answer-4
-slice-aggregate-answer-4 c = sym (length-take-le _ _ (omega (arith, ltb-false)))
+slice-aggregate-answer : tie.Need-slice-aggregate-answer
+slice-aggregate-answer c = sym (length-take-le _ _ (omega (arith, ltb-false)))
 
 answer-requires : tie.Need-answer-requires
 answer-requires c κs = search needs
@@ -45,11 +45,11 @@ answer-read-spec =
     tie.close
     (tie.spec
     returns
-    slice-aggregate-answer
-    slice-aggregate-answer-2
-    slice-aggregate-answer-3
+    front-requires
+    front-requires-2
+    front-requires-3
     slice-relend-prefix-answer
-    slice-aggregate-answer-4
+    slice-aggregate-answer
     answer-requires
     write-requires
     same-length

@@ -1,6 +1,7 @@
-// Calls 1 to 8: the integers of crate misc.
+// Calls 1 to 8 of the test program: the integers of crate misc.
 use probe_lines::answers;
 use probe_lines::checks;
+use probe_lines::request::Request;
 use probe_lines::twos;
 
 fn uint(a: &[u8], line: &mut [u8]) -> usize {
@@ -41,7 +42,9 @@ fn lenencsize(number: u64, line: &mut [u8]) -> usize {
     answers::size(line, misc::lenenc::lenenc_int_len(number))
 }
 
-pub(crate) fn answer(call: u8, number: u64, a: &[u8], out: &mut [u8], line: &mut [u8]) -> usize {
+pub fn answer(request: Request, a: &[u8], out: &mut [u8], line: &mut [u8]) -> usize {
+    let number = request.number;
+    let call = request.call;
     match call {
         1 => uint(a, line),
         2 => putuint(number, out, line),

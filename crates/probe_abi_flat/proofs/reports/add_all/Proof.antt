@@ -1,10 +1,10 @@
--- `probe_abi::reports::add_all` is safe and ends. The place of the next set stays within A.
+-- `probe_abi_flat::reports::add_all` is safe and ends. The place of the next set stays within A.
 use mathlib.Core.Path.{_≡_}
 use Prim.Native.Nat.{_-_, _≤_}
 use lib.ListN.{length}
 use borrow.Author.Needs.{needs}
-use Rattle.probe_abi.proofs.reports.add_all.Statement.{statement}
-use Rattle.probe_abi.proofs.reports.add_all.Tie as tie
+use Rattle.probe_abi_flat.proofs.reports.add_all.Statement.{statement}
+use Rattle.probe_abi_flat.proofs.reports.add_all.Tie as tie
 
 abbrev Inv-loop : tie.InvT-loop
 Inv-loop a b bytes₀ count beside₀ i₀ bytes beside i = (beside .at ≤ length a) × (length bytes ≡ length bytes₀)

@@ -1,26 +1,24 @@
-// The archive's functions over GTID records, which cross as 116 bytes.
-use crate::UNSET;
-use crate::differs;
+// The archive's functions over GTID records.
 use crate::dump::to_dump;
+use abi::RECORD_SIZE;
 use gtid_event_read::GtidRead;
 use misc::Wrote;
 use misc::refusal::NO_ROOM;
-use probe_gtid::record::from_dump;
+use probe_lines::beside::UNSET;
+use probe_lines::beside::differs;
 use probe_lines::checks::fill;
 
-const SIZE: usize = 116;
-
-// Lays out the record that the library read, if it did, and says what the archive should: the bytes used, or 13 and 116 where the
-// output is too short.
+// Lays out the record that the library read, if it did, and says what the archive should: the bytes used, or 13 and a
+// record's size where the output is too short.
 fn laid_out(said: GtidRead, dump: &mut [u8]) -> Wrote {
     let refusal = said.refusal;
     if refusal != 0 {
         return Wrote { refusal, len: 0 };
     }
-    if dump.len() < SIZE {
+    if dump.len() < RECORD_SIZE {
         return Wrote {
             refusal: NO_ROOM,
-            len: SIZE,
+            len: RECORD_SIZE,
         };
     }
     let event = said.event;
@@ -58,30 +56,20 @@ fn present_into(event_type: u8, body: &[u8], dump: &mut [u8], twin: &mut [u8]) -
 }
 
 // One byte more than a record has, and one less.
-pub(crate) fn read(event_type: u8, body: &[u8]) -> bool {
-    let mut long = [0u8; 117];
-    let mut long_twin = [0u8; 117];
-    let mut short = [0u8; 115];
-    let mut short_twin = [0u8; 115];
+pub fn read(event_type: u8, body: &[u8]) -> bool {
+    let mut long = [0u8; RECORD_SIZE + 1];
+    let mut long_twin = [0u8; RECORD_SIZE + 1];
+    let mut short = [0u8; RECORD_SIZE - 1];
+    let mut short_twin = [0u8; RECORD_SIZE - 1];
     read_into(event_type, body, &mut long, &mut long_twin)
         | read_into(event_type, body, &mut short, &mut short_twin)
         | present_into(event_type, body, &mut long, &mut long_twin)
         | present_into(event_type, body, &mut short, &mut short_twin)
 }
 
-// The archive writes the record whose bytes these are.
-pub(crate) fn write(dump: &[u8], out: &mut [u8], twin: &mut [u8]) -> bool {
-    fill(out);
-    fill(twin);
-    let wrote = gtid_event_write::write::write(from_dump(dump), out);
-    let mut len = UNSET;
-    let refusal = abi::gtid_write(dump, twin, &mut len);
-    differs(wrote, refusal, len, out, twin)
-}
-
 // The archive reads, and writes what it read.
-pub(crate) fn reread(event_type: u8, body: &[u8], out: &mut [u8], twin: &mut [u8]) -> bool {
-    let mut dump = [0u8; SIZE];
+pub fn reread(event_type: u8, body: &[u8], out: &mut [u8], twin: &mut [u8]) -> bool {
+    let mut dump = [0u8; RECORD_SIZE];
     let mut used = UNSET;
     let refusal = abi::gtid_read(event_type, body, &mut dump, &mut used);
     let said = gtid_event_read::read(event_type, body);
@@ -91,8 +79,6 @@ pub(crate) fn reread(event_type: u8, body: &[u8], out: &mut [u8], twin: &mut [u8
     if refusal != 0 {
         return used != 0;
     }
-    fill(out);
-    fill(twin);
     let event = said.event;
     let wrote = gtid_event_write::write::write(event, out);
     let mut len = UNSET;

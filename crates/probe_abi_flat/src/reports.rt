@@ -1,9 +1,10 @@
-// The archive's report, which is 1,352 bytes, beside the library's.
-use crate::UNSET;
-use crate::differs;
+// The archive's report, beside the library's.
+use abi::REPORT_SIZE;
 use misc::refusal::NOT_WRITABLE;
+use probe_lines::beside::UNSET;
+use probe_lines::beside::differs;
+use probe_lines::checks::MARK;
 use probe_lines::checks::dirty;
-use probe_lines::checks::fill;
 use probe_lines::parts::part_end;
 use probe_lines::parts::u32_at;
 use report::Counts;
@@ -12,8 +13,6 @@ use report::Report;
 use report::refused_line;
 ghost use Prim.Native.Nat.{_≤_};
 ghost use lib.ListN.{length};
-
-const REPORT_LEN: usize = 1352;
 
 // The library's report so far, the place of the next set, and whether the archive said something else of one of those before it.
 struct Beside {
@@ -93,8 +92,7 @@ fn add_all(a: &[u8], b: &[u8], bytes: &mut [u8]) -> Beside {
 
 // Bytes that are no report, one too few: 12, zeros, and all as it was.
 fn short_differs(set: &[u8]) -> bool {
-    let mut bytes = [0u8; REPORT_LEN - 1];
-    fill(&mut bytes);
+    let mut bytes = [MARK; REPORT_SIZE - 1];
     let none = refused_line(NOT_WRITABLE);
     let added = line_differs(none, set, &mut bytes);
     let mut room = [0u8; 1];
@@ -104,17 +102,15 @@ fn short_differs(set: &[u8]) -> bool {
 }
 
 fn whole_differs(a: &[u8], b: &[u8], out: &mut [u8], twin: &mut [u8]) -> bool {
-    let mut bytes = [0u8; REPORT_LEN];
+    let mut bytes = [0u8; REPORT_SIZE];
     let beside = add_all(a, b, &mut bytes);
     let report = beside.report;
-    fill(out);
-    fill(twin);
     let wrote = report.write(out);
     let mut len = UNSET;
     let refusal = abi::gtid_report_write(&bytes, twin, &mut len);
     beside.differs | differs(wrote, refusal, len, out, twin) | sum_differs(report.sum(), &bytes)
 }
 
-pub(crate) fn report(a: &[u8], b: &[u8], out: &mut [u8], twin: &mut [u8]) -> bool {
+pub fn report(a: &[u8], b: &[u8], out: &mut [u8], twin: &mut [u8]) -> bool {
     whole_differs(a, b, out, twin) | short_differs(a)
 }
