@@ -1,10 +1,9 @@
 -- The demands hold of what our functions promise. Demand 1: `integers-exact`, `events-exact`, `bodies-exact`, `reader-exact`, `sets-exact`,
--- `listing-exact`, `archive-exact`, `offers-exactly`, `asks-exactly`, `two-sets`, `heads`, `reports`, `files`, `sets-told`; `integers-told`,
--- `events-told`, `bodies-told`, `listing-told`; `presence`, `orders`, `zeros`, `outputs`, `rules` and `highest`. Demand 2: `records-mean`,
--- `records-back`, `records-again`, `least-size`, `entries-back`, `entries-mean`, `building`. Demand 3: `tells-history`, `counts-taken`, `replays`,
--- `refusals-keep`, and of files `files`, too. No two cases hold at once, and what is laid out has no fault (`OneOutcome`). Wrong programs don't meet the
--- demands (`ShutOut`, `Crowding`, `TwoShut`, `HeadsShut`, `ReportsShut`, `FilesShut`, `Absent`).
-pub mod EdgesAgree
+-- `listing-exact`, `archive-exact`, `offers-exactly`, `asks-exactly`; `orders`, `zeros`, `outputs`. Demand 2: `records-mean`, `records-back`,
+-- `records-again`, `least-size`, `entries-back`, `entries-mean`, `building`; `integers-told`, `events-told`, `bodies-told`, `listing-told`, `presence`,
+-- `sets-told`. Demand 3: `tells-history`, `counts-taken`, `replays`, `refusals-keep`; `rules`, `highest`. The requests: `two-sets`, `heads`, `reports`,
+-- `files`. The edges: `edges-agree`. No two cases hold at once, and what is laid out has no fault (`OneOutcome`).
+
 -- the language: what is refused has its case, and a case forces its number
 pub mod Gives
 pub mod Forces
@@ -16,7 +15,6 @@ pub mod TaggedAccepted
 pub mod UntaggedReads
 pub mod UntaggedAccepted
 pub mod Demand2
-pub mod Demand3
 -- the faults of events
 pub mod Stops
 pub mod StopsGiven
@@ -32,12 +30,26 @@ pub mod BodyForced
 -- the set limits, in the rules' numbers
 pub mod LimitsExact
 pub mod AtLimits
--- every public function
+-- demand 1: every public function
 pub mod IntegersExact
 pub mod WritingExact
 pub mod RecordsExact
 pub mod SetsExact
+pub mod BodiesExact
+pub mod ReaderExact
+pub mod ArchiveExact
+pub mod OrdersHold
+pub mod OneOutcome
+-- demand 2
+pub mod BuildingHolds
+pub mod AnswersTold
+pub mod PresenceHolds
 pub mod SetsTold
+-- demand 3
+pub mod Demand3
+pub mod RulesHold
+pub mod HighestHolds
+-- the requests
 pub mod TwoSetsHold
 pub mod HeadsHold
 pub mod ReportsHold
@@ -47,20 +59,5 @@ pub mod FileEvents
 pub mod FileReads
 pub mod FileSteps
 pub mod FilesHold
-pub mod BodiesExact
-pub mod ReaderExact
-pub mod ArchiveExact
-pub mod AnswersTold
-pub mod PresenceHolds
-pub mod OrdersHold
-pub mod RulesHold
-pub mod HighestHolds
-pub mod BuildingHolds
-pub mod OneOutcome
-pub mod ShutOut
-pub mod Crowding
-pub mod TwoShut
-pub mod HeadsShut
-pub mod ReportsShut
-pub mod FilesShut
-pub mod Absent
+-- the edges
+pub mod EdgesAgree

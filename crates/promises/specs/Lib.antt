@@ -1,33 +1,50 @@
--- The page to read first, in this order. The edges that the rules name, and other rows computed whole (`Edges`).
--- The layouts, which name no parser: untagged and tagged records (`UntaggedLayout`, `TaggedLayout`); integers are laid out in `Forms` of misc,
--- Previous-GTIDs bodies in `Layout` of previous_gtids_event, and sets are `SetLaid` of `Lent` of gtid_sets.
--- Demand 2, of any reader and writer, over them (`Meaning`); and what building a record gives (`Building`).
--- Demand 1, the table of refusals, over the same layouts: events (`Faults`), bodies (`BodyFaults`), integers, parts of bodies and calls that write
--- (`PlainFaults`), sets and what else an offer answers (`SetFaults`); that every public function gives a number exactly where the table has its case, an
--- offer each of its answers, and that `contains` tells the members (`Exact`); the calls over two sets (`TwoSets`, `Heads`); totals, and the report over
--- many sets (`Reports`); binlog files as they arrive (`Files`); what the other calls say of members (`Told`); which of several faults counts, and what else
--- is answered and written (`Orders`); what a call answers that doesn't refuse (`Answers`), and which fields a tagged event was sent with (`Presence`); what
--- the order, the limits and the ranges come to, and how many bytes a tagged record has (`Rules`); and the gno rule at its top (`Highest`).
--- Demand 3, of any offer, is `History` of resume_set_laws, and of any way of reading files `Files` of binlog_laws. Last, wrong programs that all this
--- shuts out (`WrongOnes`).
-pub mod Edges
+-- The page to read first, in this order. Each file answers one question. What is named from other crates stands in their specs/.
+
+-- ---- What is on the wire? No parser is named here. Integers are laid out in `Forms` of misc, Previous-GTIDs bodies in `Layout` of
+-- previous_gtids_event, sets are `SetLaid` of `Lent` of gtid_sets, and binlog files `Layout` of binlog.
+-- Which bytes are which untagged record?
 pub mod UntaggedLayout
+-- Which bytes are which tagged one, and which fields were there?
 pub mod TaggedLayout
-pub mod Meaning
-pub mod Building
+-- ---- What is refused? The table of refusals, over the same layouts.
+-- What is wrong with an event's bytes?
 pub mod Faults
+-- What is wrong with those of a Previous-GTIDs body?
 pub mod BodyFaults
+-- What is wrong with one integer, a part of a body, a tag or a record that is to be written, and when is an output too short?
 pub mod PlainFaults
+-- What is wrong with a set, a body that is taken in, and an offer; and what is an offer answered otherwise?
 pub mod SetFaults
+-- ---- Demand 1.
+-- Does every public function give a number exactly where the table has its case, and does `contains` tell the members?
 pub mod Exact
-pub mod TwoSets
-pub mod Heads
-pub mod Reports
-pub mod Files
-pub mod Told
+-- Which of several faults counts, and what else is answered and written?
 pub mod Orders
+-- ---- Demand 2.
+-- Does what is written read back, and is what is read what the layouts say?
+pub mod Meaning
+-- What does building a record give (CR 1)?
+pub mod Building
+-- What does a call answer that doesn't refuse?
 pub mod Answers
+-- Which bit tells of which field (CR 6)?
 pub mod Presence
+-- What do the calls over a set say of its members?
+pub mod Told
+-- ---- Demand 3, of any offer, is `History` of resume_set_laws, and of any way of reading files `Files` of binlog_laws.
+-- What do the order, the limits and the ranges come to, and how many bytes has a tagged record (CR 4, CR 8, CR 11)?
 pub mod Rules
+-- What is done with the first number too great for a gno (CR 4)?
 pub mod Highest
-pub mod WrongOnes
+-- ---- The requests that added calls.
+-- What do the calls over two sets answer and write (CR 7)?
+pub mod TwoSets
+-- Which of two sets contains the other, and what is handed back (CR 9)?
+pub mod Heads
+-- What do totals and a report over many sets come to (CR 13)?
+pub mod Reports
+-- What does reading a binlog file come to, as it arrives (CR 2)?
+pub mod Files
+-- ---- The edges.
+-- What comes out at those that the rules name? Rows, computed whole.
+pub mod Edges

@@ -28,10 +28,10 @@ use Rattle.resume_set.specs.Answers.{eventOf}
 use Rattle.resume_set.specs.declared.Offered.the-variants.{Taken, Refused}
 use Rattle.resume_set_laws.specs.History.{Turn}
 use Rattle.resume_set_laws.specs.Ours.{ours}
 use Rattle.promises.specs.TaggedLayout.{number, the-uuid, the-tag, seenIn}
 use Rattle.promises.specs.Meaning.{RecordsMean}
 use Rattle.promises.specs.Exact.{OffersExactly}
-use Rattle.promises.specs.WrongOnes.{
+use Rattle.shut_out.specs.WrongOnes.{
   presentUnlessZero,
   tellsByValue,
   saysInstead,
@@ -45,10 +45,10 @@ use Rattle.promises.specs.WrongOnes.{
   zeroGno,
   nothingSent,
 }
 use Rattle.promises.proofs.Demand2.{one-record, records-mean}
 use Rattle.promises.proofs.SetsExact.{apart, offers-exactly}
 use Rattle.promises.proofs.OneOutcome.{same-offers}
-use Rattle.promises.proofs.ShutOut.{below, below-bytes, none, offer, refuses-0}
+use Rattle.shut_out.proofs.ShutOut.{below, below-bytes, none, offer, refuses-0}
 
 abbrev tag-offer : List ℕ → Turn
 tag-offer body = record { type = 42; body = body; out = replicate 50 0 }

@@ -25,14 +25,14 @@ use Rattle.resume_set.specs.Answers.{eventOf}
 use Rattle.resume_set.specs.declared.Offered.the-variants.{Refused, Taken}
 use Rattle.resume_set_laws.specs.History.{Turn, Offering}
 use Rattle.resume_set_laws.specs.Ours.{ours}
 use Rattle.promises.specs.SetFaults.{Names, Accepts, OfferFault, OfferAnswer}
 use Rattle.promises.specs.Exact.{OffersExactly}
-use Rattle.promises.specs.WrongOnes.{renumbered, saysFull, asTaken, saysTaken, crowdedEarly}
+use Rattle.shut_out.specs.WrongOnes.{renumbered, saysFull, asTaken, saysTaken, crowdedEarly}
 use Rattle.promises.proofs.LimitsExact.{entry-limit}
 use Rattle.promises.proofs.AtLimits.{spread, uuids-good, entryFull, entry-full}
 use Rattle.promises.proofs.Demand2.{records-mean}
 use Rattle.promises.proofs.SetsExact.{offers-exactly}
-use Rattle.promises.proofs.ShutOut.{bodyOf, body-bytes, small-1, named, laid-1, offer}
+use Rattle.shut_out.proofs.ShutOut.{bodyOf, body-bytes, small-1, named, laid-1, offer}
 
 abbrev zeros : Key
 zeros = replicate 16 0

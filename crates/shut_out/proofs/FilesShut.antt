@@ -35,12 +35,12 @@ use Rattle.binlog.proofs.SaysLaws.{says-all}
 use Rattle.binlog.proofs.EndSaysLaws.{end-says-all}
 use Rattle.binlog_reader.specs.Does.{acts, does}
 use Rattle.binlog_laws.specs.Files.{FileRead, FileReading, ourFiles, FilesTell}
 use Rattle.promises.specs.Files.{refusalIn, ReadsFiles}
-use Rattle.promises.specs.WrongOnes.{alone, inFile, fileNoId, fileOne, filePrevious, fileTagged, fileBroken}
-use Rattle.promises.specs.WrongOnes.{stopsEarly, forgetsRefusal, waitsForMore, replacesSet, undoesFirst, answersNothing}
-use Rattle.promises.specs.WrongOnes.{skipsTagged, ignoresTrailer, takesCut}
-use Rattle.promises.proofs.ShutOut.{none, below, below-bytes}
+use Rattle.shut_out.specs.WrongOnes.{alone, inFile, fileNoId, fileOne, filePrevious, fileTagged, fileBroken}
+use Rattle.shut_out.specs.WrongOnes.{stopsEarly, forgetsRefusal, waitsForMore, replacesSet, undoesFirst, answersNothing}
+use Rattle.shut_out.specs.WrongOnes.{skipsTagged, ignoresTrailer, takesCut}
+use Rattle.shut_out.proofs.ShutOut.{none, below, below-bytes}
 use Rattle.promises.proofs.FileReads.{reads-files}
 
 -- ---- the sets to begin with: the empty one, and {1} of the zero uuid
 

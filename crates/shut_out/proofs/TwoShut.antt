@@ -27,11 +27,11 @@ use Rattle.gtid_sets.proofs.LentLaws.{is-lent}
 use Rattle.resume_set.specs.Answers.{setRead}
 use Rattle.two_sets.specs.Answers.{combineAnswers, combineLeaves, withinAnswers}
 use Rattle.two_sets.specs.declared.AllWithin.{AllWithin}
 use Rattle.promises.specs.PlainFaults.{WriteFault}
 use Rattle.promises.specs.TwoSets.{CombineAnswer, Combiner, CombinesExactly, ourCalls, ComparesExactly, Exceeding}
-use Rattle.promises.specs.WrongOnes.{alone, aloneTagged, onlyOf, staysApart, keepsEmpty, ignoresTag, swapsSets, countsInputs, unjudged, takesNoSet, comparesLengths, wantsSame}
+use Rattle.shut_out.specs.WrongOnes.{alone, aloneTagged, onlyOf, staysApart, keepsEmpty, ignoresTag, swapsSets, countsInputs, unjudged, takesNoSet, comparesLengths, wantsSame}
 use Rattle.promises.proofs.TwoSetsHold.{results-exactly, compares-exactly, two-sets}
 use Rattle.promises.proofs.AtLimits.{spread, entryFull, entry-full}
 
 -- two calls that answer exactly by the cases are one
 same-calls : (op : Bool → Bool → Bool) {f g : Combiner} → CombinesExactly op f → CombinesExactly op g → (first second out : List ℕ)

@@ -19,9 +19,9 @@ use Rattle.gtid_sets.proofs.LentLaws.{lent-is}
 use Rattle.report.specs.Report.{highWord, lowWord, maxSets}
 use Rattle.report.specs.declared.Line.{Line}
 use Rattle.resume_set_laws.specs.History.{keptAll, Turn, comesTo, lentTotal, CountsTaken}
 use Rattle.promises.specs.Reports.{lentSum, noNumbers, AddAnswer, ReportsExactly, ourReport}
-use Rattle.promises.specs.WrongOnes.{copiesItsSet, alone, allNumbers, losesCarry, countsOnce, countsRefused, forgetsRefused, readsOn, tellsNoNumbers}
+use Rattle.shut_out.specs.WrongOnes.{copiesItsSet, alone, allNumbers, losesCarry, countsOnce, countsRefused, forgetsRefused, readsOn, tellsNoNumbers}
 use Rattle.promises.proofs.ReportsHold.{report-holds}
 
 -- what the sums and answers come to
 record Computed : Type 0 where

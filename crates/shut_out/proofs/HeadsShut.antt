@@ -17,11 +17,11 @@ use Rattle.gtid_sets.specs.Lent.{lentSet, SetLaid}
 use Rattle.two_sets.specs.Answers.{whichAnswers}
 use Rattle.two_sets.specs.declared.Choice.{Choice}
 use Rattle.two_sets.specs.declared.Choice.the-variants.{First, Second, Refused}
 use Rattle.promises.specs.Heads.{ChoosesExactly, HandsExactly}
-use Rattle.promises.specs.WrongOnes.{alone, firstOfTwo, longerOne, wantsMore, secondOfEqual, wantsCommon, equalElsewhere}
+use Rattle.shut_out.specs.WrongOnes.{alone, firstOfTwo, longerOne, wantsMore, secondOfEqual, wantsCommon, equalElsewhere}
 use Rattle.promises.proofs.SetsExact.{apart}
 use Rattle.promises.proofs.TwoSetsHold.{none-fine}
 use Rattle.promises.proofs.HeadsHold.{chooses-exactly, heads}
 
 abbrev empty : List ℕ
 empty = bodyBytes []

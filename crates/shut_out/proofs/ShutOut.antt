@@ -52,16 +52,16 @@ use Rattle.resume_set.specs.Answers.{eventOf}
 use Rattle.resume_set.specs.declared.Offered.the-variants.{NoId, Taken, Refused}
 use Rattle.resume_set_laws.specs.History.{Turn, Offering, member, TakesIn, TellsHistory}
 use Rattle.resume_set_laws.specs.Ours.{ours}
 use Rattle.promises.specs.Meaning.{EventReader, EventWriter, RecordLaid, RecordsMean, RecordsBack, LeastSize, EntriesMean}
 use Rattle.promises.specs.UntaggedLayout.{NoTypecode, untaggedRecord, ShortLaid}
 use Rattle.promises.specs.TaggedLayout.{number, the-tag, seenIn}
 use Rattle.promises.proofs.Demand2.{records-mean, one-record, entries-mean}
 use Rattle.promises.specs.Building.{Unversioned, NewVersions, KeepsVersions}
-use Rattle.promises.specs.WrongOnes.{claimsZero, forgetsVersions, refusesBodies, topByteTwo, tagsByOne, refusesAll, constantRecord, countedUp, madeUpCount, swappedClock, swapsClock, equalId, ignoresEqual, writesNothing, sizesByTwo, copiesItsSet, addsOnlyTheFirst, alwaysNoId, noIdForZero, takesTop, asksTaggedOnly}
+use Rattle.shut_out.specs.WrongOnes.{claimsZero, forgetsVersions, refusesBodies, topByteTwo, tagsByOne, refusesAll, constantRecord, countedUp, madeUpCount, swappedClock, swapsClock, equalId, ignoresEqual, writesNothing, sizesByTwo, copiesItsSet, addsOnlyTheFirst, alwaysNoId, noIdForZero, takesTop, asksTaggedOnly}
 use Rattle.promises.specs.Exact.{OffersExactly, AsksExactly}
 use Rattle.promises.proofs.SetsExact.{offers-exactly}
 use Rattle.promises.proofs.BuildingHolds.{fresh-fits}
 use Rattle.promises.proofs.OneOutcome.{same-offers}
 
 -- ---- records: one that can be written, gno 2
 
