@@ -6,8 +6,8 @@ use native.Mathlib.Omega.{arith}
 use lib.ListN.{length, length-append}
 use Rattle.packets.specs.Gno.{interval}
 use Rattle.misc.specs.Le.{numberAt}
-use Rattle.set_check.specs.Places.{intervalsAt}
-use Rattle.set_check.proofs.GappedWalk.{intervals-more}
+use Rattle.set_intervals.specs.Intervals.{intervalsAt}
+use Rattle.set_intervals.proofs.Standing.{intervals-more}
 use Rattle.text.specs.Intervals.{intervalText}
 use Rattle.listing.specs.SetText.{intervalsText}
 

@@ -5,7 +5,7 @@ use lib.ListN.{length}
 use Rattle.misc.specs.Parse.{part}
 use Rattle.packets.specs.Gno.{Interval}
 use Rattle.previous_gtids_event.specs.Entry.{Entry, entry}
-use Rattle.set_check.specs.Places.{intervalsAt}
+use Rattle.set_intervals.specs.Intervals.{intervalsAt}
 use Rattle.set_check.specs.declared.EntryPlace.{EntryPlace}
 use Rattle.text.specs.Digits.{decimal}
 use Rattle.text.specs.Keys.{tagText}

@@ -6,7 +6,7 @@ ghost use mathlib.Core.Path.{_≡_};
 ghost use Prim.Native.Nat.{_+_, _*_, _^_, _≤_};
 ghost use lib.ListN.{length};
 ghost use Rattle.misc.specs.Output.{WhereFits};
-ghost use Rattle.set_check.specs.Places.{intervalsAt};
+ghost use Rattle.set_intervals.specs.Intervals.{intervalsAt};
 ghost use Rattle.listing.specs.SetText.{intervalsText};
 
 // How long the text of the intervals at a place is. One takes 42 bytes at most, a colon, a dash and two numbers of 20 digits; in a set that

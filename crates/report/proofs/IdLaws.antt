@@ -12,13 +12,14 @@ use Rattle.gtid_sets.specs.Total.{size, total}
 use Rattle.gtid_sets.proofs.FormLaws.{gapped-holds, gapped-tests}
 use Rattle.gtid_sets.proofs.TotalLaws.{size-most, total-most}
 use Rattle.misc.specs.Le.{numberAt}
-use Rattle.set_check.specs.Places.{intervalsAt, placeIn}
+use Rattle.set_intervals.specs.Intervals.{intervalsAt}
+use Rattle.set_check.specs.Places.{placeIn}
 use Rattle.set_check.specs.Cursor.{beyondOf, entriesLeft, CursorIs}
 use Rattle.set_check.specs.declared.Cursor.{Cursor}
 use Rattle.gtid_sets.specs.Limits.{maxEntries}
 use Rattle.gtid_sets.proofs.LimitLaws.{maxEntries-is}
 use Rattle.set_check.specs.declared.EntryPlace.{EntryPlace}
-use Rattle.set_check.proofs.GappedWalk.{intervals-more}
+use Rattle.set_intervals.proofs.Standing.{intervals-more}
 use Rattle.set_check.proofs.CursorLaws.{Ahead, ahead, none-ahead, left-count}
 use Rattle.report.specs.Inside.{wideOf, valueOf}
 use Rattle.report.specs.declared.Wide.{Wide}

@@ -11,7 +11,7 @@ ghost use lib.ListN.{length};
 ghost use Rattle.gtid_sets.specs.Interval.{gapped};
 ghost use Rattle.gtid_sets.specs.Limits.{maxEntries};
 ghost use Rattle.gtid_sets.specs.Total.{size, total};
-ghost use Rattle.set_check.specs.Places.{intervalsAt};
+ghost use Rattle.set_intervals.specs.Intervals.{intervalsAt};
 ghost use Rattle.set_check.specs.Cursor.{entriesLeft, CursorIs};
 ghost use Rattle.report.specs.Inside.{wideOf, valueOf};
 

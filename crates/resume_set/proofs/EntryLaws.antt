@@ -25,7 +25,7 @@ use Rattle.previous_gtids_event.specs.declared.HeaderRead.{HeaderRead}
 use Rattle.previous_gtids_event.specs.declared.EntryRead.{EntryRead}
 use Rattle.previous_gtids_event.proofs.Reading.{intervalOf, intervalsOf, key-whole, entry-there, headless, headed}
 use Rattle.gtid_sets.specs.TakeIn.{proper}
-use Rattle.set_check.specs.Places.{intervalsAt}
+use Rattle.set_intervals.specs.Intervals.{intervalsAt}
 use Rattle.misc.proofs.NumberLaws.{number-here}
 use Rattle.set_check.specs.SetOf.{entriesOf}
 use Rattle.resume_set.specs.TakeIn.{keyIn, EntryIs}

@@ -24,12 +24,12 @@ use Rattle.gtid_sets.specs.Lent.{GoodKeys}
 use Rattle.gtid_sets.proofs.LimitLaws.{summed-append}
 use Rattle.gtid_sets.proofs.SetLaws.{join-before, join-into, join-after, above-misses, entry-has}
 use Rattle.gtid_sets.proofs.ByteLaws.{body-least, entriesBytes-append}
-use Rattle.set_check.specs.Places.{intervalsAt}
+use Rattle.set_intervals.specs.Intervals.{intervalsAt}
 use Rattle.set_check.specs.declared.EntryPlace.{EntryPlace}
 use Rattle.packets.proofs.OrderLaws.{says-before, says-same, says-after}
 use Rattle.set_check.specs.SetOf.{setOf, IsSet}
 use Rattle.resume_set.specs.Find.{absentAt, FoundIs}
-use Rattle.set_check.proofs.PlaceLaws.{intervals-count}
+use Rattle.set_intervals.proofs.Standing.{intervals-count}
 use Rattle.set_check.proofs.SetOfLaws.{set-bytes}
 use Rattle.set_check.proofs.CursorLaws.{cursor-starts, Ahead, none-ahead}
 use Rattle.set_check.specs.Cursor.{beyondOf, entriesLeft, keyAt, CursorIs}

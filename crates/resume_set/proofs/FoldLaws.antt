@@ -34,8 +34,8 @@ use Rattle.gtid_sets.proofs.FormLaws.{proper-holds}
 use Rattle.gtid_sets.proofs.KeyLaws.{good-key}
 use Rattle.gtid_sets.proofs.SetLaws.{form-join}
 use Rattle.gtid_sets.proofs.LentLaws.{empty-bytes, good-join}
-use Rattle.set_check.specs.Places.{intervalsAt}
-use Rattle.set_check.proofs.GappedWalk.{intervals-more}
+use Rattle.set_intervals.specs.Intervals.{intervalsAt}
+use Rattle.set_intervals.proofs.Standing.{intervals-more}
 use Rattle.set_check.specs.SetOf.{entriesOf}
 use Rattle.resume_set.specs.Find.{Counted}
 use Rattle.resume_set.specs.Join.{PlanIs, planRuns}

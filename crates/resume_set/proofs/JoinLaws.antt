@@ -29,12 +29,12 @@ use Rattle.gtid_sets.proofs.SetLaws.{join-before, join-into, join-after}
 use Rattle.gtid_sets.proofs.SpliceLaws.{insert-splice}
 use Rattle.previous_gtids_event.proofs.Writing.{length-header, length-intervals-bytes}
 use Rattle.gtid_sets.proofs.ByteLaws.{body-least, intervalsBytes-append, entriesBytes-append}
-use Rattle.set_check.specs.Places.{intervalsAt}
+use Rattle.set_intervals.specs.Intervals.{intervalsAt}
 use Rattle.set_check.specs.Head.{headBytes}
 use Rattle.misc.proofs.Places.{part-there, after-there}
 use Rattle.misc.proofs.NumberLaws.{number-there}
 use Rattle.misc.proofs.VarlenLaws.{one-byte}
-use Rattle.set_check.proofs.PlaceLaws.{intervals-count, intervals-stand}
+use Rattle.set_intervals.proofs.Standing.{intervals-count, intervals-stand}
 use Rattle.set_check.proofs.EntryPlaces.{entries-head}
 use Rattle.set_check.specs.SetOf.{setOf, IsSet}
 use Rattle.resume_set.specs.Find.{added, old, FoundIs}

@@ -16,8 +16,8 @@ use Rattle.previous_gtids_event.specs.Answers.{headerRead, entryRead}
 use Rattle.previous_gtids_event.specs.declared.HeaderRead.{HeaderRead}
 use Rattle.previous_gtids_event.specs.declared.EntryRead.{EntryRead}
 use Rattle.gtid_sets.specs.TakeIn.{proper, lawful}
-use Rattle.set_check.specs.Places.{intervalsAt}
-use Rattle.set_check.proofs.GappedWalk.{intervals-more}
+use Rattle.set_intervals.specs.Intervals.{intervalsAt}
+use Rattle.set_intervals.proofs.Standing.{intervals-more}
 use Rattle.set_check.specs.SetOf.{entriesOf}
 use Rattle.resume_set.proofs.EntryLaws.{NextEntry, body-starts, entry-next}
 

@@ -14,8 +14,8 @@ use Rattle.gtid_sets.specs.Interval.{within, covers, Gapped}
 use Rattle.gtid_sets.specs.Splice.{earlier, takenUp, reach, from}
 use Rattle.gtid_sets.proofs.IntervalLaws.{outside, gapped-misses}
 use Rattle.misc.specs.Le.{numberAt}
-use Rattle.set_check.specs.Places.{intervalsAt}
-use Rattle.set_check.proofs.GappedWalk.{intervals-more}
+use Rattle.set_intervals.specs.Intervals.{intervalsAt}
+use Rattle.set_intervals.proofs.Standing.{intervals-more}
 
 -- ---- whether a number is held
 

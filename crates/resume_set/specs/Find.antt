@@ -12,7 +12,7 @@ use Rattle.gtid_sets.specs.Interval.{covers, Gapped, insert}
 use Rattle.gtid_sets.specs.Set.{has, join}
 use Rattle.gtid_sets.specs.Limits.{summed, intervals, crowds}
 use Rattle.gtid_sets.specs.Lent.{GoodKeys}
-use Rattle.set_check.specs.Places.{intervalsAt}
+use Rattle.set_intervals.specs.Intervals.{intervalsAt}
 use Rattle.resume_set.specs.declared.Found.{Found}
 use Rattle.resume_set.specs.declared.Held.{Held}
 

@@ -9,7 +9,7 @@ use Rattle.gtid_sets.specs.Interval.{covers, Gapped, insert}
 use Rattle.gtid_sets.specs.Set.{has, join}
 use Rattle.gtid_sets.specs.Splice.{earlier}
 use Rattle.gtid_sets.specs.Limits.{intervals, over, crowds}
-use Rattle.set_check.specs.Places.{intervalsAt}
+use Rattle.set_intervals.specs.Intervals.{intervalsAt}
 use Rattle.set_check.specs.SetOf.{setOf}
 use Rattle.resume_set.specs.Find.{old}
 use Rattle.resume_set.specs.Put.{splicedRun, entriesRun, EntriesThere}

@@ -6,7 +6,6 @@ use lib.ListN.{length}
 use Rattle.misc.specs.Parse.{part}
 use Rattle.misc.specs.Le.{leBytes, numberAt}
 use Rattle.misc.specs.Varlen.{varlenBytes}
-use Rattle.previous_gtids_event.specs.Rewrite.{tagBytes}
 
 -- intervals with one in the place of some
 abbrev pub splicedRun : List ℕ → ℕ → ℕ → ℕ → ℕ → ℕ → ℕ → List ℕ

@@ -11,7 +11,7 @@ use Rattle.packets.specs.Tag.{noneOrTag}
 use Rattle.previous_gtids_event.specs.Rewrite.{entriesBytes}
 use Rattle.previous_gtids_event.specs.declared.EntryRead.{EntryRead}
 use Rattle.gtid_sets.specs.TakeIn.{proper}
-use Rattle.set_check.specs.Places.{intervalsAt}
+use Rattle.set_intervals.specs.Intervals.{intervalsAt}
 use Rattle.set_check.specs.SetOf.{setOf, IsSet}
 use Rattle.resume_set.specs.Find.{Counted}
 use Rattle.resume_set.specs.declared.Held.{Held}

@@ -7,7 +7,7 @@ ghost use Prim.Native.Nat.{_+_, _*_, _≤_, _<_, max};
 ghost use lib.ListN.{length};
 ghost use Rattle.gtid_sets.specs.Interval.{covers, Gapped};
 ghost use Rattle.gtid_sets.specs.Splice.{earlier, takenUp, reach, from};
-ghost use Rattle.set_check.specs.Places.{intervalsAt};
+ghost use Rattle.set_intervals.specs.Intervals.{intervalsAt};
 ghost use Rattle.resume_set.specs.Join.{SpliceIs};
 
 // How many first intervals at a place end before a number.

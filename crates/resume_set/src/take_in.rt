@@ -28,7 +28,7 @@ ghost use Rattle.packets.specs.Tag.{noneOrTag};
 ghost use Rattle.previous_gtids_event.specs.Previous.{previous};
 ghost use Rattle.gtid_sets.specs.Set.{join};
 ghost use Rattle.gtid_sets.specs.TakeIn.{proper, lawful, joinAll, union, takeIn};
-ghost use Rattle.set_check.specs.Places.{intervalsAt};
+ghost use Rattle.set_intervals.specs.Intervals.{intervalsAt};
 ghost use Rattle.resume_set.specs.Answers.{saved, takeInAnswers, takeInLeaves};
 ghost use Rattle.set_check.specs.SetOf.{entriesOf};
 ghost use Rattle.resume_set.specs.TakeIn.{HeldIs, heldSet, keyIn, EntryIs, widest, enough, Room};

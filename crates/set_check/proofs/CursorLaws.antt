@@ -15,7 +15,8 @@ use Rattle.previous_gtids_event.specs.Rewrite.{entriesBytes, anyTag}
 use Rattle.previous_gtids_event.proofs.Reading.{tag-of}
 use Rattle.gtid_sets.specs.Interval.{Some, Gapped}
 use Rattle.gtid_sets.specs.Lent.{form, lentSet}
-use Rattle.set_check.specs.Places.{intervalsAt, placeAt, placeIn, keyThere, entriesAt}
+use Rattle.set_intervals.specs.Intervals.{intervalsAt}
+use Rattle.set_check.specs.Places.{placeAt, placeIn, keyThere, entriesAt}
 use Rattle.set_check.specs.Cursor.{begun, beyondOf, entriesLeft, keyAt, CursorIs}
 use Rattle.set_check.specs.SetOf.{setOf, IsSet, Fits}
 use Rattle.set_check.specs.declared.Checked.{Checked}

@@ -23,13 +23,14 @@ use Rattle.gtid_sets.specs.Lent.{GoodKeys}
 use Rattle.gtid_sets.proofs.Bools.{or-false-parts}
 use Rattle.gtid_sets.proofs.ByteLaws.{entries-least}
 use Rattle.gtid_sets.proofs.LentLaws.{gapped-wide}
-use Rattle.set_check.specs.Places.{intervalsAt, placeFrom, placeAt, nowhere, orNowhere, placeIn, keyThere, entriesAt, EntriesIn}
+use Rattle.set_intervals.specs.Intervals.{intervalsAt}
+use Rattle.set_check.specs.Places.{placeFrom, placeAt, nowhere, orNowhere, placeIn, keyThere, entriesAt, EntriesIn}
 use Rattle.set_check.specs.Head.{headBytes, KeyOk}
 use Rattle.set_check.specs.declared.EntryPlace.{EntryPlace}
 use Rattle.misc.proofs.Places.{part-there, after-there, left-there, byte-there}
 use Rattle.misc.proofs.NumberLaws.{number-there}
 use Rattle.misc.proofs.VarlenLaws.{one-byte}
-use Rattle.set_check.proofs.PlaceLaws.{intervals-there}
+use Rattle.set_intervals.proofs.Standing.{intervals-there}
 
 -- the bytes of some entries begin with the head of the first
 pub entries-head : (w : Bool) (k : Key) (is : List Interval) (s : List Entry)

@@ -1,21 +1,14 @@
 -- Intervals at a place, one after another: what the walk of `gapped_at` needs.
-use Prim.Native.Nat.{ℕ, suc, _+_, _-_, _<_}
+use Prim.Native.Nat.{ℕ, _+_, _-_, _<_}
 use mathlib.Core.Path.{_≡_, refl, sym, ap, _∙_}
 use mathlib.Core.Bool.{Bool, true, false, _&&_}
-use mathlib.Core.List.{List, _∷_}
-use native.Mathlib.Omega.{arith}
+use mathlib.Core.List.{List}
 use lib.Dec.{ltb}
 use Rattle.packets.specs.Gno.{interval, isInterval}
 use Rattle.gtid_sets.specs.Interval.{gapped}
 use Rattle.misc.specs.Le.{numberAt}
-use Rattle.set_check.specs.Places.{intervalsAt}
-
--- the first of some intervals, and the others
-pub intervals-more : (bs : List ℕ) (at n : ℕ) → 0 < n
-    → intervalsAt n bs at ≡ interval (numberAt bs at) (numberAt bs (at + 8)) ∷ intervalsAt (n - 1) bs (at + 16)
-intervals-more bs at n h =
-    let e : n ≡ suc (n - 1) = omega arith in
-    ap (λ (m : ℕ). intervalsAt m bs at) e
+use Rattle.set_intervals.specs.Intervals.{intervalsAt}
+use Rattle.set_intervals.proofs.Standing.{intervals-more}
 
 -- the intervals are gapped just if those from a place on are, above the last end
 pub record StillGapped (bs : List ℕ) (first count low at left : ℕ) : Type 0 where

@@ -29,14 +29,15 @@ use Rattle.previous_gtids_event.proofs.Reading.{tag-of, key-whole}
 use Rattle.previous_gtids_event.proofs.Writing.{length-intervals-bytes}
 use Rattle.gtid_sets.proofs.LentLaws.{gapped-wide}
 use Rattle.misc.proofs.Places.{after-there}
-use Rattle.set_check.specs.Places.{intervalsAt, placeIn}
+use Rattle.set_intervals.specs.Intervals.{intervalsAt}
+use Rattle.set_check.specs.Places.{placeIn}
 use Rattle.set_check.specs.Cursor.{beyondOf, keyAt}
 use Rattle.set_check.specs.Head.{headBytes, KeyOk, HeadIs, NoHead}
 use Rattle.set_check.specs.Check.{keyIn, LowKey, EntryIs, NoEntry, Rest}
 use Rattle.set_check.specs.declared.Cursor.{Cursor}
 use Rattle.set_check.specs.declared.EntryPlace.{EntryPlace}
 use Rattle.set_check.specs.declared.KeyPlace.{KeyPlace}
-use Rattle.set_check.proofs.PlaceLaws.{intervals-there, intervals-count, intervals-stand}
+use Rattle.set_intervals.proofs.Standing.{intervals-there, intervals-count, intervals-stand}
 use Rattle.set_check.proofs.EntryPlaces.{entries-head, EntryHere, entry-here, Lies, lies}
 use Rattle.set_check.proofs.HeadLaws.{written-found}
 

@@ -15,7 +15,7 @@ use Rattle.gtid_sets.specs.Interval.{Gapped, Some}
 use Rattle.gtid_sets.specs.Set.{Above, SetForm}
 use Rattle.gtid_sets.specs.Limits.{maxEntries, maxIntervals, maxOfEntry, intervals, crowds}
 use Rattle.gtid_sets.specs.Lent.{Lent, form, unfit, GoodKeys}
-use Rattle.set_check.specs.Places.{intervalsAt}
+use Rattle.set_intervals.specs.Intervals.{intervalsAt}
 use Rattle.set_check.specs.Head.{headBytes, KeyOk, HeadIs}
 use Rattle.set_check.specs.Cursor.{keyAt}
 use Rattle.set_check.specs.declared.Cursor.{Cursor}

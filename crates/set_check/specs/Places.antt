@@ -1,4 +1,4 @@
--- Intervals and entries at a place of a set's bytes.
+-- Entries at a place of a set's bytes.
 use Prim.Native.Nat.{ℕ, zero, suc, _+_, _*_, _/_, _≤_}
 use mathlib.Core.Bool.{Bool, true, false}
 use mathlib.Core.List.{List, [], _∷_, _++_}
@@ -7,15 +7,10 @@ use lib.Dec.{leb}
 use Rattle.misc.specs.Pick.{pick}
 use Rattle.misc.specs.Parse.{part}
 use Rattle.misc.specs.Le.{numberAt}
-use Rattle.packets.specs.Gno.{Interval, interval}
 use Rattle.packets.specs.Key.{Key}
 use Rattle.previous_gtids_event.specs.Entry.{Entry, entry}
+use Rattle.set_intervals.specs.Intervals.{intervalsAt}
 use Rattle.set_check.specs.declared.EntryPlace.{EntryPlace}
-
--- n intervals from a place on
-abbrev pub intervalsAt : ℕ → List ℕ → ℕ → List Interval
-intervalsAt zero bs at = []
-intervalsAt (suc n) bs at = interval (numberAt bs at) (numberAt bs (at + 8)) ∷ intervalsAt n bs (at + 16)
 
 -- ---- an entry
 

@@ -23,7 +23,8 @@ ghost use Prim.Native.Nat.{_+_, _*_, _≤_};
 ghost use lib.ListN.{length};
 ghost use Rattle.gtid_sets.specs.Interval.{gapped};
 ghost use Rattle.gtid_sets.specs.Lent.{lentSet};
-ghost use Rattle.set_check.specs.Places.{intervalsAt, placeIn};
+ghost use Rattle.set_intervals.specs.Intervals.{intervalsAt};
+ghost use Rattle.set_check.specs.Places.{placeIn};
 ghost use Rattle.set_check.specs.Head.{Told};
 ghost use Rattle.set_check.specs.Check.{checkedOf, HeaderIs, NoHeader, keyIn, LowKey, EntryIs, NoEntry, Rest, Whole};
 

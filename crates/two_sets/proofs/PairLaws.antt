@@ -17,7 +17,8 @@ use Rattle.gtid_sets.specs.Combine.{marks, swept, keep, combined}
 use Rattle.gtid_sets.proofs.SweepLaws.{marks-rise, sweep-shut}
 use Rattle.gtid_sets.proofs.CombineLaws.{combined-lt, combined-eq, combined-gt}
 use Rattle.misc.specs.Le.{numberAt}
-use Rattle.set_check.specs.Places.{intervalsAt, placeIn}
+use Rattle.set_intervals.specs.Intervals.{intervalsAt}
+use Rattle.set_check.specs.Places.{placeIn}
 use Rattle.set_check.specs.declared.EntryPlace.{EntryPlace}
 use Rattle.set_check.proofs.CursorLaws.{Ahead, ahead, none-ahead}
 use Rattle.two_sets.specs.Marks.{marksAt, marksOf, SideIs}

@@ -3,7 +3,7 @@ use native.Mathlib.Omega.{arith}
 use lib.ListN.{length}
 use denote.Ref.{now}
 use borrow.Author.Needs.{needs}
-use Rattle.set_check.specs.Places.{intervalsAt}
+use Rattle.set_intervals.specs.Intervals.{intervalsAt}
 use Rattle.listing.specs.SetText.{intervalsText}
 use Rattle.listing.proofs.IntervalTextLaws.{Counting, counting-none, counting-all, counting-turn}
 use Rattle.listing.proofs.intervals.intervals_len.Statement.{statement}

@@ -6,7 +6,7 @@ use lib.ListN.{length}
 use denote.Ref.{now}
 use borrow.Author.Needs.{needs}
 use Rattle.misc.proofs.OutputLaws.{put-placed}
-use Rattle.set_check.specs.Places.{intervalsAt}
+use Rattle.set_intervals.specs.Intervals.{intervalsAt}
 use Rattle.text.proofs.PuttingLaws.{Putting, putting-none, putting-all, putting-turn}
 use Rattle.listing.specs.SetText.{intervalsText}
 use Rattle.listing.proofs.IntervalTextLaws.{none-ahead, next-text}

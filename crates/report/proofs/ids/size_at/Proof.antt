@@ -3,7 +3,7 @@ use native.Mathlib.Omega.{arith}
 use denote.Ref.{now}
 use borrow.Author.Needs.{needs}
 use Rattle.gtid_sets.specs.Total.{size}
-use Rattle.set_check.specs.Places.{intervalsAt}
+use Rattle.set_intervals.specs.Intervals.{intervalsAt}
 use Rattle.report.proofs.IdLaws.{Sizing, sizing-none, sizing-all, next-rises, next-small, sizing-turn}
 use Rattle.report.proofs.ids.size_at.Statement.{statement}
 use Rattle.report.proofs.ids.size_at.Tie as tie

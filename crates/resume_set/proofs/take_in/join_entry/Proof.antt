@@ -7,7 +7,7 @@ use lib.ListN.{length, take}
 use lib.Seq.{length-take-le}
 use Rattle.gtid_sets.specs.TakeIn.{joinAll}
 use Rattle.gtid_sets.proofs.KeyLaws.{good-key}
-use Rattle.set_check.specs.Places.{intervalsAt}
+use Rattle.set_intervals.specs.Intervals.{intervalsAt}
 use Rattle.resume_set.specs.TakeIn.{heldSet}
 use Rattle.resume_set.proofs.FoldLaws.{Joining, joining-all, joining-next, joining-room, joining-turn}
 use Rattle.resume_set.proofs.take_in.join_entry.Statement.{statement}
