@@ -1,20 +1,22 @@
 -- Laws of `find`: entries before a key are passed, one after another.
-use Prim.Native.Nat.{ℕ, _+_, _-_, _^_, _≤_}
+use Prim.Native.Nat.{ℕ, _+_, _*_, _-_, _^_, _≤_}
 use mathlib.Core.Path.{_≡_, refl, sym, ap, _∙_}
 use mathlib.Core.Bool.{Bool, true, false}
 use mathlib.Core.List.{List, [], _∷_, _++_}
 use native.Mathlib.Omega.{arith}
 use lib.Dec.{ltb}
-use borrow.Author.Tests.{ltb-false}
 use lib.ListN.{length, drop, length-append, length-drop}
 use lib.Seq.{append-snoc}
+use borrow.Author.Tests.{ltb-false}
 use Rattle.misc.specs.Parse.{part}
+use Rattle.misc.proofs.ParseLaws.{part-length}
 use Rattle.packets.specs.Gno.{Interval}
 use Rattle.packets.specs.Key.{Key, order, orElse, orderRead, _≺_}
 use Rattle.packets.specs.declared.KeyOrder.{KeyOrder}
 use Rattle.packets.specs.declared.KeyOrder.the-variants.{Before, Same, After}
 use Rattle.packets.proofs.Tests.{clash}
 use Rattle.packets.proofs.Keys.{flip, order-eq, order-flip, order-append, after-not-same}
+use Rattle.packets.proofs.OrderLaws.{says-before, says-same, says-after}
 use Rattle.previous_gtids_event.specs.Entry.{Entry, entry, tagOf}
 use Rattle.previous_gtids_event.specs.Rewrite.{entriesBytes, anyTag}
 use Rattle.gtid_sets.specs.Interval.{insert}
@@ -24,17 +26,18 @@ use Rattle.gtid_sets.specs.Lent.{GoodKeys}
 use Rattle.gtid_sets.proofs.LimitLaws.{summed-append}
 use Rattle.gtid_sets.proofs.SetLaws.{join-before, join-into, join-after, above-misses, entry-has}
 use Rattle.gtid_sets.proofs.ByteLaws.{body-least, entriesBytes-append}
-use Rattle.set_intervals.specs.Intervals.{intervalsAt}
+use Rattle.gtid_sets.proofs.Bools.{or-false-parts}
+use Rattle.set_intervals.specs.Intervals.{intervalsAt, intervalsIn, heldIn}
+use Rattle.set_intervals.proofs.Standing.{intervals-count, intervals-lent}
+use Rattle.set_intervals.proofs.Walks.{held-covers}
 use Rattle.set_check.specs.declared.EntryPlace.{EntryPlace}
-use Rattle.packets.proofs.OrderLaws.{says-before, says-same, says-after}
 use Rattle.set_check.specs.SetOf.{setOf, IsSet}
-use Rattle.resume_set.specs.Find.{absentAt, FoundIs}
-use Rattle.set_intervals.proofs.Standing.{intervals-count}
-use Rattle.set_check.proofs.SetOfLaws.{set-bytes}
-use Rattle.set_check.proofs.CursorLaws.{cursor-starts, Ahead, none-ahead}
 use Rattle.set_check.specs.Cursor.{beyondOf, entriesLeft, keyAt, CursorIs}
 use Rattle.set_check.specs.declared.Cursor.{Cursor}
-use Rattle.gtid_sets.proofs.Bools.{or-false-parts}
+use Rattle.set_check.proofs.SetOfLaws.{set-bytes}
+use Rattle.set_check.proofs.CursorLaws.{cursor-starts, Ahead, none-ahead}
+use Rattle.resume_set.specs.declared.Found.{Found}
+use Rattle.resume_set.specs.Find.{absentAt, own, old, FoundIs}
 
 -- ---- entries before others
 
@@ -221,3 +224,17 @@ module _ (bs : List ℕ) (w : Bool) (n : ℕ) (k : Key) (done : ℕ) (c : Cursor
           absent
           (λ a b. ap (join k a b) (h .is) ∙ join-before k key a b is back higher ∙ ap (λ (y : List Entry). entry k (insert a b []) ∷ y) (sym (h .is)))
           (λ m. ap (λ (y : List Entry). has y k m) (h .is) ∙ above-misses k (entry key is ∷ back) m higher formed)
+
+-- ---- the key's own intervals
+
+module _ (bs : List ℕ) (w : Bool) (k : Key) (s : List Entry) (r : Found) (f : FoundIs bs w k s r) where
+  pub own-length : length (own bs r) ≡ 16 * r .count
+  own-length = part-length (r .next - r .first) bs (r .first) (omega (arith, f .end, f .inside)) ∙ omega (arith, f .end)
+
+  pub own-is : intervalsIn (own bs r) ≡ old bs r
+  own-is =
+      let size : r .next - r .first ≡ 16 * r .count = omega (arith, f .end) in
+      ap (λ (n : ℕ). intervalsIn (part bs (r .first) n)) size ∙ intervals-lent (r .count) bs (r .first) (omega (arith, f .end, f .inside))
+
+  pub own-held : (n : ℕ) → heldIn n (intervalsIn (own bs r)) ≡ has s k n
+  own-held n = ap (heldIn n) own-is ∙ held-covers 0 n (old bs r) (f .gapped) ∙ sym (f .member n)

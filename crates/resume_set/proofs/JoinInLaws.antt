@@ -4,9 +4,9 @@ use mathlib.Core.Path.{_≡_, refl, sym, ap}
 use mathlib.Core.Bool.{true, false}
 use mathlib.Core.List.{List}
 use native.Mathlib.Omega.{arith}
-use borrow.Author.Tests.{le-leb}
 use lib.ListN.{length, take, drop}
 use lib.Seq.{take-at}
+use borrow.Author.Tests.{le-leb}
 use Rattle.misc.specs.Pick.{pick}
 use Rattle.misc.specs.Refusal.{Refusal, number, notASet, badGno}
 use Rattle.misc.specs.Parse.{refuse, refusalOf}
@@ -26,18 +26,14 @@ use Rattle.gtid_sets.proofs.ByteLaws.{entries-long}
 use Rattle.gtid_sets.proofs.LimitLaws.{maxEntries-is, maxIntervals-is, longestSet-is, limits-says}
 use Rattle.gtid_sets.proofs.LentLaws.{lent-is, lent-short}
 use Rattle.set_check.specs.declared.Checked.{Checked}
-use Rattle.resume_set.specs.Answers.{saved}
 use Rattle.set_check.specs.SetOf.{setOf, entriesOf, Fits}
-use Rattle.resume_set.specs.Find.{Counted}
+use Rattle.set_check.proofs.SetOfLaws.{fits-fair}
+use Rattle.resume_set.specs.Answers.{saved}
+use Rattle.resume_set.specs.Find.{Counted, lentAs}
 use Rattle.resume_set.specs.JoinIn.{joinedIn, joinAnswers, joinLeaves}
 use Rattle.resume_set.specs.TakeIn.{HeldIs, heldSet, widest, Room}
-use Rattle.resume_set.specs.declared.Held.{Held}
-use Rattle.set_check.proofs.SetOfLaws.{fits-fair}
 
 -- ---- a checked set at the front of a work buffer
-
-abbrev pub heldAs : List ℕ → Checked → Held
-heldAs set c = record { tagged = c .tagged; entries = c .entries; intervals = c .intervals; crowded = 0; len = length set }
 
 -- what any body may add to it
 abbrev pub anyBody : ℕ
@@ -50,7 +46,7 @@ module _ (set : List ℕ) (c : Checked) (f : Fits set c) where
       let l = lent-is set (setOf set) (f .lent) in
       omega (arith, entries-long true (setOf set) (l .keyed), limits-says (setOf set) (l .limited), maxEntries-is, maxIntervals-is, longestSet-is)
 
-  counted : Counted (setOf set) (heldAs set c)
+  counted : Counted (setOf set) (lentAs c (length set))
   counted = record { count = sym (f .set .count); total = sym (f .total); crowd = sym (fits-fair set c f) }
 
   set-short : length set ≤ longestSet
@@ -63,11 +59,11 @@ module _ (set : List ℕ) (c : Checked) (f : Fits set c) where
         let fits : length set ≤ length zeros = omega (arith, set-short) in
         rw (copied, le-leb (length set) (length zeros) fits) (take-at set (drop (length set) zeros) (length set) refl)
 
-    pub into-set : heldSet held (heldAs set c) ≡ setOf set
+    pub into-set : heldSet held (lentAs c (length set)) ≡ setOf set
     into-set = ap setOf stands
 
     pub into-starts : (spare body : List ℕ) → length spare ≡ longestSet + anyBody → refusalOf (previous body) ≡ 0
-        → HeldIs held (heldAs set c) × Room held spare (widest (heldSet held (heldAs set c)) + (length body - 8 + length body / 24))
+        → HeldIs held (lentAs c (length set)) × Room held spare (widest (heldSet held (lentAs c (length set))) + (length body - 8 + length body / 24))
     into-starts spare body alike z =
         let (es, next, e) = was-parsed (previous body) z in
         let (header, l, p, least, most) = previous-parts body es next e in (

@@ -1,105 +1,50 @@
 -- Laws of a plan: the runs of the set after an interval is joined.
-use Prim.Native.Nat.{ℕ, zero, suc, _+_, _-_, _*_, _^_, _<_, _≤_}
+use Prim.Native.Nat.{ℕ, suc, _+_, _-_, _*_, _^_, _<_, _≤_}
 use mathlib.Core.Path.{_≡_, refl, sym, ap, _∙_}
 use mathlib.Core.Bool.{Bool, true, false, not, _&&_, _||_, or-comm}
 use mathlib.Core.List.{List, [], _∷_, _++_, append-assoc, append-nil}
 use native.Mathlib.Omega.{arith}
-use borrow.Author.Tests.{le-ltb, ltb-false}
 use lib.Dec.{ltb}
-use lib.ListN.{length, take, drop, length-append, length-drop}
+use lib.ListN.{length, drop, length-append, length-drop}
 use lib.Seq.{take-at, drop-at, drop-length}
-use Rattle.misc.specs.Parse.{part, Bytes}
+use borrow.Author.Tests.{le-ltb, ltb-false}
+use Rattle.misc.specs.Parse.{Bytes}
 use Rattle.misc.specs.Le.{leBytes, numberAt}
 use Rattle.misc.specs.Varlen.{varlenBytes}
 use Rattle.misc.proofs.LeLaws.{length-leBytes}
-use Rattle.packets.specs.Gno.{Interval, interval}
+use Rattle.misc.proofs.Bounds.{part-bytes}
+use Rattle.misc.proofs.Places.{part-there, after-there}
+use Rattle.misc.proofs.NumberLaws.{number-there}
+use Rattle.misc.proofs.VarlenLaws.{one-byte}
+use Rattle.packets.specs.Gno.{Interval}
 use Rattle.packets.specs.Key.{Key}
 use Rattle.packets.proofs.Tests.{split, clash}
 use Rattle.packets.proofs.Keys.{key-cases}
 use Rattle.previous_gtids_event.specs.Entry.{Entry, entry, uuidOf, tagOf}
 use Rattle.previous_gtids_event.specs.Rewrite.{intervalsBytes, tagBytes, entriesBytes, anyTag, headerBytes, bodyBytes}
-use Rattle.gtid_sets.specs.Interval.{Gapped, insert}
+use Rattle.previous_gtids_event.proofs.Writing.{length-header, length-intervals-bytes}
+use Rattle.gtid_sets.specs.Interval.{insert}
 use Rattle.gtid_sets.specs.Set.{join}
 use Rattle.gtid_sets.specs.Limits.{summed, intervals, over, crowds}
 use Rattle.gtid_sets.specs.Lent.{GoodKeys}
-use Rattle.gtid_sets.specs.Splice.{earlier, takenUp, reach, from}
+use Rattle.gtid_sets.specs.Splice.{earlier, from}
 use Rattle.gtid_sets.proofs.Bools.{or-swap, or-false-parts}
 use Rattle.gtid_sets.proofs.LimitLaws.{summed-append, over-none}
 use Rattle.gtid_sets.proofs.SetLaws.{join-before, join-into, join-after}
-use Rattle.gtid_sets.proofs.SpliceLaws.{insert-splice}
-use Rattle.previous_gtids_event.proofs.Writing.{length-header, length-intervals-bytes}
-use Rattle.gtid_sets.proofs.ByteLaws.{body-least, intervalsBytes-append, entriesBytes-append}
-use Rattle.set_intervals.specs.Intervals.{intervalsAt}
+use Rattle.gtid_sets.proofs.ByteLaws.{body-least, entriesBytes-append}
+use Rattle.set_intervals.specs.Intervals.{intervalsIn, firstHolds, spliceOf, splicedRun}
+use Rattle.set_intervals.specs.declared.Splice.{Splice}
+use Rattle.set_intervals.proofs.Standing.{left-count}
+use Rattle.set_intervals.proofs.Splicing.{taken-few, SpliceIs, splice-is}
 use Rattle.set_check.specs.Head.{headBytes}
-use Rattle.misc.proofs.Places.{part-there, after-there}
-use Rattle.misc.proofs.NumberLaws.{number-there}
-use Rattle.misc.proofs.VarlenLaws.{one-byte}
-use Rattle.set_intervals.proofs.Standing.{intervals-count, intervals-stand}
-use Rattle.set_check.proofs.EntryPlaces.{entries-head}
 use Rattle.set_check.specs.SetOf.{setOf, IsSet}
-use Rattle.resume_set.specs.Find.{added, old, FoundIs}
+use Rattle.set_check.proofs.EntryPlaces.{entries-head}
+use Rattle.resume_set.specs.Find.{added, own, old, FoundIs}
 use Rattle.resume_set.specs.Put.{widerRun, widened, Untagged, entriesRun, EntriesThere}
-use Rattle.resume_set.specs.Join.{extra, SpliceIs, planRuns, PlanIs}
+use Rattle.resume_set.specs.Join.{extra, planRuns, PlanIs}
 use Rattle.resume_set.specs.declared.Found.{Found}
-use Rattle.resume_set.specs.declared.Splice.{Splice}
 use Rattle.resume_set.specs.declared.Plan.{Plan}
-use Rattle.resume_set.proofs.WalkLaws.{drop-intervals}
-
--- ---- a splice at a place
-
-take-intervals : (e n : ℕ) (bs : List ℕ) (at : ℕ) → e ≤ n → take e (intervalsAt n bs at) ≡ intervalsAt e bs at
-take-intervals zero n bs at h = refl
-take-intervals (suc e) zero bs at h = absurd (omega arith)
-take-intervals (suc e) (suc n) bs at h =
-    ap (λ (is : List Interval). interval (numberAt bs at) (numberAt bs (at + 8)) ∷ is) (take-intervals e n bs (at + 16) (omega arith))
-
-intervals-part : (bs : List ℕ) → Bytes bs → (n at : ℕ) → at + 16 * n ≤ length bs → intervalsBytes (intervalsAt n bs at) ≡ part bs at (16 * n)
-intervals-part bs ok n at h =
-    sym (part-there bs at (16 * n) (intervalsBytes (intervalsAt n bs at)) (drop (at + 16 * n) bs) (intervals-stand bs ok n at h)
-    (length-intervals-bytes (intervalsAt n bs at) ∙ ap (λ (m : ℕ). 16 * m) (intervals-count n bs at)))
-
-module _ (bs : List ℕ) (ok : Bytes bs) (first count a b : ℕ) (there : first + 16 * count ≤ length bs) (g : Gapped 0 (intervalsAt count bs first)) (o : a < b)
-    (before taken start end : ℕ) (p : before ≡ earlier a (intervalsAt count bs first)) (few : before ≤ count)
-    (q : taken ≡ takenUp b (intervalsAt (count - before) bs (first + 16 * before))) (less : taken ≤ count - before)
-    (x : start ≡ from a b (intervalsAt (count - before) bs (first + 16 * before)))
-    (y : end ≡ reach b (intervalsAt (count - before) bs (first + 16 * before))) where
-  abbrev rest : List Interval
-  rest = intervalsAt (count - before - taken) bs (first + 16 * (before + taken))
-
-  inserted : insert a b (intervalsAt count bs first) ≡ intervalsAt before bs first ++ (interval start end ∷ rest)
-  inserted =
-      let m : first + 16 * before + 16 * taken ≡ first + 16 * (before + taken) = omega arith in
-      insert-splice 0 a b (intervalsAt count bs first) o g
-      ∙ rw (
-        ← p,
-        drop-intervals before count first bs few,
-        ← q,
-        ← x,
-        ← y,
-        take-intervals before count bs first few,
-        drop-intervals taken (count - before) (first + 16 * before) bs less,
-        m,
-      )
-
-  pub splice-is : SpliceIs bs first count a b (record { before = before; taken = taken; start = start; end = end })
-  unfolding intervalsBytes
-  splice-is = record {
-    inside = omega arith;
-    bytes = rw (
-      inserted,
-      intervalsBytes-append (intervalsAt before bs first) (interval start end ∷ rest),
-      intervals-part bs ok before first (omega arith),
-      intervals-part bs ok (count - before - taken) (first + 16 * (before + taken)) (omega arith),
-    )
-        (simp append-assoc);
-    before-is = p;
-    count-is = rw (
-      inserted,
-      length-append (intervalsAt before bs first) (interval start end ∷ rest),
-      intervals-count before bs first,
-      intervals-count (count - before - taken) bs (first + 16 * (before + taken)),
-    ) (omega arith);
-  }
+use Rattle.resume_set.proofs.FindLaws.{own-length, own-is, own-held}
 
 -- ---- entries as they are, and widened
 
@@ -152,8 +97,8 @@ widened-is bs from (entry k is ∷ es) r e t h l =
     }
 
 record RunIs (bs : List ℕ) (w v : Bool) (es : List Entry) (from to : ℕ) : Type 0 where
-  run : entriesBytes v es ≡ entriesRun (v && not w) bs from to (length es)
-  there : EntriesThere (v && not w) bs from to (length es)
+  run : entriesBytes v es ≡ entriesRun (v && not w) bs (record { from = from; to = to; count = length es })
+  there : EntriesThere (v && not w) bs (record { from = from; to = to; count = length es })
   size : length (entriesBytes v es) ≡ to - from + extra (v && not w) (length es)
 
 run-is : (bs : List ℕ) (w v : Bool) (es : List Entry) (from to : ℕ) → drop from bs ≡ entriesBytes w es ++ drop to bs
@@ -175,6 +120,20 @@ run-is bs false true es from to e l h t k i o =
     record { run = sym (w .run); there = w .there; size = omega (arith, w .size) }
 
 -- ---- the set after it
+
+-- only intervals that are there are taken up
+pub taken-inside : (bs : List ℕ) (w : Bool) (k : Key) (s : List Entry) (f : Found) → FoundIs bs w k s f → (a b : ℕ) (p : Splice)
+    → p ≡ spliceOf a b (intervalsIn (own bs f)) → p .taken ≤ f .count
+taken-inside bs w k s f is a b p spliced =
+    let all : List Interval = intervalsIn (own bs f) in
+    rw spliced
+    (omega (
+      arith,
+      taken-few b (drop (earlier a all) all),
+      length-drop (earlier a all) all,
+      left-count (own bs f) 0,
+      own-length bs w k s f is,
+    ))
 
 any-join : (k : Key) (a b : ℕ) (s : List Entry) → anyTag (join k a b s) ≡ (ltb 0 (length (tagOf k)) || anyTag s)
 unfolding anyTag
@@ -227,7 +186,8 @@ wide-sum false true n x y m h e = let l = h refl refl in rw (le-ltb 0 m (omega a
 wide-sum false false n x y m h e = split (ltb 0 m) (λ p. rw p (omega arith)) (λ p. rw p)
 
 module _ (bs : List ℕ) (w : Bool) (n : ℕ) (lent : IsSet bs w n) (u t : List ℕ) (long : length u ≡ 16) (short : length t ≤ 32) (a b : ℕ)
-    (f : Found) (is : FoundIs bs w (u ++ t) (setOf bs) f) (p : Splice) (si : SpliceIs bs (f .first) (f .count) a b p) where
+    (f : Found) (is : FoundIs bs w (u ++ t) (setOf bs) f) (p : Splice) (spliced : p ≡ spliceOf a b (intervalsIn (own bs f))) (rises : a < b)
+    (ok : Bytes bs) where
   abbrev v : Bool
   v = w || ltb 0 (length t)
 
@@ -236,6 +196,23 @@ module _ (bs : List ℕ) (w : Bool) (n : ℕ) (lent : IsSet bs w n) (u t : List 
 
   abbrev new : List Interval
   new = insert a b (old bs f)
+
+  size : length (own bs f) ≡ 16 * f .count
+  size = own-length bs w (u ++ t) (setOf bs) f is
+
+  own-old : intervalsIn (own bs f) ≡ old bs f
+  own-old = own-is bs w (u ++ t) (setOf bs) f is
+
+  splice : SpliceIs (own bs f) a b p
+  splice =
+      rw spliced
+      (splice-is (own bs f) (part-bytes bs (f .first) (f .next - f .first) ok) (omega (arith, size)) a b rises (rw own-old (is .gapped)))
+
+  new-bytes : intervalsBytes new ≡ splicedRun (own bs f) p
+  new-bytes = ap (λ (x : List Interval). intervalsBytes (insert a b x)) (sym own-old) ∙ splice .bytes
+
+  new-count : length new ≡ held
+  new-count = ap (λ (x : List Interval). length (insert a b x)) (sym own-old) ∙ splice .count-is ∙ omega (arith, size)
 
   small : Small bs n
   small = set-small bs w n lent
@@ -287,7 +264,7 @@ module _ (bs : List ℕ) (w : Bool) (n : ℕ) (lent : IsSet bs w n) (u t : List 
     -- a number for each entry, added up over the set after it
     after-summed : (g : ℕ → ℕ) → summed g after ≡ summed g (is .front) + (g held + summed g (is .back))
     unfolding after
-    after-summed g = rw (is .joins a b, summed-append g (is .front) (entry (u ++ t) new ∷ is .back), si .count-is)
+    after-summed g = rw (is .joins a b, summed-append g (is .front) (entry (u ++ t) new ∷ is .back), new-count)
 
     back-count : entries - (1 + f .index) ≡ length (is .back)
     back-count = omega (arith, e₂, is .entries, added-is (f .here), is .index, lent .count)
@@ -295,7 +272,7 @@ module _ (bs : List ℕ) (w : Bool) (n : ℕ) (lent : IsSet bs w n) (u t : List 
     plan-bytes : bodyBytes after ≡ planRuns bs u t plan
     plan-bytes =
         after-bytes
-        ∙ rw (after-length, ← e₂, parts .0, parts .1, si .count-is, si .bytes, front-run .run, back-run .run, ← is .index, back-count)
+        ∙ rw (after-length, ← e₂, parts .0, parts .1, new-count, new-bytes, front-run .run, back-run .run, ← is .index, back-count)
         (simp append-assoc)
 
     plan-size : length (bodyBytes after) ≡ len
@@ -314,7 +291,7 @@ module _ (bs : List ℕ) (w : Bool) (n : ℕ) (lent : IsSet bs w n) (u t : List 
           tag-length v t short,
           length-leBytes 8 (length new),
           length-intervals-bytes new,
-          si .count-is,
+          new-count,
           wide,
           is .place,
         )))
@@ -326,8 +303,8 @@ module _ (bs : List ℕ) (w : Bool) (n : ℕ) (lent : IsSet bs w n) (u t : List 
       runs = record {
         before-there = rw (is .index) (front-run .there);
         after-there = rw back-count (back-run .there);
-        splice-there = omega (arith, is .end, is .inside);
-        splice-inside = si .inside;
+        own-there = (omega (arith, is .end), is .inside);
+        splice-inside = splice .inside;
         index-below = omega (arith, e₂, is .entries, added-is (f .here), is .index, lent .count);
         few = omega (arith, e₂, added-is (f .here), added-few (f .here), small .few, small .long);
       };
@@ -335,11 +312,11 @@ module _ (bs : List ℕ) (w : Bool) (n : ℕ) (lent : IsSet bs w n) (u t : List 
       len-is = sym plan-size;
       tags-is = sym after-tags;
       entries-is = e₂ ∙ sym after-length;
-      intervals-is = omega (arith, after-summed (λ n. n), all-intervals, e₃, si .inside);
+      intervals-is = omega (arith, after-summed (λ n. n), all-intervals, e₃, splice .inside, size);
       others = crowds (is .front) + crowds (is .back);
       crowd-was = omega (arith, is .total over (over-none 0 (omega arith)));
       crowd-is = omega (arith, after-summed over);
-      member = is .member;
-      gapped = is .gapped;
-      before-is = si .before-is;
+      member =
+          sym (own-held bs w (u ++ t) (setOf bs) f is a)
+          ∙ ap (λ (x : Splice). firstHolds a (drop (x .before) (intervalsIn (own bs f)))) (sym spliced);
     }

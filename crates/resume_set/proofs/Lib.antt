@@ -1,5 +1,4 @@
 -- Laws that the functions of this crate cite.
-pub mod WalkLaws
 pub mod FindLaws
 pub mod PutLaws
 pub mod JoinLaws

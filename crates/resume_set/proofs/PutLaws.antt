@@ -1,24 +1,28 @@
 -- Laws of runs that are written one after another.
 use Prim.Native.Nat.{ℕ, suc, _+_, _-_, _*_, _≤_}
-use mathlib.Core.Path.{_≡_}
+use mathlib.Core.Path.{_≡_, sym}
 use mathlib.Core.Bool.{Bool, true, false}
-use mathlib.Core.List.{List, [], _++_}
-use lib.ListN.{length}
+use mathlib.Core.List.{List, [], _++_, append-nil}
+use lib.ListN.{length, drop, length-drop}
 use Rattle.misc.specs.Parse.{part}
 use Rattle.misc.specs.Output.{WhereFits}
-use Rattle.misc.proofs.OutputLaws.{_also_, nothing-placed}
 use Rattle.misc.specs.Le.{numberAt}
+use Rattle.misc.proofs.Places.{part-there}
+use Rattle.misc.proofs.OutputLaws.{_also_, nothing-placed}
+use Rattle.resume_set.specs.declared.Run.{Run}
 use Rattle.resume_set.specs.Put.{widerRun, widened, Untagged, entriesRun, EntriesThere}
 
 -- a part of some bytes, its length told in another way
 pub put-part : {l l′ : List ℕ} {at r : ℕ} (s : List ℕ) (from n m : ℕ) → m ≡ n → WhereFits l at (part s from m) l′ r → WhereFits l at (part s from n) l′ r
 put-part s from n m e p = rw e at p
 
+-- all from a place on
+pub put-rest : {l l′ : List ℕ} {at r : ℕ} (s : List ℕ) (from : ℕ) → WhereFits l at (part s from (length s - from)) l′ r → WhereFits l at (drop from s) l′ r
+put-rest s from p = rw (part-there s from (length s - from) (drop from s) [] (sym (append-nil (drop from s))) (length-drop from s)) at p
+
 -- no bytes
 pub put-none : (l : List ℕ) (at : ℕ) → WhereFits l at [] l at
 put-none l at = record { placed = λ _. nothing-placed l at }
-
--- ---- tags
 
 -- ---- widened entries
 
@@ -48,17 +52,19 @@ module _ (bs wanted l₀ : List ℕ) (at next : ℕ) (out : List ℕ) (put : ℕ
       goes-on = λ l q w. g .goes-on l q (rw (widened-more n bs next c counted) (p also w));
     }
 
--- ---- entries from a place to another
+-- ---- entries as they are or widened
 
-module _ (w : Bool) (bs : List ℕ) (from to n : ℕ) where
-  pub run-wide : {l l′ : List ℕ} {at r : ℕ} → w ≡ true → WhereFits l at (widened n bs from) l′ r → WhereFits l at (entriesRun w bs from to n) l′ r
+module _ (w : Bool) (bs : List ℕ) (run : Run) where
+  pub run-wide : {l l′ : List ℕ} {at r : ℕ} → w ≡ true → WhereFits l at (widened (run .count) bs (run .from)) l′ r
+      → WhereFits l at (entriesRun w bs run) l′ r
   run-wide e p = rw e p
 
-  pub run-plain : {l l′ : List ℕ} {at r : ℕ} → w ≡ false → WhereFits l at (part bs from (to - from)) l′ r → WhereFits l at (entriesRun w bs from to n) l′ r
+  pub run-plain : {l l′ : List ℕ} {at r : ℕ} → w ≡ false → WhereFits l at (part bs (run .from) (run .to - run .from)) l′ r
+      → WhereFits l at (entriesRun w bs run) l′ r
   run-plain e p = rw e p
 
-  pub wide-there : w ≡ true → EntriesThere w bs from to n → Untagged n bs from
+  pub wide-there : w ≡ true → EntriesThere w bs run → Untagged (run .count) bs (run .from)
   wide-there e p = rw e at p
 
-  pub plain-there : w ≡ false → EntriesThere w bs from to n → (from ≤ to) × (to ≤ length bs)
+  pub plain-there : w ≡ false → EntriesThere w bs run → (run .from ≤ run .to) × (run .to ≤ length bs)
   plain-there e p = rw e at p

@@ -1,9 +1,10 @@
 -- Where a key stands in a lent set, or would stand.
-use Prim.Native.Nat.{ℕ, _+_, _*_, _≤_}
+use Prim.Native.Nat.{ℕ, _+_, _-_, _*_, _≤_}
 use mathlib.Core.Path.{_≡_}
 use mathlib.Core.Bool.{Bool, true, false}
 use mathlib.Core.List.{List, _∷_, _++_}
 use lib.ListN.{length, drop}
+use Rattle.misc.specs.Parse.{part}
 use Rattle.packets.specs.Gno.{Interval}
 use Rattle.packets.specs.Key.{Key}
 use Rattle.previous_gtids_event.specs.Entry.{Entry, entry, tagOf}
@@ -13,6 +14,7 @@ use Rattle.gtid_sets.specs.Set.{has, join}
 use Rattle.gtid_sets.specs.Limits.{summed, intervals, crowds}
 use Rattle.gtid_sets.specs.Lent.{GoodKeys}
 use Rattle.set_intervals.specs.Intervals.{intervalsAt}
+use Rattle.set_check.specs.declared.Checked.{Checked}
 use Rattle.resume_set.specs.declared.Found.{Found}
 use Rattle.resume_set.specs.declared.Held.{Held}
 
@@ -21,6 +23,10 @@ pub record Counted (s : List Entry) (h : Held) : Type 0 where
   pub count : h .entries ≡ length s
   pub total : h .intervals ≡ intervals s
   pub crowd : h .crowded ≡ crowds s
+
+-- a set that was checked, in so many bytes
+abbrev pub lentAs : Checked → ℕ → Held
+lentAs c len = record { tagged = c .tagged; entries = c .entries; intervals = c .intervals; crowded = 0; len = len }
 
 -- ---- what `find` tells
 
@@ -32,6 +38,10 @@ added false = 1
 -- it isn't there, and goes behind so many entries, which end at a place
 abbrev pub absentAt : ℕ → ℕ → Found
 absentAt index at = record { index = index; at = at; here = false; count = 0; first = at; next = at }
+
+-- the bytes of the key's intervals
+abbrev pub own : List ℕ → Found → List ℕ
+own bs r = part bs (r .first) (r .next - r .first)
 
 -- the intervals that the key has there, none if it is not there
 abbrev pub old : List ℕ → Found → List Interval

@@ -6,11 +6,8 @@ use lib.ListN.{length}
 use Rattle.misc.specs.Parse.{part}
 use Rattle.misc.specs.Le.{leBytes, numberAt}
 use Rattle.misc.specs.Varlen.{varlenBytes}
-
--- intervals with one in the place of some
-abbrev pub splicedRun : List ℕ → ℕ → ℕ → ℕ → ℕ → ℕ → ℕ → List ℕ
-splicedRun bs first count before taken start end =
-    part bs first (16 * before) ++ leBytes 8 start ++ leBytes 8 end ++ part bs (first + 16 * (before + taken)) (16 * (count - before - taken))
+use Rattle.previous_gtids_event.specs.Rewrite.{tagBytes}
+use Rattle.resume_set.specs.declared.Run.{Run}
 
 -- an untagged entry with so many intervals, with the length of a tag that has no bytes
 abbrev pub widerRun : List ℕ → ℕ → ℕ → List ℕ
@@ -28,11 +25,11 @@ Untagged zero bs at = Unit {0}
 Untagged (suc n) bs at =
     (at + (24 + 16 * numberAt bs (at + 16)) ≤ length bs) × Untagged n bs (at + (24 + 16 * numberAt bs (at + 16)))
 
--- entries from a place to another, as they are or widened
-abbrev pub entriesRun : Bool → List ℕ → ℕ → ℕ → ℕ → List ℕ
-entriesRun true bs from to n = widened n bs from
-entriesRun false bs from to n = part bs from (to - from)
+-- entries as they are or widened
+abbrev pub entriesRun : Bool → List ℕ → Run → List ℕ
+entriesRun true bs r = widened (r .count) bs (r .from)
+entriesRun false bs r = part bs (r .from) (r .to - r .from)
 
-abbrev pub EntriesThere : Bool → List ℕ → ℕ → ℕ → ℕ → Type 0
-EntriesThere true bs from to n = Untagged n bs from
-EntriesThere false bs from to n = (from ≤ to) × (to ≤ length bs)
+abbrev pub EntriesThere : Bool → List ℕ → Run → Type 0
+EntriesThere true bs r = Untagged (r .count) bs (r .from)
+EntriesThere false bs r = (r .from ≤ r .to) × (r .to ≤ length bs)

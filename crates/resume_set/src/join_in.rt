@@ -1,6 +1,6 @@
 // Joining the body of a Previous-GTIDs event to a set: the set stands at the front of a work buffer, and the body's intervals are joined to
 // it there, one after another.
-use crate::Held;
+use crate::join::lent;
 use crate::join::write_set;
 use crate::take_in::WORK;
 use crate::take_in::join_body;
@@ -35,14 +35,7 @@ fn merge_into(set: &[u8], checked: Checked, body: &[u8], out: &mut [u8]) -> Wrot
     let mut held = [0u8; ROOM];
     let mut spare = [0u8; ROOM];
     write_bytes(set, &mut held);
-    let is = Held {
-        tagged: checked.tagged,
-        entries: checked.entries,
-        intervals: checked.intervals,
-        crowded: 0,
-        len: set.len(),
-    };
-    let joined = join_body(body, &mut held, &mut spare, is);
+    let joined = join_body(body, &mut held, &mut spare, lent(checked, set.len()));
     let len = joined.len;
     write_set(&held[..len], joined, out)
 }

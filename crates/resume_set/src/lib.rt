@@ -13,6 +13,9 @@ use packets::none_or_tag;
 use set_check::Checked;
 use set_check::check::check;
 use set_check::walk::entries_of;
+use set_intervals::Splice;
+use set_intervals::held_behind;
+use set_intervals::held_in;
 ghost use mathlib.Core.Path.{_≡_};
 ghost use mathlib.Core.List.{_++_};
 ghost use Prim.Native.Nat.{_≤_};
@@ -24,7 +27,6 @@ ghost use Rattle.resume_set.specs.Answers.{setRead, contained, offeredOf
 ghost use Rattle.set_check.specs.SetOf.{setOf, Fits};
 
 mod find;
-mod intervals;
 mod join;
 pub mod join_in;
 mod put;
@@ -71,18 +73,17 @@ pub(crate) struct Found {
     pub(crate) next: usize,
 }
 
-// How many intervals one that ends at a number takes up, and the end that it comes to.
-pub(crate) struct Reach {
-    pub(crate) taken: usize,
+// An interval that is to be joined: its start, and its end, which it doesn't hold.
+pub(crate) struct Span {
+    pub(crate) start: u64,
     pub(crate) end: u64,
 }
 
-// How an interval goes into others: how many stand before it, how many it takes up, and from where to where it then reaches.
-pub(crate) struct Splice {
-    pub(crate) before: usize,
-    pub(crate) taken: usize,
-    pub(crate) start: u64,
-    pub(crate) end: u64,
+// Entries that stand one after another: from where to where, and how many.
+pub(crate) struct Run {
+    pub(crate) from: usize,
+    pub(crate) to: usize,
+    pub(crate) count: usize,
 }
 
 // A set in a work buffer: whether it has tags; how many entries, intervals, and entries with too many intervals it has; and its length.
@@ -145,10 +146,11 @@ pub fn contains(set: &[u8], uuid: &[u8], tag: &[u8], gno: u64) -> Contained
         };
     }
     let found = find(set, entries_of(checked), uuid, tag);
-    let before = intervals::earlier_at(set, found.first, found.count, gno);
+    let first = found.first;
+    let next = found.next;
     Contained {
         refusal: 0,
-        present: intervals::covers_at(set, found.first, found.count, before, gno),
+        present: held_in(&set[first..next], gno),
     }
 }
 
@@ -186,28 +188,19 @@ fn offer_id(
     if !lawful {
         return Offered::Refused(BAD_GNO, 0);
     }
-    let plan = join::plan_join(
-        set,
-        checked.tagged,
-        checked.entries,
-        checked.intervals,
-        uuid,
-        tag,
-        gno,
-        gno + 1,
-    );
-    let present = intervals::covers_at(
-        set,
-        plan.found.first,
-        plan.found.count,
-        plan.splice.before,
-        gno,
-    );
+    let span = Span {
+        start: gno,
+        end: gno + 1,
+    };
+    let plan = join::plan_join(set, join::lent(checked, set.len()), uuid, tag, span);
+    let first = plan.found.first;
+    let next = plan.found.next;
+    let present = held_behind(&set[first..next], plan.splice.before, gno);
     if present {
         let copied = write_bytes(set, out);
         return accepted(Kind::AlreadyThere, copied);
     }
-    let wrote = join::write_joined(set, uuid, tag, gno, gno + 1, plan, out);
+    let wrote = join::write_joined(set, uuid, tag, span, plan, out);
     accepted(Kind::Taken, wrote)
 }
 

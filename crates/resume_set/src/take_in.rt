@@ -1,6 +1,7 @@
 // Taking in the body of a Previous-GTIDs event. A body that is a set already is copied; the intervals of any other are joined to a
 // set that grows in a work buffer, one after another. A second work buffer receives each next set.
 use crate::Held;
+use crate::Span;
 use crate::join::plan_join;
 use crate::join::put_joined;
 use crate::join::write_set;
@@ -9,17 +10,17 @@ use misc::Wrote;
 use misc::bytes::write_bytes;
 use misc::le::number_at;
 use misc::refusal::BAD_GNO;
-use packets::is_interval;
 use previous_gtids_event::EntryRead;
 use previous_gtids_event::read::entry_at;
 use previous_gtids_event::read::header_of;
 use previous_gtids_event::read::read;
 use set_check::check::check;
 use set_check::limits::over;
+use set_intervals::proper_in;
 ghost use mathlib.Core.Path.{_≡_};
 ghost use mathlib.Core.Bool.{true};
 ghost use mathlib.Core.List.{_++_};
-ghost use Prim.Native.Nat.{_+_, _-_, _*_, _/_, _≤_};
+ghost use Prim.Native.Nat.{_+_, _-_, _/_, _≤_};
 ghost use lib.ListN.{length};
 ghost use Rattle.misc.specs.Parse.{refusalOf};
 ghost use Rattle.misc.specs.Output.{outputOf, answerOf};
@@ -27,7 +28,7 @@ ghost use Rattle.packets.specs.Gno.{interval, isInterval};
 ghost use Rattle.packets.specs.Tag.{noneOrTag};
 ghost use Rattle.previous_gtids_event.specs.Previous.{previous};
 ghost use Rattle.gtid_sets.specs.Set.{join};
-ghost use Rattle.gtid_sets.specs.TakeIn.{proper, lawful, joinAll, union, takeIn};
+ghost use Rattle.gtid_sets.specs.TakeIn.{lawful, joinAll, union, takeIn};
 ghost use Rattle.set_intervals.specs.Intervals.{intervalsAt};
 ghost use Rattle.resume_set.specs.Answers.{saved, takeInAnswers, takeInLeaves};
 ghost use Rattle.set_check.specs.SetOf.{entriesOf};
@@ -38,26 +39,6 @@ ghost use Rattle.resume_set.specs.TakeIn.{HeldIs, heldSet, keyIn, EntryI
 pub(crate) const WORK: usize = MAX_BODY + MAX_BODY / 24;
 
 // ---- the gno rule
-
-// Whether all intervals at a place obey the gno rule.
-fn proper_at(body: &[u8], first: usize, count: u64) -> bool
-    requires { ⌜ first + 16 * count ≤ length (now body) ⌝ }
-    ensures { λ r. ⌜ r ≡ proper (intervalsAt count (now (body .entry)) first) ⌝ }
-{
-    let mut at = first;
-    let mut left = count;
-    while 0 < left {
-        let start = number_at(body, at);
-        let end = number_at(body, at + 8);
-        let fine = is_interval(start, end);
-        if !fine {
-            return false;
-        }
-        at += 16;
-        left -= 1;
-    }
-    true
-}
 
 // Whether all intervals of a body that can be read obey the gno rule.
 pub(crate) fn lawful_body(body: &[u8]) -> bool
@@ -70,11 +51,13 @@ pub(crate) fn lawful_body(body: &[u8]) -> bool
     let mut at: usize = 8;
     while 0 < left {
         let entry = entry_at(body, at, tagged);
-        let fine = proper_at(body, entry.first, entry.intervals);
+        let first = entry.first;
+        let next = entry.next;
+        let fine = proper_in(&body[first..next]);
         if !fine {
             return false;
         }
-        at = entry.next;
+        at = next;
         left -= 1;
     }
     true
@@ -82,34 +65,24 @@ pub(crate) fn lawful_body(body: &[u8]) -> bool
 
 // ---- joining
 
-// Joins the interval from a up to b of a key to the set in `held`.
+// Joins an interval of a key to the set in `held`.
 fn join_interval(
     held: &mut [u8],
     spare: &mut [u8],
     is: Held,
     uuid: &[u8],
     tag: &[u8],
-    a: u64,
-    b: u64,
+    span: Span,
 ) -> Held
     requires { ⌜ HeldIs (now held) is ⌝ }
     requires { ⌜ (length (now uuid) ≡ 16) × (length (now tag) ≤ 32) × (noneOrTag (now tag) ≡ true) ⌝ }
-    requires { ⌜ isInterval (interval a b) ≡ true ⌝ }
+    requires { ⌜ isInterval (interval (span .start) (span .end)) ≡ true ⌝ }
     requires { ⌜ Room (now held) (now spare) (enough (now uuid ++ now tag) (heldSet (now held) is) 1) ⌝ }
     ensures { λ r. ⌜ HeldIs (now (held .exit)) r ⌝ }
-    ensures { λ r. ⌜ heldSet (now (held .exit)) r ≡ join (now (uuid .entry) ++ now (tag .entry)) a b (heldSet (now (held .entry)) is) ⌝ }
+    ensures { λ r. ⌜ heldSet (now (held .exit)) r ≡ join (now (uuid .entry) ++ now (tag .entry)) (span .start) (span .end) (heldSet (now (held .entry)) is) ⌝ }
 {
     let len = is.len;
-    let plan = plan_join(
-        &held[..len],
-        is.tagged,
-        is.entries,
-        is.intervals,
-        uuid,
-        tag,
-        a,
-        b,
-    );
+    let plan = plan_join(&held[..len], is, uuid, tag, span);
     // the key's entry is counted as it is then, in the place of what it was
     let others = is.crowded - over(plan.found.count);
     let after = Held {
@@ -140,9 +113,11 @@ fn join_entry(body: &[u8], entry: EntryRead, held: &mut [u8], spare: &mut [u8], 
     let mut at = entry.first;
     let mut left = entry.intervals;
     while 0 < left {
-        let start = number_at(body, at);
-        let end = number_at(body, at + 8);
-        set = join_interval(held, spare, set, &uuid, &tag[..tag_len], start, end);
+        let span = Span {
+            start: number_at(body, at),
+            end: number_at(body, at + 8),
+        };
+        set = join_interval(held, spare, set, &uuid, &tag[..tag_len], span);
         at += 16;
         left -= 1;
     }

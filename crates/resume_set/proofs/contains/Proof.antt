@@ -1,11 +1,12 @@
 -- `resume_set::contains` meets its contract.
-use mathlib.Core.Path.{refl, sym, _∙_}
+use mathlib.Core.Path.{refl, _∙_}
 use native.Mathlib.Omega.{arith}
 use denote.Ref.{now}
 use borrow.Author.Tests.{not-true, not-false}
 use borrow.Author.Needs.{needs}
 use Rattle.set_check.specs.SetOf.{Fits}
 use Rattle.set_check.proofs.SetOfLaws.{check-told, check-unfit}
+use Rattle.resume_set.proofs.FindLaws.{own-held}
 use Rattle.resume_set.proofs.AnswerLaws.{contained-unfit, no-uuid, no-id, is-asked}
 use Rattle.resume_set.proofs.contains.Statement.{statement}
 use Rattle.resume_set.proofs.contains.Tie as tie
@@ -38,28 +39,35 @@ returns-3 : tie.Need-returns-3
 returns-3 c =
     let a = c .before .before .before .before .before .before .before .before .before .args in
     no-id (now (a .set)) (now (a .uuid)) (now (a .tag)) (a .gno) (fits (c .before .before .before .before) .lent) (c .before .before .before .if2 .left) _ _
-    (c .before .before .none-or-tag .ensures) (c .before .is-gno .ensures) (not-true _ (c .if3 .taken))
+    (c .before .before .none-or-tag .ensures) (c .before .is-gno .ensures)
+    (not-true _ (c .if3 .taken))
 
 entries-of-requires : tie.Need-entries-of-requires
 entries-of-requires c κs = search needs
 
 find-requires : tie.Need-find-requires
-find-requires c κs = rw (c .entries-of .ensures) ((fits (c .before .before .before .before .before) .set, refl), c .before .before .before .before .if2 .left)
+find-requires c κs =
+    rw (c .entries-of .ensures) ((fits (c .before .before .before .before .before) .set, refl), c .before .before .before .before .if2 .left)
 
-earlier-at-requires : tie.Need-earlier-at-requires
-earlier-at-requires c κs = let f = c .find .ensures in omega (arith, f .end, f .inside)
+sub-held-in : tie.Need-sub-held-in
+sub-held-in c = let f = c .find .ensures in omega (arith, f .end, f .inside)
 
-covers-at-requires : tie.Need-covers-at-requires
-covers-at-requires c κs = let f = c .before .find .ensures in (omega (arith, f .end, f .inside), (f .gapped, c .earlier-at .ensures))
+part-held-in-start : tie.Need-part-held-in-start
+part-held-in-start c = let f = c .find .ensures in omega (arith, f .end, f .inside)
+
+part-held-in-end : tie.Need-part-held-in-end
+part-held-in-end c = c .find .ensures .inside
+
+held-in-requires : tie.Need-held-in-requires
+held-in-requires c κs = search needs
 
 returns-4 : tie.Need-returns-4
 returns-4 c =
     let a = c .before .before .before .before .before .before .before .before .before .before .before .before .before .args in
     is-asked (now (a .set)) (now (a .uuid)) (now (a .tag)) (a .gno) (fits (c .before .before .before .before .before .before .before .before) .lent)
     (c .before .before .before .before .before .before .before .if2 .left) _ _ (c .before .before .before .before .before .before .none-or-tag .ensures)
-    (c .before .before .before .before .before .is-gno .ensures)
-    (c .covers-at .result) (not-false _ (c .before .before .before .before .if3 .left))
-    (c .covers-at .ensures ∙ sym (c .before .before .find .ensures .member (a .gno)))
+    (c .before .before .before .before .before .is-gno .ensures) (c .held-in .result) (not-false _ (c .before .before .before .before .if3 .left))
+    (c .held-in .ensures ∙ own-held _ _ _ _ _ (c .before .before .find .ensures) (a .gno))
 
 pub contains-spec : {M : Type 1} → statement M
 contains-spec =
@@ -73,6 +81,8 @@ contains-spec =
     returns-3
     entries-of-requires
     find-requires
-    earlier-at-requires
-    covers-at-requires
+    sub-held-in
+    part-held-in-start
+    part-held-in-end
+    held-in-requires
     returns-4)

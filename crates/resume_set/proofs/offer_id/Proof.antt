@@ -20,18 +20,30 @@ returns c =
     let a = c .before .before .before .before .before .before .args in
     id-unlawful (setOf (now (a .set))) (now (a .uuid) ++ now (a .tag)) (a .gno) (now (a .out)) (sym (c .before .is-gno .ensures) ∙ not-true _ (c .if1 .taken))
 
-add-plan-join : tie.Need-add-plan-join
-add-plan-join c =
+add-t16 : tie.Need-add-t16
+add-t16 c =
     let g = gno-says (c .before .before .before .before .before .before .args .gno) (sym (c .before .is-gno .ensures) ∙ not-false _ (c .if1 .left)) in
     record { fits = omega (arith, gnoTop-is) }
 
-plan-join-requires : tie.Need-plan-join-requires
-plan-join-requires c κs = let p = c .before .before .before .before .before .before .pre in (p .0 .set, (p .0 .total, (p .1, omega arith)))
+lent-requires : tie.Need-lent-requires
+lent-requires c κs = search needs
 
-covers-at-requires : tie.Need-covers-at-requires
-covers-at-requires c κs =
-    let p = c .plan-join .ensures in
-    (p .runs .splice-there, (p .gapped, (p .before-is, omega (arith, p .runs .splice-inside))))
+plan-join-requires : tie.Need-plan-join-requires
+plan-join-requires c κs =
+    let p = c .before .before .before .before .before .before .before .pre in
+    rw (c .lent .ensures) ((p .0 .set, p .0 .total), (p .1, omega arith))
+
+sub-held-behind : tie.Need-sub-held-behind
+sub-held-behind c = c .plan-join .ensures .runs .own-there .0
+
+part-held-behind-start : tie.Need-part-held-behind-start
+part-held-behind-start c = let h = c .plan-join .ensures .runs .own-there in omega (arith, h)
+
+part-held-behind-end : tie.Need-part-held-behind-end
+part-held-behind-end c = c .plan-join .ensures .runs .own-there .1
+
+held-behind-requires : tie.Need-held-behind-requires
+held-behind-requires c κs = search needs
 
 write-bytes-requires : tie.Need-write-bytes-requires
 write-bytes-requires c κs = search needs
@@ -44,17 +56,21 @@ same-length c = search needs
 
 returns-2 : tie.Need-returns-2
 returns-2 c =
-    let a = c .before .before .before .before .before .before .before .before .before .before .before .before .before .before .args in
-    id-already (setOf (now (a .set))) (now (a .uuid) ++ now (a .tag)) (a .gno) (now (a .out)) (sym (c .before .before .before .before .before .before .before .before .before .is-gno .ensures) ∙ not-false _ (c .before .before .before .before .before .before .before .before .if1 .left)) (now (a .set)) _ _ _
-    (c .before .before .before .before .before .before .before .plan-join .ensures .member (a .gno) ∙ sym (c .before .before .before .before .before .before .covers-at .ensures) ∙ c .before .before .before .before .before .if2 .taken) (sym (c .before .before .before .before .before .before .before .before .before .before .before .before .before .before .pre .0 .set .written)) (c .before .before .before .write-bytes .ensures .0) (c .before .before .before .write-bytes .ensures .1) (c .accepted .ensures)
-
-add-write-joined : tie.Need-add-write-joined
-add-write-joined c =
-    let g = gno-says (c .before .before .before .before .before .before .before .before .before .args .gno) (sym (c .before .before .before .before .is-gno .ensures) ∙ not-false _ (c .before .before .before .if1 .left)) in
-    record { fits = omega (arith, gnoTop-is) }
+    let a = c .before .before .before .before .before .before .before .before .before .before .before .before .before .before .before .before .args in
+    id-already (setOf (now (a .set))) (now (a .uuid) ++ now (a .tag)) (a .gno) (now (a .out))
+    (sym (c .before .before .before .before .before .before .before .before .before .before .before .is-gno .ensures) ∙ not-false _
+    (c .before .before .before .before .before .before .before .before .before .before .if1 .left))
+    (now (a .set)) _ _ _
+    (c .before .before .before .before .before .before .before .before .plan-join .ensures .member ∙ sym
+    (c .before .before .before .before .before .before .held-behind .ensures) ∙ c .before .before .before .before .before .if2 .taken)
+    (sym (c .before .before .before .before .before .before .before .before .before .before .before .before .before .before .before .before .pre .0 .set .written)) (c .before .before .before .write-bytes .ensures .0) (c .before .before .before .write-bytes .ensures .1) (c .accepted .ensures)
 
 write-joined-requires : tie.Need-write-joined-requires
-write-joined-requires c κs = (c .before .before .before .plan-join .ensures, fits-fair _ _ (c .before .before .before .before .before .before .before .before .before .before .pre .0))
+write-joined-requires c κs = (
+  c .before .before .before .before .plan-join .ensures,
+  fits-fair _ _
+      (c .before .before .before .before .before .before .before .before .before .before .before .before .pre .0),
+)
 
 accepted-requires-2 : tie.Need-accepted-requires-2
 accepted-requires-2 c κs = search needs
@@ -64,9 +80,13 @@ same-length-2 c = search needs
 
 returns-3 : tie.Need-returns-3
 returns-3 c =
-    let a = c .before .before .before .before .before .before .before .before .before .before .before .before .before .before .args in
-    id-new (setOf (now (a .set))) (now (a .uuid) ++ now (a .tag)) (a .gno) (now (a .out)) (sym (c .before .before .before .before .before .before .before .before .before .is-gno .ensures) ∙ not-false _ (c .before .before .before .before .before .before .before .before .if1 .left)) _ _ _
-    (c .before .before .before .before .before .before .before .plan-join .ensures .member (a .gno) ∙ sym (c .before .before .before .before .before .before .covers-at .ensures) ∙ c .before .before .before .before .before .if2 .left) (c .before .before .before .write-joined .ensures .0) (c .before .before .before .write-joined .ensures .1) (c .accepted2 .ensures)
+    let a = c .before .before .before .before .before .before .before .before .before .before .before .before .before .before .before .before .args in
+    id-new (setOf (now (a .set))) (now (a .uuid) ++ now (a .tag)) (a .gno) (now (a .out))
+    (sym (c .before .before .before .before .before .before .before .before .before .before .before .is-gno .ensures) ∙ not-false _
+    (c .before .before .before .before .before .before .before .before .before .before .if1 .left))
+    _ _ _ (c .before .before .before .before .before .before .before .before .plan-join .ensures .member ∙ sym
+    (c .before .before .before .before .before .before .held-behind .ensures) ∙ c .before .before .before .before .before .if2 .left)
+    (c .before .before .before .write-joined .ensures .0) (c .before .before .before .write-joined .ensures .1) (c .accepted2 .ensures)
 
 pub offer-id-spec : {M : Type 1} → statement M
 offer-id-spec =
@@ -74,14 +94,17 @@ offer-id-spec =
     (tie.spec
     is-gno-requires
     returns
-    add-plan-join
+    add-t16
+    lent-requires
     plan-join-requires
-    covers-at-requires
+    sub-held-behind
+    part-held-behind-start
+    part-held-behind-end
+    held-behind-requires
     write-bytes-requires
     accepted-requires
     same-length
     returns-2
-    add-write-joined
     write-joined-requires
     accepted-requires-2
     same-length-2

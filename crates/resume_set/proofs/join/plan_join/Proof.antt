@@ -4,30 +4,42 @@ use mathlib.Core.Path.{refl, sym}
 use native.Mathlib.Omega.{arith}
 use denote.Ref.{now}
 use borrow.Author.Needs.{needs}
-use Rattle.resume_set.proofs.JoinLaws.{Small, set-small, plan-is}
+use Rattle.resume_set.proofs.JoinLaws.{Small, set-small, taken-inside, plan-is}
 use Rattle.resume_set.proofs.join.plan_join.Statement.{statement}
 use Rattle.resume_set.proofs.join.plan_join.Tie as tie
 
-small : (c : tie.After-find) → Small (now (c .before .before .before .before .args .set)) (c .before .before .before .before .args .count)
+small : (c : tie.After-find) → Small (now (c .before .before .before .before .args .set)) (c .before .before .before .before .args .is .entries)
 small c =
-    set-small (now (c .before .before .before .before .args .set)) (c .before .before .before .before .args .tagged)
-    (c .before .before .before .before .args .count) (c .before .before .before .before .pre .0)
+    let a = c .before .before .before .before .args in set-small (now (a .set)) (a .is .tagged) (a .is .entries) (c .before .before .before .before .pre .0 .0)
 
 -- the intervals that are there take up bytes
 few : (c : tie.After-find) → 16 * c .find .result .count ≤ 2 ^ 40
 few c = let f = c .find .ensures in omega (arith, f .end, f .inside, small c .long)
 
-find-requires : tie.Need-find-requires
-find-requires c κs = let p = c .before .before .before .pre in ((p .0, refl), p .1 .1 .0 .0)
+-- and only they are taken up
+taken : (c : tie.After-splice-in) → c .splice-in .result .taken ≤ c .before .before .find .result .count
+taken c = taken-inside _ _ _ _ _ (c .before .before .find .ensures) _ _ _ (c .splice-in .ensures)
 
-splice-at-requires : tie.Need-splice-at-requires
-splice-at-requires c κs = let f = c .find .ensures in (omega (arith, f .end, f .inside), (f .gapped, c .before .before .before .before .pre .1 .1 .1))
+find-requires : tie.Need-find-requires
+find-requires c κs = let p = c .before .before .before .pre in ((p .0 .0, refl), p .1 .0 .0)
+
+sub-splice-in : tie.Need-sub-splice-in
+sub-splice-in c = let f = c .find .ensures in omega (arith, f .end, f .inside)
+
+part-splice-in-start : tie.Need-part-splice-in-start
+part-splice-in-start c = let f = c .find .ensures in omega (arith, f .end, f .inside)
+
+part-splice-in-end : tie.Need-part-splice-in-end
+part-splice-in-end c = c .find .ensures .inside
+
+splice-in-requires : tie.Need-splice-in-requires
+splice-in-requires c κs = search needs
 
 sub-held : tie.Need-sub-held
-sub-held c = omega (arith, c .before .before .splice-at .ensures .inside)
+sub-held c = taken (c .before .before)
 
 add-held : tie.Need-add-held
-add-held c = record { fits = omega (arith, few (c .before .before .before)) }
+add-held c = record { fits = omega (arith, few (c .before .before .before .before)) }
 
 add-gained : tie.Need-add-gained
 add-gained c = search needs
@@ -36,32 +48,38 @@ gained-requires : tie.Need-gained-requires
 gained-requires c κs = search needs
 
 add-len : tie.Need-add-len
-add-len c = record { fits = omega (arith, c .before .before .before .before .before .before .before .before .pre .1 .1 .0 .1, c .gained .ensures .1) }
+add-len c =
+    record { fits = omega (arith, c .before .before .before .before .before .before .before .before .before .pre .1 .0 .1, c .gained .ensures .1) }
 
 mul-len : tie.Need-mul-len
-mul-len c = record { fits = omega (arith, few (c .before .before .before .before)) }
+mul-len c = record { fits = omega (arith, few (c .before .before .before .before .before)) }
 
 add-len-2 : tie.Need-add-len-2
 add-len-2 c =
     record {
-      fits = omega
-          (arith, c .before .before .before .before .before .before .before .before .pre .1 .1 .0 .1, c .gained .ensures .1, few (c .before .before .before .before));
+      fits = omega (
+        arith,
+        c .before .before .before .before .before .before .before .before .before .pre .1 .0 .1,
+        c .gained .ensures .1,
+        few
+            (c .before .before .before .before .before),
+      );
     }
 
 add-len-3 : tie.Need-add-len-3
 add-len-3 c =
-    let f = c .before .before .before .before .before .find .ensures in
+    let f = c .before .before .before .before .before .before .find .ensures in
     record {
       fits = omega (
         arith,
-        c .before .before .before .before .before .before .before .before .before .pre .1 .1 .0 .1,
+        c .before .before .before .before .before .before .before .before .before .before .pre .1 .0 .1,
         c .before .gained .ensures .1,
         few
-            (c .before .before .before .before .before),
+            (c .before .before .before .before .before .before),
         f .order,
         f .end,
         f .inside,
-        small (c .before .before .before .before .before),
+        small (c .before .before .before .before .before .before),
       );
     }
 
@@ -74,8 +92,8 @@ add-len-4 c =
     record {
       fits = omega (
         arith,
-        c .before .before .before .before .before .before .before .before .before .before .pre .1 .1 .0 .1,
-        c .before .before .gained .ensures .1,
+        c .before .before .before .before .before .before .before .before .before .before .pre .1 .0 .1,
+        c .before .gained .ensures .1,
         few
             (c .before .before .before .before .before .before),
         f .order,
@@ -91,11 +109,12 @@ gained-requires-2 c κs = search needs
 add-len-5 : tie.Need-add-len-5
 add-len-5 c =
     let f = c .before .before .before .before .before .before .before .find .ensures in
+    let tag = c .before .before .before .before .before .before .before .before .before .before .before .pre .1 .0 .1 in
     record {
       fits = omega (
         arith,
-        c .before .before .before .before .before .before .before .before .before .before .before .pre .1 .1 .0 .1,
-        c .before .before .before .gained .ensures .1,
+        tag,
+        c .before .before .gained .ensures .1,
         c .gained2 .ensures .1,
         few (c .before .before .before .before .before .before .before),
         f .order,
@@ -108,48 +127,50 @@ add-len-5 c =
 gained-requires-3 : tie.Need-gained-requires-3
 gained-requires-3 c κs = search needs
 
-add-t29 : tie.Need-add-t29
-add-t29 c = record { fits = omega (arith, c .gained3 .ensures .1, small (c .before .before .before .before .before .before .before .before)) }
+add-t33 : tie.Need-add-t33
+add-t33 c = record { fits = omega (arith, c .gained3 .ensures .1, small (c .before .before .before .before .before .before .before .before)) }
 
-sub-t18 : tie.Need-sub-t18
-sub-t18 c =
+sub-t20 : tie.Need-sub-t20
+sub-t20 c =
     omega (
       arith,
-      c .before .before .before .before .before .before .before .before .before .find .ensures .total (λ n. n) refl,
-      c .before .before .before .before .before .before .before .before .before .before .before .before .before .pre .1 .0,
-      c .before .before .before .before .before .before .before .before .splice-at .ensures .inside,
+      c .before .before .before .before .before .before .before .before .before .before .find .ensures .total (λ n. n) refl,
+      c .before .before .before .before .before .before .before .before .before .before .before .before .before .before .pre .0 .1,
+      taken
+          (c .before .before .before .before .before .before .before .before),
     )
 
-add-t28 : tie.Need-add-t28
-add-t28 c =
+add-t32 : tie.Need-add-t32
+add-t32 c =
     record {
       fits = omega (
         arith,
-        small (c .before .before .before .before .before .before .before .before .before),
-        c .before .before .before .before .before .before .before .before .before .before .before .before .before .pre .1 .0,
+        small (c .before .before .before .before .before .before .before .before .before .before),
+        c .before .before .before .before .before .before .before .before .before .before .before .before .before .before .pre .0 .1,
       );
     }
 
 returns : tie.Need-returns
 returns c =
-    let a = c .before .before .before .before .before .before .before .before .before .before .before .before .before .args in
-    let f = c .before .before .before .before .before .before .before .before .before .find in
-    let splice = c .before .before .before .before .before .before .before .before .splice-at in
-    plan-is (now (a .set)) (a .tagged) (a .count)
-    (c .before .before .before .before .before .before .before .before .before .before .before .before .before .pre .0) (now (a .uuid)) (now (a .tag))
-    (c .before .before .before .before .before .before .before .before .before .before .before .before .before .pre .1 .1 .0 .0)
-    (c .before .before .before .before .before .before .before .before .before .before .before .before .before .pre .1 .1 .0 .1) (a .a) (a .b) (f .result)
-    (f .ensures) (splice .result) (splice .ensures)
-    _ _ (a .total) (rw (c .before .before .before .before .before .gained .ensures .0, c .before .before .gained2 .ensures .0))
-    (rw (c .before .gained3 .ensures .0))
-    (sym (c .before .before .before .before .before .before .before .before .before .before .before .before .before .pre .1 .0))
+    let a = c .before .before .before .before .before .before .before .before .before .before .before .before .before .before .args in
+    let p = c .before .before .before .before .before .before .before .before .before .before .before .before .before .before .pre in
+    let found = c .before .before .before .before .before .before .before .before .before .before .find in
+    let splice = c .before .before .before .before .before .before .before .before .splice-in in
+    plan-is (now (a .set)) (a .is .tagged) (a .is .entries) (p .0 .0) (now (a .uuid)) (now (a .tag)) (p .1 .0 .0) (p .1 .0 .1) (a .span .start) (a .span .end)
+    (found .result) (found .ensures) (splice .result) (splice .ensures) (p .1 .1)
+    (λ i. c .before .before .before .before .before .before .before .before .before .before .before .before .before .shared-slice-known .given i .fits)
+    _ _ (a .is .intervals) (rw (c .before .before .before .before .before .gained .ensures .0, c .before .before .before .gained2 .ensures .0))
+    (rw (c .before .before .gained3 .ensures .0)) (sym (p .0 .1))
 
 pub plan-join-spec : {M : Type 1} → statement M
 plan-join-spec =
     tie.close
     (tie.spec
     find-requires
-    splice-at-requires
+    sub-splice-in
+    part-splice-in-start
+    part-splice-in-end
+    splice-in-requires
     sub-held
     add-held
     add-gained
@@ -163,7 +184,7 @@ plan-join-spec =
     gained-requires-2
     add-len-5
     gained-requires-3
-    add-t29
-    sub-t18
-    add-t28
+    add-t33
+    sub-t20
+    add-t32
     returns)

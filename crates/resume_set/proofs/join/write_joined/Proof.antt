@@ -13,7 +13,7 @@ use Rattle.resume_set.proofs.join.write_joined.Tie as tie
 -- what is judged is the set as planned
 judged : (c : tie.After-judge)
     → let a = c .before .before .before .before .before .before .args in
-    c .judge .result ≡ judgedAs (limits (join (now (a .uuid) ++ now (a .tag)) (a .a) (a .b) (setOf (now (a .set)))))
+    c .judge .result ≡ judgedAs (limits (join (now (a .uuid) ++ now (a .tag)) (a .span .start) (a .span .end) (setOf (now (a .set)))))
 judged c =
     let p = c .before .before .before .before .before .before .pre in
     c .judge .ensures ∙ ap judgedAs (plan-judged _ _ _ _ _ _ (p .0) (p .1) _ (c .before .over .ensures .0))
@@ -27,14 +27,14 @@ judge-requires c κs = search needs
 returns : tie.Need-returns
 returns c =
     let a = c .before .before .before .before .before .before .before .args in
-    let s = join (now (a .uuid) ++ now (a .tag)) (a .a) (a .b) (setOf (now (a .set))) in
+    let s = join (now (a .uuid) ++ now (a .tag)) (a .span .start) (a .span .end) (setOf (now (a .set))) in
     saved-refused s _ (judged (c .before)) (now (a .out)) (c .if1 .taken)
 
 returns-2 : tie.Need-returns-2
 returns-2 c =
     let a = c .before .before .before .before .before .before .before .before .args in
     let p = c .before .before .before .before .before .before .before .before .pre .0 in
-    let s = join (now (a .uuid) ++ now (a .tag)) (a .a) (a .b) (setOf (now (a .set))) in
+    let s = join (now (a .uuid) ++ now (a .tag)) (a .span .start) (a .span .end) (setOf (now (a .set))) in
     joined-short s _ (judged (c .before .before)) (now (a .out)) (c .before .if1 .left) (a .plan .len) (p .len-is) (c .if2 .taken)
 
 put-joined-requires : tie.Need-put-joined-requires
@@ -47,7 +47,7 @@ returns-3 : tie.Need-returns-3
 returns-3 c =
     let a = c .before .before .before .before .before .before .before .before .before .before .before .before .args in
     let p = c .before .before .before .before .before .before .before .before .before .before .before .before .pre .0 in
-    let s = join (now (a .uuid) ++ now (a .tag)) (a .a) (a .b) (setOf (now (a .set))) in
+    let s = join (now (a .uuid) ++ now (a .tag)) (a .span .start) (a .span .end) (setOf (now (a .set))) in
     let fair = c .before .before .before .before .before .if1 .left in
     let room = c .before .before .before .before .if2 .left in
     joined-fits s _ (judged (c .before .before .before .before .before .before)) (now (a .out)) fair (a .plan .len) (p .len-is) _ _ _ room (p .bytes)

@@ -2,10 +2,10 @@
 use Prim.Native.Nat.{ℕ, _+_}
 use mathlib.Core.List.{List}
 use mathlib.Core.Path.{_≡_, sym, ap, _∙_}
-use denote.Ref.{now}
-use borrow.Author.Needs.{needs}
 use lib.ListN.{length, replicate, length-replicate}
 use lib.Seq.{length-take-le}
+use denote.Ref.{now}
+use borrow.Author.Needs.{needs}
 use Rattle.misc.specs.Output.{outputOf, answerOf}
 use Rattle.previous_gtids_event.specs.Entry.{Entry}
 use Rattle.previous_gtids_event.specs.Previous.{previous}
@@ -14,6 +14,8 @@ use Rattle.gtid_sets.specs.TakeIn.{union}
 use Rattle.gtid_sets.proofs.LimitLaws.{longestSet-is}
 use Rattle.set_check.specs.SetOf.{entriesOf}
 use Rattle.resume_set.specs.Answers.{saved}
+use Rattle.resume_set.specs.TakeIn.{heldSet}
+use Rattle.resume_set.specs.declared.Held.{Held}
 use Rattle.resume_set.proofs.JoinInLaws.{anyBody, into-starts, into-set}
 use Rattle.resume_set.proofs.join_in.merge_into.Statement.{statement}
 use Rattle.resume_set.proofs.join_in.merge_into.Tie as tie
@@ -37,13 +39,16 @@ slice-aggregate-join-body c = search needs
 slice-aggregate-join-body-2 : tie.Need-slice-aggregate-join-body-2
 slice-aggregate-join-body-2 c = search needs
 
+lent-requires : tie.Need-lent-requires
+lent-requires c κs = search needs
+
 join-body-requires : tie.Need-join-body-requires
 join-body-requires c κs =
-    let s = c .before .before .before .before .before .before .before .before in
-    let w = c .before .before .before .write-bytes in
+    let s = c .before .before .before .before .before .before .before .before .before in
+    let w = c .before .before .before .before .write-bytes in
     let (is, room) = into-starts (now (s .args .set)) (s .args .checked) (s .pre .0) buffer (w .last .1 .0) size (w .ensures .1) (w .kept .1 .0) buffer
     (now (s .args .body)) size (s .pre .1 .0) in
-    (is, (s .pre .1, room))
+    rw (c .lent .ensures) (is, (s .pre .1, room))
 
 array-share-prefix-held : tie.Need-array-share-prefix-held
 array-share-prefix-held c = search needs
@@ -61,13 +66,15 @@ same-length c = search needs
 
 returns : tie.Need-returns
 returns c =
-    let s = c .before .before .before .before .before .before .before .before .before .before .before .before .before .before .before .before in
+    let s = c .before .before .before .before .before .before .before .before .before .before .before .before .before .before .before .before .before in
     let out = now (s .args .out) in
-    let w = c .before .before .before .before .before .before .before .before .before .before .before .write-bytes in
+    let w = c .before .before .before .before .before .before .before .before .before .before .before .before .write-bytes in
     let joined = c .before .before .before .before .before .before .before .join-body .ensures .1 in
     let wrote = c .before .before .write-set .ensures in
     let first = into-set (now (s .args .set)) (s .args .checked) (s .pre .0) buffer (w .last .1 .0) size (w .ensures .1) (w .kept .1 .0) in
-    let all = joined ∙ ap (union (entriesOf (previous (now (s .args .body))))) first in
+    let read = entriesOf (previous (now (s .args .body))) in
+    let all = joined ∙ ap (λ (h : Held). union read (heldSet (w .last .1 .0) h))
+    (c .before .before .before .before .before .before .before .before .lent .ensures) ∙ ap (union read) first in
     (wrote .0 ∙ ap (λ (x : List Entry). answerOf out (saved x)) all, wrote .1 ∙ ap (λ (x : List Entry). outputOf out (saved x)) all)
 
 pub merge-into-spec : {M : Type 1} → statement M
@@ -78,6 +85,7 @@ merge-into-spec =
     write-bytes-requires
     slice-aggregate-join-body
     slice-aggregate-join-body-2
+    lent-requires
     join-body-requires
     array-share-prefix-held
     slice-aggregate-write-set

@@ -1,18 +1,18 @@
 -- `resume_set::put::put_spliced` meets its contract.
-use Prim.Native.Nat.{_+_, _-_, _*_}
+use Prim.Native.Nat.{_+_, _*_, _≤_}
+use mathlib.Core.Path.{sym}
 use native.Mathlib.Omega.{arith}
+use lib.ListN.{length}
+use lib.Seq.{length-take-le}
 use denote.Ref.{now}
 use borrow.Author.Needs.{needs}
 use Rattle.misc.proofs.OutputLaws.{_also_, put-placed}
-use Rattle.resume_set.proofs.PutLaws.{put-part}
+use Rattle.resume_set.proofs.PutLaws.{put-rest}
 use Rattle.resume_set.proofs.put.put_spliced.Statement.{statement}
 use Rattle.resume_set.proofs.put.put_spliced.Tie as tie
 
 mul-kept : tie.Need-mul-kept
 mul-kept c = search needs
-
-add-kept : tie.Need-add-kept
-add-kept c = search needs
 
 add-rest : tie.Need-add-rest
 add-rest c = search needs
@@ -20,23 +20,11 @@ add-rest c = search needs
 mul-rest : tie.Need-mul-rest
 mul-rest c = search needs
 
-add-rest-2 : tie.Need-add-rest-2
-add-rest-2 c = search needs
-
-mul-last : tie.Need-mul-last
-mul-last c = search needs
-
-add-last : tie.Need-add-last
-add-last c = search needs
-
-sub-put-bytes : tie.Need-sub-put-bytes
-sub-put-bytes c = search needs
-
-part-put-bytes-start : tie.Need-part-put-bytes-start
-part-put-bytes-start c = search needs
-
-part-put-bytes-end : tie.Need-part-put-bytes-end
-part-put-bytes-end c = search needs
+slice-aggregate-put-bytes : tie.Need-slice-aggregate-put-bytes
+slice-aggregate-put-bytes c =
+    let a = c .before .before .before .before .before .args in
+    let inside : 16 * a .splice .before ≤ length (now (a .intervals)) = omega (arith, c .before .before .before .before .before .pre) in
+    sym (length-take-le _ _ inside)
 
 put-bytes-requires : tie.Need-put-bytes-requires
 put-bytes-requires c κs = search needs
@@ -47,14 +35,14 @@ put-u64-le-requires c κs = search needs
 put-u64-le-requires-2 : tie.Need-put-u64-le-requires-2
 put-u64-le-requires-2 c κs = search needs
 
-sub-put-bytes-2 : tie.Need-sub-put-bytes-2
-sub-put-bytes-2 c = search needs
+sub-put-bytes : tie.Need-sub-put-bytes
+sub-put-bytes c = search needs
 
-part-put-bytes-start-2 : tie.Need-part-put-bytes-start-2
-part-put-bytes-start-2 c = search needs
+part-put-bytes-start : tie.Need-part-put-bytes-start
+part-put-bytes-start c = search needs
 
-part-put-bytes-end-2 : tie.Need-part-put-bytes-end-2
-part-put-bytes-end-2 c = search needs
+part-put-bytes-end : tie.Need-part-put-bytes-end
+part-put-bytes-end c = search needs
 
 put-bytes-requires-2 : tie.Need-put-bytes-requires-2
 put-bytes-requires-2 c κs = search needs
@@ -64,31 +52,26 @@ same-length c = search needs
 
 returns : tie.Need-returns
 returns c =
-    let a = c .before .before .before .before .before .before .before .before .before .before .before .before .before .before .before .before .before .before .before .before .args in
-    let s = now (a .set) in
-    put-part s (a .first) (16 * a .before) (a .first + 16 * a .before - a .first) (omega arith) (put-placed (c .before .before .before .before .before .before .before .before .before .before .before .before .before .before .before .put-bytes .ensures)) also put-placed (c .before .before .before .before .before .before .before .before .before .before .before .put-u64-le .ensures) also put-placed (c .before .before .before .before .before .before .before .put-u64-le2 .ensures)
-    also put-part s (a .first + 16 * (a .before + a .taken)) (16 * (a .count - a .before - a .taken)) (a .first + 16 * a .count - (a .first + 16 * (a .before + a .taken))) (omega (arith, c .before .before .before .before .before .before .before .before .before .before .before .before .before .before .before .before .before .before .before .before .pre)) (put-placed (c .before .before .put-bytes2 .ensures))
+    let a = c .before .before .before .before .before .before .before .before .before .before .before .before .before .before .before .before .before .before .before .before .before .before .args in
+    put-placed (c .before .before .before .before .before .before .before .before .before .before .before .before .before .before .before .put-bytes .ensures)
+    also put-placed (c .before .before .before .before .before .before .before .before .before .before .before .put-u64-le .ensures) also put-placed
+    (c .before .before .before .before .before .before .before .put-u64-le2 .ensures)
+    also put-rest (now (a .intervals)) (16 * (a .splice .before + a .splice .taken)) (put-placed (c .before .before .put-bytes2 .ensures))
 
 pub put-spliced-spec : {M : Type 1} → statement M
 put-spliced-spec =
     tie.close
     (tie.spec
     mul-kept
-    add-kept
     add-rest
     mul-rest
-    add-rest-2
-    mul-last
-    add-last
-    sub-put-bytes
-    part-put-bytes-start
-    part-put-bytes-end
+    slice-aggregate-put-bytes
     put-bytes-requires
     put-u64-le-requires
     put-u64-le-requires-2
-    sub-put-bytes-2
-    part-put-bytes-start-2
-    part-put-bytes-end-2
+    sub-put-bytes
+    part-put-bytes-start
+    part-put-bytes-end
     put-bytes-requires-2
     same-length
     returns)
