@@ -4,9 +4,8 @@ use mathlib.Core.Bool.{Bool, true, false}
 use mathlib.Core.List.{List, [], _++_}
 use lib.ListN.{length}
 use Rattle.misc.specs.Parse.{part}
-use Rattle.misc.specs.Le.{leBytes, numberAt}
+use Rattle.misc.specs.Le.{numberAt}
 use Rattle.misc.specs.Varlen.{varlenBytes}
-use Rattle.previous_gtids_event.specs.Rewrite.{tagBytes}
 use Rattle.resume_set.specs.declared.Run.{Run}
 
 -- an untagged entry with so many intervals, with the length of a tag that has no bytes

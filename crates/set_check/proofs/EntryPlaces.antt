@@ -1,5 +1,5 @@
 -- Laws of the entries that stand in some bytes: the one at a place, and those from a place on.
-use Prim.Native.Nat.{ℕ, _+_, _*_, _/_, _^_, _<_, _≤_}
+use Prim.Native.Nat.{ℕ, _+_, _-_, _*_, _/_, _^_, _<_, _≤_}
 use mathlib.Core.Path.{_≡_, refl, sym, ap, _∙_}
 use mathlib.Core.Bool.{Bool, true, false, or-false}
 use mathlib.Core.List.{List, [], _∷_, _++_, append-assoc}
@@ -23,14 +23,14 @@ use Rattle.gtid_sets.specs.Lent.{GoodKeys}
 use Rattle.gtid_sets.proofs.Bools.{or-false-parts}
 use Rattle.gtid_sets.proofs.ByteLaws.{entries-least}
 use Rattle.gtid_sets.proofs.LentLaws.{gapped-wide}
-use Rattle.set_intervals.specs.Intervals.{intervalsAt}
+use Rattle.set_intervals.specs.Intervals.{intervalsAt, intervalsIn}
 use Rattle.set_check.specs.Places.{placeFrom, placeAt, nowhere, orNowhere, placeIn, keyThere, entriesAt, EntriesIn}
 use Rattle.set_check.specs.Head.{headBytes, KeyOk}
 use Rattle.set_check.specs.declared.EntryPlace.{EntryPlace}
 use Rattle.misc.proofs.Places.{part-there, after-there, left-there, byte-there}
 use Rattle.misc.proofs.NumberLaws.{number-there}
 use Rattle.misc.proofs.VarlenLaws.{one-byte}
-use Rattle.set_intervals.proofs.Standing.{intervals-there}
+use Rattle.set_intervals.proofs.Standing.{intervals-there, intervals-lent}
 
 -- the bytes of some entries begin with the head of the first
 pub entries-head : (w : Bool) (k : Key) (is : List Interval) (s : List Entry)
@@ -206,3 +206,10 @@ entries-stand bs w (entry k is ∷ s) at e f g t small =
       rw (first-entry bs w at k is s e f g t small, others),
       (first-here bs w at k is s e f g t small .inside, inside),
     )
+
+-- the intervals of an entry are those that its part of the bytes is
+pub lent-intervals : (bs : List ℕ) (at : ℕ) (p : EntryPlace) → Lies at p → p .next ≤ length bs
+    → intervalsIn (part bs (p .first) (p .next - p .first)) ≡ intervalsAt (p .count) bs (p .first)
+lent-intervals bs at p l h =
+    let n : p .next - p .first ≡ 16 * p .count = omega (arith, l .next-is) in
+    rw n (intervals-lent (p .count) bs (p .first) (omega (arith, l .next-is)))

@@ -1,6 +1,5 @@
 -- Laws of what stands in the bytes of a set, which any walk over them cites, and those of the check.
 pub mod PlaceLaws
-pub mod GappedWalk
 pub mod EntryPlaces
 pub mod HeaderLaws
 pub mod HeadLaws

@@ -3,52 +3,29 @@ use crate::Checked;
 use crate::Cursor;
 use crate::Entries;
 use crate::EntryPlace;
-use crate::HEADER;
 use crate::Header;
 use crate::KeyPlace;
 use crate::MAX_ENTRIES;
 use crate::MAX_INTERVALS;
+use crate::SET_HEADER;
 use crate::heads::right_head;
 use crate::walk::beyond;
 use crate::walk::entry_here;
 use misc::le::number_at;
 use misc::refusal::NOT_A_SET;
 use packets::KeyOrder;
-use packets::is_interval;
 use packets::parts_order;
+use set_intervals::gapped_in;
 ghost use mathlib.Core.Path.{_≡_};
 ghost use mathlib.Core.Bool.{false};
 ghost use mathlib.Core.List.{[]};
-ghost use Prim.Native.Nat.{_+_, _*_, _≤_};
+ghost use Prim.Native.Nat.{_+_, _≤_};
 ghost use lib.ListN.{length};
 ghost use Rattle.gtid_sets.specs.Interval.{gapped};
 ghost use Rattle.gtid_sets.specs.Lent.{lentSet};
-ghost use Rattle.set_intervals.specs.Intervals.{intervalsAt};
 ghost use Rattle.set_check.specs.Places.{placeIn};
 ghost use Rattle.set_check.specs.Head.{Told};
 ghost use Rattle.set_check.specs.Check.{checkedOf, HeaderIs, NoHeader, keyIn, LowKey, EntryIs, NoEntry, Rest, Whole};
-
-// Whether intervals at a place obey the gno rule and rise with gaps.
-fn gapped_at(set: &[u8], first: usize, count: usize) -> bool
-    requires { ⌜ first + 16 * count ≤ length (now set) ⌝ }
-    ensures { λ r. ⌜ r ≡ gapped 0 (intervalsAt count (now (set .entry)) first) ⌝ }
-{
-    let mut low: u64 = 0;
-    let mut at = first;
-    let mut left = count;
-    while 0 < left {
-        let start = number_at(set, at);
-        let end = number_at(set, at + 8);
-        let fine = (low < start) & is_interval(start, end);
-        if !fine {
-            return false;
-        }
-        low = end;
-        at += 16;
-        left -= 1;
-    }
-    true
-}
 
 // The header of a tagged set without entries: 1 in its top and its bottom byte.
 const TAGGED: usize = 0x100_0000_0000_0001;
@@ -61,7 +38,7 @@ fn header_at(set: &[u8]) -> Header
         tagged: false,
         count: 0,
     };
-    if set.len() < 8 {
+    if set.len() < SET_HEADER {
         return none;
     }
     let header = number_at(set, 0) as usize;
@@ -101,7 +78,9 @@ fn entry_above(set: &[u8], from: Cursor, entry: EntryPlace, low: KeyPlace) -> bo
     if !right {
         return false;
     }
-    let gapped = gapped_at(set, entry.first, entry.count);
+    let first = entry.first;
+    let next = entry.next;
+    let gapped = gapped_in(&set[first..next]);
     if !gapped {
         return false;
     }
@@ -191,7 +170,7 @@ pub fn check(set: &[u8]) -> Checked
     }
     let from = Cursor {
         tagged,
-        at: HEADER,
+        at: SET_HEADER,
         left: count,
     };
     let entries = check_entries(set, from);

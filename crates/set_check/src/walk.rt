@@ -60,7 +60,7 @@ pub fn entries_of(checked: Checked) -> Cursor
     }
 }
 
-pub fn place_at(set: &[u8], at: usize, tagged: bool) -> EntryPlace
+fn place_at(set: &[u8], at: usize, tagged: bool) -> EntryPlace
     ensures { λ r. ⌜ r ≡ placeIn tagged (now (set .entry)) at ⌝ }
 {
     let left = left_at(set, at);

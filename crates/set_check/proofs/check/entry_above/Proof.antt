@@ -9,12 +9,14 @@ use borrow.Author.Tests.{not-true, not-false}
 use borrow.Author.Needs.{needs}
 use Rattle.packets.specs.Key.{order, orderRead}
 use Rattle.packets.proofs.OrderLaws.{says-before}
+use Rattle.gtid_sets.specs.Interval.{gapped}
+use Rattle.set_intervals.specs.Intervals.{intervalsAt}
 use Rattle.set_check.specs.Cursor.{keyAt}
 use Rattle.set_check.specs.Check.{keyIn}
 use Rattle.set_check.specs.Head.{HeadIs}
 use Rattle.set_check.proofs.PlaceLaws.{says-yes, says-no}
 use Rattle.set_check.proofs.RestLaws.{head-lies, order-found, entry-headless, entry-ungapped, entry-low, entry-is}
-use Rattle.set_check.proofs.EntryPlaces.{Lies}
+use Rattle.set_check.proofs.EntryPlaces.{Lies, lent-intervals}
 use Rattle.set_check.proofs.check.entry_above.Statement.{statement}
 use Rattle.set_check.proofs.check.entry_above.Tie as tie
 
@@ -27,10 +29,10 @@ parts c = head-lies _ _ _ (head c)
 
 -- what the order of the keys told
 order-told : (c : tie.After-parts-order)
-    → let a = c .before .before .before .before .before .before .before .before .before .before .before .before .before .args in
+    → let a = c .before .before .before .before .before .before .before .before .before .before .before .before .before .before .args in
     orderRead (order (keyIn (now (a .set)) (a .low)) (keyAt (now (a .set)) (a .from) (a .entry))) ≡ c .parts-order .result
 order-told c =
-    let h = c .before .before .before .before .before .before .before .before .before .before in
+    let h = c .before .before .before .before .before .before .before .before .before .before .before in
     let a = h .before .before .before .args in
     let there : a .from .at + 16 ≤ length (now (a .set)) = omega (arith, parts h .tag-after, parts h .first-is, parts h .next-is, head h .inside) in
     order-found (now (a .set)) (a .from) (a .entry) there (a .low) (h .before .before .before .pre .1) (c .parts-order .result)
@@ -45,14 +47,32 @@ returns c =
     let none = c .before .right-head .ensures .no (not-true _ (c .if1 .taken)) in
     says-no (entry-headless (now (s .args .set)) (s .args .from) (keyIn (now (s .args .set)) (s .args .low)) none)
 
-gapped-at-requires : tie.Need-gapped-at-requires
-gapped-at-requires c κs = omega (arith, parts c .next-is, head c .inside)
+sub-gapped-in : tie.Need-sub-gapped-in
+sub-gapped-in c = omega (arith, parts c .next-is)
+
+part-gapped-in-start : tie.Need-part-gapped-in-start
+part-gapped-in-start c = omega (arith, parts c .next-is)
+
+part-gapped-in-end : tie.Need-part-gapped-in-end
+part-gapped-in-end c = head c .inside
+
+gapped-in-requires : tie.Need-gapped-in-requires
+gapped-in-requires c κs = search needs
+
+-- whether the intervals are gapped
+judged : (c : tie.After-gapped-in)
+    → let a = c .before .before .before .before .before .args in
+    c .gapped-in .result ≡ gapped 0 (intervalsAt (a .entry .count) (now (a .set)) (a .entry .first))
+judged c =
+    let h = c .before .before in
+    let a = h .before .before .before .args in
+    c .gapped-in .ensures ∙ ap (gapped 0) (lent-intervals (now (a .set)) (a .from .at) (a .entry) (parts h) (head h .inside))
 
 returns-2 : tie.Need-returns-2
 returns-2 c =
-    let s = c .before .before .before .before .before in
+    let s = c .before .before .before .before .before .before in
     let k = keyIn (now (s .args .set)) (s .args .low) in
-    let ungapped = sym (c .before .gapped-at .ensures) ∙ not-true _ (c .if2 .taken) in
+    let ungapped = sym (judged (c .before)) ∙ not-true _ (c .if2 .taken) in
     says-no (entry-ungapped (now (s .args .set)) (s .args .from) k (s .args .entry) (s .pre .0) ungapped)
 
 add-low-end : tie.Need-add-low-end
@@ -62,7 +82,7 @@ add-low-tag-end : tie.Need-add-low-tag-end
 add-low-tag-end c = search needs
 
 add-tag-end : tie.Need-add-tag-end
-add-tag-end c = let h = c .before .before .before .before .before in record { fits = omega (arith, parts h .first-is, parts h .next-is, head h .inside) }
+add-tag-end c = let h = c .before .before .before .before .before .before in record { fits = omega (arith, parts h .first-is, parts h .next-is, head h .inside) }
 
 sub-low-uuid : tie.Need-sub-low-uuid
 sub-low-uuid c = search needs
@@ -84,7 +104,7 @@ part-low-name-end c = search needs
 
 add-parts-order : tie.Need-add-parts-order
 add-parts-order c =
-    let h = c .before .before .before .before .before .before .before in
+    let h = c .before .before .before .before .before .before .before .before in
     record { fits = omega (arith, parts h .tag-after, parts h .first-is, parts h .next-is, head h .inside) }
 
 sub-parts-order : tie.Need-sub-parts-order
@@ -95,7 +115,7 @@ part-parts-order-start c = search needs
 
 part-parts-order-end : tie.Need-part-parts-order-end
 part-parts-order-end c =
-    let h = c .before .before .before .before .before .before .before in
+    let h = c .before .before .before .before .before .before .before .before in
     omega (arith, parts h .tag-after, parts h .first-is, parts h .next-is, head h .inside)
 
 sub-parts-order-2 : tie.Need-sub-parts-order-2
@@ -106,7 +126,7 @@ part-parts-order-start-2 c = search needs
 
 part-parts-order-end-2 : tie.Need-part-parts-order-end-2
 part-parts-order-end-2 c =
-    let h = c .before .before .before .before .before .before .before .before in
+    let h = c .before .before .before .before .before .before .before .before .before in
     omega (arith, parts h .first-is, parts h .next-is, head h .inside)
 
 parts-order-requires : tie.Need-parts-order-requires
@@ -124,18 +144,18 @@ enum-told-3 c = search needs
 returns-3 : tie.Need-returns-3
 returns-3 c =
     let told = c .before .before in
-    let h = told .before .before .before .before .before .before .before .before .before .before in
+    let h = told .before .before .before .before .before .before .before .before .before .before .before in
     let a = h .before .before .before .args in
     let k = keyIn (now (a .set)) (a .low) in
     let tested = told .before .before .before .before .before .before .before .before in
-    let gapped = sym (tested .before .gapped-at .ensures) ∙ not-false _ (tested .if2 .left) in
+    let rising = sym (judged (tested .before)) ∙ not-false _ (tested .if2 .left) in
     let above = says-before (order k (keyAt (now (a .set)) (a .from) (a .entry))) (order-told told ∙ c .enum-told .given .1) in
-    says-yes (entry-is (now (a .set)) (a .from) k (a .entry) (head h) gapped above)
+    says-yes (entry-is (now (a .set)) (a .from) k (a .entry) (head h) rising above)
 
 returns-4 : tie.Need-returns-4
 returns-4 c =
     let told = c .before .before in
-    let s = told .before .before .before .before .before .before .before .before .before .before .before .before .before in
+    let s = told .before .before .before .before .before .before .before .before .before .before .before .before .before .before in
     let a = s .args in
     says-no (entry-low (now (a .set)) (a .from) (keyIn (now (a .set)) (a .low)) (a .entry) (s .pre .0)
     (λ p. let other = sym (ap orderRead p) ∙ order-told told ∙ c .enum-told2 .given .1 in let z : _≡_ {A = ℕ} 0 1 = cc in omega arith))
@@ -143,7 +163,7 @@ returns-4 c =
 returns-5 : tie.Need-returns-5
 returns-5 c =
     let told = c .before .before in
-    let s = told .before .before .before .before .before .before .before .before .before .before .before .before .before in
+    let s = told .before .before .before .before .before .before .before .before .before .before .before .before .before .before in
     let a = s .args in
     says-no (entry-low (now (a .set)) (a .from) (keyIn (now (a .set)) (a .low)) (a .entry) (s .pre .0)
     (λ p. let other = sym (ap orderRead p) ∙ order-told told ∙ c .enum-told3 .given .1 in let z : _≡_ {A = ℕ} 0 1 = cc in omega arith))
@@ -154,7 +174,10 @@ entry-above-spec =
     (tie.spec
     right-head-requires
     returns
-    gapped-at-requires
+    sub-gapped-in
+    part-gapped-in-start
+    part-gapped-in-end
+    gapped-in-requires
     returns-2
     add-low-end
     add-low-tag-end
