@@ -52,7 +52,8 @@ module _ (set : List ℕ) (c : Checked) (f : Fits set c) where
   set-short : length set ≤ longestSet
   set-short = lent-short set (setOf set) (f .lent)
 
-  module _ (zeros held : List ℕ) (size : length zeros ≡ longestSet + anyBody) (copied : held ≡ outputOf zeros (bytes set)) (same : length held ≡ length zeros) where
+  module _ (zeros held : List ℕ) (size : length zeros ≡ longestSet + anyBody) (copied : held ≡ outputOf zeros (bytes set))
+      (same : length held ≡ length zeros) where
     stands : take (length set) held ≡ set
     unfolding outputOf
     stands =

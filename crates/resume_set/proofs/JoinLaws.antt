@@ -233,7 +233,8 @@ module _ (bs : List ℕ) (w : Bool) (n : ℕ) (lent : IsSet bs w n) (u t : List 
   after-tags = any-join (u ++ t) a b (setOf bs) ∙ rw (parts .1, lent .tags) (or-comm (ltb 0 (length t)) w)
 
   front-run : RunIs bs w v (is .front) 8 (f .at)
-  front-run = run-is bs w v (is .front) 8 (f .at) (is .front-bytes) (is .length-front) (omega (arith, is .order, is .end, is .inside)) (is .tags .0) (is .keyed .0)
+  front-run = run-is bs w v (is .front) 8 (f .at) (is .front-bytes) (is .length-front) (omega (arith, is .order, is .end, is .inside))
+      (is .tags .0) (is .keyed .0)
       (omega (arith, all-intervals, small .total, small .long)) (implied w (ltb 0 (length t)))
 
   back-length : length (entriesBytes w (is .back)) ≡ length bs - f .next
@@ -249,7 +250,9 @@ module _ (bs : List ℕ) (w : Bool) (n : ℕ) (lent : IsSet bs w n) (u t : List 
   after-length = rw (is .joins a b, length-append (is .front) (entry (u ++ t) new ∷ is .back)) (omega (arith, is .entries, added-is (f .here), lent .count))
 
   -- the bytes of the set after it: its entries are those before, one, and those after
-  after-bytes : bodyBytes after ≡ headerBytes v (length after) ++ (entriesBytes v (is .front) ++ headBytes v (u ++ t) (length new) (intervalsBytes new ++ entriesBytes v (is .back)))
+  after-bytes : bodyBytes after
+      ≡ headerBytes v (length after)
+      ++ (entriesBytes v (is .front) ++ headBytes v (u ++ t) (length new) (intervalsBytes new ++ entriesBytes v (is .back)))
   unfolding bodyBytes after
   after-bytes = rw (after-tags) (ap (λ (x : List ℕ). headerBytes v (length (join (u ++ t) a b (setOf bs))) ++ x)
       (ap (entriesBytes v) (is .joins a b) ∙ entriesBytes-append v (is .front) (entry (u ++ t) new ∷ is .back)

@@ -63,7 +63,8 @@ returns-2 c =
     (now (a .set)) _ _ _
     (c .before .before .before .before .before .before .before .before .plan-join .ensures .member ∙ sym
     (c .before .before .before .before .before .before .held-behind .ensures) ∙ c .before .before .before .before .before .if2 .taken)
-    (sym (c .before .before .before .before .before .before .before .before .before .before .before .before .before .before .before .before .pre .0 .set .written)) (c .before .before .before .write-bytes .ensures .0) (c .before .before .before .write-bytes .ensures .1) (c .accepted .ensures)
+    (sym (c .before .before .before .before .before .before .before .before .before .before .before .before .before .before .before .before .pre .0 .set .written))
+    (c .before .before .before .write-bytes .ensures .0) (c .before .before .before .write-bytes .ensures .1) (c .accepted .ensures)
 
 write-joined-requires : tie.Need-write-joined-requires
 write-joined-requires c κs = (

@@ -52,10 +52,11 @@ same-length c = search needs
 
 returns : tie.Need-returns
 returns c =
-    let a = c .before .before .before .before .before .before .before .before .before .before .before .before .before .before .before .before .before .before .before .before .before .before .args in
+    let d = c .before .before .before .before .before .before .before .before .before .before in
+    let a = d .before .before .before .before .before .before .before .before .before .before .before .before .args in
     put-placed (c .before .before .before .before .before .before .before .before .before .before .before .before .before .before .before .put-bytes .ensures)
-    also put-placed (c .before .before .before .before .before .before .before .before .before .before .before .put-u64-le .ensures) also put-placed
-    (c .before .before .before .before .before .before .before .put-u64-le2 .ensures)
+    also put-placed (c .before .before .before .before .before .before .before .before .before .before .before .put-u64-le .ensures)
+    also put-placed (c .before .before .before .before .before .before .before .put-u64-le2 .ensures)
     also put-rest (now (a .intervals)) (16 * (a .splice .before + a .splice .taken)) (put-placed (c .before .before .put-bytes2 .ensures))
 
 pub put-spliced-spec : {M : Type 1} → statement M

@@ -88,8 +88,9 @@ same-length-2 c = search needs
 
 returns : tie.Need-returns
 returns c =
-    let a = c .before .before .before .before .before .before .before .before .before .before .before .before .before .before .before .before .before .before .before .args in
-    let p = c .before .before .before .before .before .before .before .before .before .before .before .before .before .before .before .before .before .before .before .pre in
+    let d = c .before .before .before .before .before .before .before .before .before .before in
+    let a = d .before .before .before .before .before .before .before .before .before .args in
+    let p = d .before .before .before .before .before .before .before .before .before .pre in
     let planned = c .before .before .before .before .before .before .before .before .before .before .before .before .before .plan-join in
     interval-joined (now (a .held)) (now (a .spare)) (a .is) (now (a .uuid)) (now (a .tag)) (a .span .start) (a .span .end) (p .0) (p .1 .0 .0) (p .1 .0 .2)
     (p .1 .1 .1) (planned .result) (planned .ensures) (p .1 .1 .0) _ _ (c .before .before .before .before .before .before .before .put-joined .ensures) _
