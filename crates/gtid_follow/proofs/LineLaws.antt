@@ -22,7 +22,7 @@ use Rattle.binlog_reader.specs.declared.Told.the-variants.{NoId, AlreadyThere, 
 use Rattle.binlog_reader.specs.declared.Said.{Said}
 use Rattle.binlog_reader.specs.declared.Said.the-variants.{MoreWanted, Ended, Event, Refused}
 use Rattle.gtid_follow.specs.declared.lines.Lines.{Lines}
-use Rattle.gtid_follow.specs.Program.{idLine, answerLine, Names, Added, Lined}
+use Rattle.gtid_follow.specs.Program.{lineRoom, idLine, answerLine, Names, Added, Lined}
 
 -- a place in a text, behind what was put there
 pub put-within : (l : List ℕ) (at : ℕ) (bs : List ℕ) (r : ℕ) → at ≤ length l → r ≡ putEnd l at bs → r ≤ length l
@@ -57,7 +57,7 @@ pub record LineThere (type : ℕ) (body text : List ℕ) (len : ℕ) : Type 0 wh
   pub most : len ≤ length text
   pub is : take (len - 5) (drop 5 text) ≡ idLine type body
 
-pub line-there : (type : ℕ) (body l l′ : List ℕ) (w : Wrote) → (type ≡ 35 → ⊥) → Bytes body → length l ≡ 128
+pub line-there : (type : ℕ) (body l l′ : List ℕ) (w : Wrote) → (type ≡ 35 → ⊥) → Bytes body → length l ≡ lineRoom
     → w ≡ answerOf l (bytes (eventText type body)) → l′ ≡ outputOf l (bytes (eventText type body)) → LineThere type body l′ (w .len)
 unfolding answerOf outputOf idLine
 line-there type body l l′ w other ok room answer output =
@@ -79,13 +79,13 @@ id-line-most : (type : ℕ) (body : List ℕ) → (type ≡ 35 → ⊥) → Byte
 unfolding idLine
 id-line-most type body other ok = omega (arith, length-drop 5 (eventText type body), event-text-most type body other ok)
 
-pub answer-line-most : (told : Told) (type : ℕ) (body : List ℕ) → Names told type → Bytes body → length (answerLine told type body) ≤ 128
+pub answer-line-most : (told : Told) (type : ℕ) (body : List ℕ) → Names told type → Bytes body → length (answerLine told type body) ≤ lineRoom
 answer-line-most NoId type body other ok = omega arith
 answer-line-most AlreadyThere type body other ok = simp length-append (omega (arith, id-line-most type body other ok))
 answer-line-most Taken type body other ok = simp length-append (omega (arith, id-line-most type body other ok))
 answer-line-most Joined type body other ok = omega arith
 
-pub line-added : (told : Told) (type : ℕ) (body l l′ : List ℕ) (at r : ℕ) → Names told type → Bytes body → at + 128 ≤ length l
+pub line-added : (told : Told) (type : ℕ) (body l l′ : List ℕ) (at r : ℕ) → Names told type → Bytes body → at + lineRoom ≤ length l
     → WhereFits l at (answerLine told type body) l′ r → Added l (answerLine told type body) l′ r
 line-added told type body l l′ at r other ok room fits =
     let most = answer-line-most told type body other ok in

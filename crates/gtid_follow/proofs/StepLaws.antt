@@ -205,8 +205,8 @@ step-fits reader work set spare bs work′ r still short some is f =
         work′ (omega arith) f
 
 -- of what is left of a chunk from a place on
-pub rest-fits : (reader : Reader) (work set : List ℕ) (spare : ℕ) (chunk : List ℕ) (from : ℕ) (work′ : List ℕ) (r : declared.Answer) → isEvent (reader .phase) ≡ false
-    → reader .len ≤ length set → from < length chunk
+pub rest-fits : (reader : Reader) (work set : List ℕ) (spare : ℕ) (chunk : List ℕ) (from : ℕ) (work′ : List ℕ) (r : declared.Answer)
+    → isEvent (reader .phase) ≡ false → reader .len ≤ length set → from < length chunk
     → r ≡ stepAnswers reader (stepOf reader work set spare (take (length chunk - from) (drop from chunk)))
     → Front (stepHolds (runIn (stepOf reader work set spare (take (length chunk - from) (drop from chunk))))) work′
     → StepFits (length chunk - from) (length set) (length work′) r

@@ -21,6 +21,10 @@ use Rattle.gtid_follow.specs.declared.lines.Lines.{Lines}
 
 -- ---- lines
 
+-- no line is longer
+abbrev pub lineRoom : ℕ
+lineRoom = 128
+
 -- `taken `
 abbrev pub takenWord : List ℕ
 takenWord = 116 ∷ 97 ∷ 107 ∷ 101 ∷ 110 ∷ 32 ∷ []

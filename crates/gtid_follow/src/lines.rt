@@ -9,7 +9,7 @@ ghost use mathlib.Core.List.{_++_};
 ghost use Prim.Native.Nat.{_+_, _≤_};
 ghost use lib.ListN.{length};
 ghost use Rattle.misc.specs.Output.{WhereFits};
-ghost use Rattle.gtid_follow.specs.Program.{idLine, answerLine, Names, Added, StaysUnheard};
+ghost use Rattle.gtid_follow.specs.Program.{lineRoom, idLine, answerLine, Names, Added, StaysUnheard};
 
 // No line is longer.
 const LINE_ROOM: usize = 128;
@@ -51,8 +51,8 @@ pub(crate) fn flushed(lines: Lines, text: &[u8]) -> Lines
 
 // Writes them where there is no room for a line more.
 fn with_room(lines: Lines, text: &[u8]) -> Lines
-    requires { ⌜ (lines .waiting ≤ length (now text)) × (128 ≤ length (now text)) ⌝ }
-    ensures { λ r. ⌜ r .waiting + 128 ≤ length (now (text .entry)) ⌝ }
+    requires { ⌜ (lines .waiting ≤ length (now text)) × (lineRoom ≤ length (now text)) ⌝ }
+    ensures { λ r. ⌜ r .waiting + lineRoom ≤ length (now (text .entry)) ⌝ }
     ensures { λ r. ⌜ StaysUnheard lines r ⌝ }
 {
     if text.len() - lines.waiting < LINE_ROOM {
@@ -94,7 +94,7 @@ pub(crate) fn put_answer(
     body: &[u8],
     text: &mut [u8],
 ) -> Lines
-    requires { ⌜ (lines .waiting ≤ length (now text)) × (128 ≤ length (now text)) ⌝ }
+    requires { ⌜ (lines .waiting ≤ length (now text)) × (lineRoom ≤ length (now text)) ⌝ }
     requires { ⌜ Names told «event_type» ⌝ }
     ensures { λ r. ⌜ Added (now (text .entry)) (answerLine told «event_type» (now (body .entry))) (now (text .exit)) (r .waiting) ⌝ }
     ensures { λ r. ⌜ StaysUnheard lines r ⌝ }
@@ -109,7 +109,7 @@ pub(crate) fn put_answer(
 
 // The line of a refusal, if there is one; and all lines that wait are written.
 pub(crate) fn put_refusal(lines: Lines, refusal: u8, text: &mut [u8]) -> Lines
-    requires { ⌜ (lines .waiting ≤ length (now text)) × (128 ≤ length (now text)) ⌝ }
+    requires { ⌜ (lines .waiting ≤ length (now text)) × (lineRoom ≤ length (now text)) ⌝ }
     ensures { λ r. ⌜ StaysUnheard lines r ⌝ }
 {
     if refusal == 0 {

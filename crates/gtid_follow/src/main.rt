@@ -21,7 +21,7 @@ ghost use mathlib.Core.Bool.{true};
 ghost use Prim.Native.Nat.{_≤_, _<_};
 ghost use lib.ListN.{length};
 ghost use Rattle.listing.specs.EventText.{longestText};
-ghost use Rattle.gtid_follow.specs.Program.{goesOn, StandsIn, Lined, Fits, Listed};
+ghost use Rattle.gtid_follow.specs.Program.{lineRoom, goesOn, StandsIn, Lined, Fits, Listed};
 
 // How much is read at once.
 const CHUNK: usize = 65_536;
@@ -87,7 +87,7 @@ fn answers_in(said: Said) -> u64 {
 
 // The lines, with one more if an event was answered; its body stands at the front of the work bytes.
 fn line_of(said: Said, lines: Lines, work: &[u8], text: &mut [u8]) -> Lines
-    requires { ⌜ (lines .waiting ≤ length (now text)) × (128 ≤ length (now text)) ⌝ }
+    requires { ⌜ (lines .waiting ≤ length (now text)) × (lineRoom ≤ length (now text)) ⌝ }
     requires { ⌜ StandsIn (length (now work)) said ⌝ }
     ensures { λ r. ⌜ Lined said (now (work .entry)) lines (now (text .entry)) r (now (text .exit)) ⌝ }
 {
@@ -111,7 +111,7 @@ fn step(
     text: &mut [u8],
 ) -> Walk
     requires { ⌜ Fits (length (now set)) (length (now text)) walk ⌝ }
-    requires { ⌜ (walk .used < length (now chunk)) × (128 ≤ length (now text)) ⌝ }
+    requires { ⌜ (walk .used < length (now chunk)) × (lineRoom ≤ length (now text)) ⌝ }
     ensures { λ r. ⌜ Fits (length (now (set .entry))) (length (now (text .entry))) r ⌝ }
     ensures { λ r. ⌜ (r .used ≤ length (now (chunk .entry))) × (r .on ≡ true → walk .used < r .used) ⌝ }
 {
@@ -140,7 +140,7 @@ fn through(
     text: &mut [u8],
 ) -> Walk
     requires { ⌜ Fits (length (now set)) (length (now text)) walk ⌝ }
-    requires { ⌜ (walk .used ≤ length (now chunk)) × (128 ≤ length (now text)) ⌝ }
+    requires { ⌜ (walk .used ≤ length (now chunk)) × (lineRoom ≤ length (now text)) ⌝ }
     ensures { λ r. ⌜ Fits (length (now (set .entry))) (length (now (text .entry))) r ⌝ }
     ensures { λ r. ⌜ (r .on ≡ true → r .used ≡ length (now (chunk .entry))) ⌝ }
 {
@@ -161,7 +161,7 @@ fn next_chunk(
     text: &mut [u8],
 ) -> Walk
     requires { ⌜ Fits (length (now set)) (length (now text)) walk ⌝ }
-    requires { ⌜ 128 ≤ length (now text) ⌝ }
+    requires { ⌜ lineRoom ≤ length (now text) ⌝ }
     ensures { λ r. ⌜ Fits (length (now (set .entry))) (length (now (text .entry))) r ⌝ }
 {
     let reader = walk.reader;
@@ -197,7 +197,7 @@ fn walked(
     text: &mut [u8],
 ) -> Walk
     requires { ⌜ Fits (length (now set)) (length (now text)) walk ⌝ }
-    requires { ⌜ 128 ≤ length (now text) ⌝ }
+    requires { ⌜ lineRoom ≤ length (now text) ⌝ }
     ensures { λ r. ⌜ Fits (length (now (set .entry))) (length (now (text .entry))) r ⌝ }
 {
     let mut here = walk;

@@ -9,8 +9,8 @@ use borrow.Author.Tests.{le-leb}
 use Rattle.misc.specs.Output.{bytes, outputOf, answerOf}
 use Rattle.misc.specs.declared.Wrote.{Wrote}
 use Rattle.misc.proofs.ParseLaws.{split}
+use Rattle.gtid_sets.specs.Limits.{longestSet}
 use Rattle.gtid_sets.specs.Lent.{Lent, form, unfit, lentSet}
-use Rattle.gtid_sets.proofs.LimitLaws.{longestSet-is}
 use Rattle.gtid_sets.proofs.LentLaws.{lent-short}
 use Rattle.report.specs.Report.{maxSets, newReport, linesOf, added}
 use Rattle.report.specs.Text.{reportText, longestReport}
@@ -22,22 +22,22 @@ use Rattle.gtid_report.specs.Program.{Built, Grown, Reported}
 -- ---- the front of a file
 
 -- longer bytes are no set
-too-long : (bs : List ℕ) → 62856 < length bs → lentSet bs ≡ unfit
+too-long : (bs : List ℕ) → longestSet < length bs → lentSet bs ≡ unfit
 too-long bs over = go (lentSet bs) refl
   where
     go : (x : Lent) → lentSet bs ≡ x → x ≡ unfit
     go unfit e = refl
-    go (form s) e = absurd (omega (arith, lent-short bs s e, longestSet-is))
+    go (form s) e = absurd (omega (arith, lent-short bs s e))
 
 -- what stands behind it changes nothing
-front-tells : (n : ℕ) (file : List ℕ) → 62857 ≤ n → lentSet (take n file) ≡ lentSet file
+front-tells : (n : ℕ) (file : List ℕ) → longestSet < n → lentSet (take n file) ≡ lentSet file
 front-tells n file room = split (length file) n
     (λ short. ap lentSet (take-all n file short))
     (λ over.
     let is = length-take-le n file (omega arith) in
     too-long (take n file) (omega arith) ∙ sym (too-long file (omega arith)))
 
-pub file-added : (report : Report) (room : List ℕ) (len : ℕ) (a : Added) → 62857 ≤ length room → a ≡ added report (take len room)
+pub file-added : (report : Report) (room : List ℕ) (len : ℕ) (a : Added) → longestSet < length room → a ≡ added report (take len room)
     → Grown report (length room) (take len room) (a .report)
 file-added report room len a enough is =
     record {

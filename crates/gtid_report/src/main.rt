@@ -5,14 +5,16 @@ use misc::le::read_u32_le;
 use report::LONGEST_REPORT;
 use report::MAX_SETS;
 use report::Report;
+use set_check::LONGEST_SET;
 ghost use mathlib.Core.Path.{_≡_};
-ghost use Prim.Native.Nat.{_≤_};
+ghost use Prim.Native.Nat.{_≤_, _<_};
 ghost use lib.ListN.{length, take};
+ghost use Rattle.gtid_sets.specs.Limits.{longestSet};
 ghost use Rattle.report.specs.Text.{longestReport};
 ghost use Rattle.gtid_report.specs.Program.{Built, Grown, Reported};
 
 // The longest set and one byte more: so much of a file tells whether it is a set.
-const SET_ROOM: usize = 62_857;
+const SET_ROOM: usize = LONGEST_SET + 1;
 
 const TEXT_ROOM: usize = LONGEST_REPORT;
 
@@ -58,7 +60,7 @@ fn read_file(room: &mut [u8]) -> Got
 
 // The report with one file more, of which so much stands at the front of `room`: all of it or, of a longer one, as much as `room` holds.
 fn with_file(report: Report, room: &[u8], len: usize) -> Report
-    requires { ⌜ (62857 ≤ length (now room)) × (len ≤ length (now room)) ⌝ }
+    requires { ⌜ (longestSet < length (now room)) × (len ≤ length (now room)) ⌝ }
     ensures { λ r. ⌜ Grown report (length (now (room .entry))) (take len (now (room .entry))) r ⌝ }
 {
     let added = report.add(&room[..len]);
@@ -67,7 +69,7 @@ fn with_file(report: Report, room: &[u8], len: usize) -> Report
 
 // Reads a file and adds it.
 fn add_next(report: Report, room: &mut [u8]) -> Turn
-    requires { ⌜ 62857 ≤ length (now room) ⌝ }
+    requires { ⌜ longestSet < length (now room) ⌝ }
     requires { ⌜ Built report ⌝ }
     ensures { λ r. ⌜ Built (r .report) ⌝ }
 {
@@ -86,7 +88,7 @@ fn add_next(report: Report, room: &mut [u8]) -> Turn
 
 // The report over all files.
 fn read_all(room: &mut [u8]) -> Report
-    requires { ⌜ 62857 ≤ length (now room) ⌝ }
+    requires { ⌜ longestSet < length (now room) ⌝ }
     ensures { λ r. ⌜ Built r ⌝ }
 {
     let mut turn = Turn {
@@ -114,7 +116,7 @@ fn text_of(report: Report, text: &mut [u8]) -> usize
 
 // Reports on the input, over `room` and `text`, and writes the text.
 fn report_input(room: &mut [u8], text: &mut [u8]) -> bool
-    requires { ⌜ (62857 ≤ length (now room)) × (longestReport ≤ length (now text)) ⌝ }
+    requires { ⌜ (longestSet < length (now room)) × (longestReport ≤ length (now text)) ⌝ }
 {
     let all = read_all(room);
     let end = text_of(all, text);

@@ -41,7 +41,8 @@ slice-aggregate-finish c =
 finish-requires : tie.Need-finish-requires
 finish-requires c κs =
     let last = c .before .before .before .before .before .before .before .before .before .before .before .before .before in
-    let enough = last .before .before .before .before .before .before .before .before .before .before .before .before .before .before .before .before .before .pre in
+    let begun = last .before .before .before .before .before .before .before .before in
+    let enough = begun .before .before .before .before .before .before .before .before .before .pre in
     let same = last .walked .kept .1 .1 .1 .1 .1 .0 in
     (omega (arith, last .walked .ensures .lines, same), omega (arith, enough, same))
 

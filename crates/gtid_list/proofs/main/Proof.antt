@@ -1,6 +1,7 @@
 -- `gtid_list::main` is safe: both rooms are enough.
 use native.Mathlib.Omega.{arith}
 use borrow.Author.Needs.{needs}
+use Rattle.listing.proofs.Whole.{enoughInput-is}
 use Rattle.listing.proofs.Longest.{longestText-is}
 use Rattle.gtid_list.proofs.main.Statement.{statement}
 use Rattle.gtid_list.proofs.main.Tie as tie
@@ -18,7 +19,7 @@ slice-aggregate-list-2 : tie.Need-slice-aggregate-list-2
 slice-aggregate-list-2 c = search needs
 
 list-requires : tie.Need-list-requires
-list-requires c κs = omega (arith, longestText-is)
+list-requires c κs = omega (arith, enoughInput-is, longestText-is)
 
 returns : tie.Need-returns
 returns c = search needs
