@@ -44,6 +44,7 @@ pub mod OneOutcome
 pub mod BuildingHolds
 pub mod AnswersTold
 pub mod PresenceHolds
+pub mod FieldNames
 pub mod SetsTold
 -- demand 3
 pub mod Demand3

@@ -2,7 +2,7 @@
 use Prim.Native.Nat.{ℕ, _^_, _<_, _≤_}
 use mathlib.Core.Path.{_≡_, refl, sym, ap, _∙_}
 use mathlib.Core.Bool.{true, false, or-true}
-use mathlib.Core.List.{List, [], _∷_}
+use mathlib.Core.List.{List}
 use mathlib.Core.Logic.{inl, inr}
 use native.Mathlib.Omega.{arith}
 use lib.Dec.{leb, eqb}
@@ -21,50 +21,13 @@ use Rattle.abi.specs.Flat.{readPresent}
 use Rattle.promises.specs.TaggedLayout.{Sent, Value, FieldsLaid, idOf, sends, TaggedLaid}
 use Rattle.promises.specs.Meaning.{RecordLaid}
 use Rattle.promises.specs.Exact.{Exactly}
-use Rattle.promises.specs.Presence.{Field, fieldId, fieldOf, Has, Presence}
+use Rattle.promises.specs.Presence.{Has, Presence}
 use Rattle.promises.proofs.TaggedSaid.{listed}
 use Rattle.promises.proofs.Demand2.{laid-record-read, records-mean}
 use Rattle.promises.proofs.Naming.{written-named}
 
--- ---- names and ids
-
--- the names by their ids
-abbrev byId : List Field
-byId =
-    Field.gtid-flags ∷ Field.uuid ∷ Field.gno ∷ Field.tag ∷ Field.last-committed ∷ Field.sequence-number
-    ∷ Field.immediate-commit-timestamp ∷ Field.original-commit-timestamp ∷ Field.transaction-length
-    ∷ Field.immediate-server-version ∷ Field.original-server-version ∷ Field.commit-group-ticket ∷ []
-
-back : (f : Field) → getD byId (fieldId f) Field.gtid-flags ≡ f
-back Field.gtid-flags = refl
-back Field.uuid = refl
-back Field.gno = refl
-back Field.tag = refl
-back Field.last-committed = refl
-back Field.sequence-number = refl
-back Field.immediate-commit-timestamp = refl
-back Field.original-commit-timestamp = refl
-back Field.transaction-length = refl
-back Field.immediate-server-version = refl
-back Field.original-server-version = refl
-back Field.commit-group-ticket = refl
-
-low : (f : Field) → fieldId f < 12
-low Field.gtid-flags = omega arith
-low Field.uuid = omega arith
-low Field.gno = omega arith
-low Field.tag = omega arith
-low Field.last-committed = omega arith
-low Field.sequence-number = omega arith
-low Field.immediate-commit-timestamp = omega arith
-low Field.original-commit-timestamp = omega arith
-low Field.transaction-length = omega arith
-low Field.immediate-server-version = omega arith
-low Field.original-server-version = omega arith
-low Field.commit-group-ticket = omega arith
-
--- what a value says has the id that its field's name has
-value-id : {id : ℕ} {x : Sent} {bs : List ℕ} (v : Value id x bs) → idOf x ≡ fieldId (fieldOf v)
+-- what a value says has the id of its field
+value-id : {id : ℕ} {x : Sent} {bs : List ℕ} (v : Value id x bs) → idOf x ≡ id
 value-id (Value.gtid-flags form few) = refl
 value-id (Value.uuid items size) = refl
 value-id (Value.gno form) = refl
@@ -80,29 +43,27 @@ value-id (Value.commit-group-ticket form) = refl
 
 -- ---- a field is among those that were sent just if the bytes have it
 
-sent-has : (f : Field) {last : ℕ} {told : List Sent} {bs : List ℕ} (laid : FieldsLaid last told bs) → sends (fieldId f) told ≡ true → Has f laid
-sent-has f FieldsLaid.end h = clash h refl
-sent-has f (FieldsLaid.ignored rest form new over) h = clash h refl
-sent-has f (FieldsLaid.field {x = x} form value rest) h = split (eqb (idOf x) (fieldId f))
-    (λ is.
-    let same : fieldId (fieldOf value) ≡ fieldId f = sym (value-id value) ∙ eqb-true (idOf x) (fieldId f) is in
-    inl (sym (back (fieldOf value)) ∙ ap (λ (k : ℕ). getD byId k Field.gtid-flags) same ∙ back f))
-    (λ other. inr (sent-has f rest (rw other at h)))
+sent-has : (k : ℕ) {last : ℕ} {told : List Sent} {bs : List ℕ} (laid : FieldsLaid last told bs) → sends k told ≡ true → Has k laid
+sent-has k FieldsLaid.end h = clash h refl
+sent-has k (FieldsLaid.ignored rest form new over) h = clash h refl
+sent-has k (FieldsLaid.field {x = x} form value rest) h = split (eqb (idOf x) k)
+    (λ is. inl (sym (value-id value) ∙ eqb-true (idOf x) k is))
+    (λ other. inr (sent-has k rest (rw other at h)))
 
-has-sent : (f : Field) {last : ℕ} {told : List Sent} {bs : List ℕ} (laid : FieldsLaid last told bs) → Has f laid → sends (fieldId f) told ≡ true
-has-sent f (FieldsLaid.field {x = x} form value rest) (inl is) = rw (eq-eqb (idOf x) (fieldId f) (value-id value ∙ ap fieldId is))
-has-sent f (FieldsLaid.field {x = x} form value rest) (inr more) = rw (has-sent f rest more) (or-true (eqb (idOf x) (fieldId f)))
+has-sent : (k : ℕ) {last : ℕ} {told : List Sent} {bs : List ℕ} (laid : FieldsLaid last told bs) → Has k laid → sends k told ≡ true
+has-sent k (FieldsLaid.field {x = x} form value rest) (inl is) = rw (eq-eqb (idOf x) k (value-id value ∙ is))
+has-sent k (FieldsLaid.field {x = x} form value rest) (inr more) = rw (has-sent k rest more) (or-true (eqb (idOf x) k))
 
-bits : (s : List ℕ) (x : Seen) (used : ℕ) → length s ≤ bodyLimit → (laid : TaggedLaid s x used) → (f : Field)
-    → Exactly (hasBit (fieldId f) (gtidRead (seen 42 s) .present) ≡ true) (Has f (laid .fields-are))
-bits s x used few laid f =
+bits : (s : List ℕ) (x : Seen) (used id : ℕ) → length s ≤ bodyLimit → (laid : TaggedLaid s x used) → id < 12
+    → Exactly (hasBit id (gtidRead (seen 42 s) .present) ≡ true) (Has id (laid .fields-are))
+bits s x used id few laid low =
     let told = laid .told in
     let read : seen 42 s ≡ parsed x used = laid-record-read 42 s x used (RecordLaid.tagged few refl laid) in
-    let bit : hasBit (fieldId f) (gtidRead (seen 42 s) .present) ≡ sends (fieldId f) told =
-    ap (λ (p : Parse Seen). hasBit (fieldId f) (gtidRead p .present)) read ∙ bit-of (fieldId f) (x .present)
-    ∙ ap (λ (y : Seen). getD (y .present) (fieldId f) false) (laid .is) ∙ sym (listed told (fieldId f) (low f)) in (
-      λ set. sent-has f (laid .fields-are) (sym bit ∙ set),
-      λ there. bit ∙ has-sent f (laid .fields-are) there,
+    let bit : hasBit id (gtidRead (seen 42 s) .present) ≡ sends id told =
+    ap (λ (p : Parse Seen). hasBit id (gtidRead p .present)) read ∙ bit-of id (x .present)
+    ∙ ap (λ (y : Seen). getD (y .present) id false) (laid .is) ∙ sym (listed told id low) in (
+      λ set. sent-has id (laid .fields-are) (sym bit ∙ set),
+      λ there. bit ∙ has-sent id (laid .fields-are) there,
     )
 
 -- ---- all of them
