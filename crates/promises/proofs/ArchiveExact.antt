@@ -1,4 +1,4 @@
--- The statements of `specs/Exact.antt` for the listing and for the archive's calls.
+-- The statements of `specs/Exact.antt` for the archive's calls.
 use Prim.Native.Nat.{ℕ}
 use mathlib.Core.Path.{_≡_, refl, sym, ap, _∙_}
 use mathlib.Core.Bool.{true}
@@ -7,11 +7,10 @@ use lib.Dec.{eqb, leb}
 use lib.ListN.{length}
 use borrow.Author.Tests.{eqb-true, eqb-false, eq-eqb, ne-eqb}
 use Rattle.misc.specs.Pick.{pick}
-use Rattle.misc.specs.Refusal.{Refusal, number, notWritable, notASet}
+use Rattle.misc.specs.Refusal.{Refusal, number, notWritable}
 use Rattle.misc.specs.Parse.{Bytes, Parse, refuse, parsed}
 use Rattle.misc.specs.Output.{refused, bytes, answerOf}
 use Rattle.packets.proofs.Tests.{split}
-use Rattle.previous_gtids_event.specs.Entry.{Entry}
 use Rattle.previous_gtids_event.specs.Answers.{entryRead}
 use Rattle.gtid_event.specs.declared.GtidEvent.{GtidEvent}
 use Rattle.gtid_event_read.specs.Seen.{Seen}
@@ -20,62 +19,22 @@ use Rattle.gtid_event_read.proofs.ReadLaws.{gtid-parsed, gtid-refused}
 use Rattle.gtid_event_write.specs.Writable.{writable}
 use Rattle.gtid_event_write.specs.Write.{eventBytes, eventOutput}
 use Rattle.gtid_event_laws.proofs.ReadWritable.{read-fits}
-use Rattle.gtid_sets.specs.Lent.{Lent, form, unfit, lentSet, SetLaid}
-use Rattle.gtid_sets.proofs.LentLaws.{lent-is, is-lent}
 use Rattle.resume_set.specs.declared.Offered.{Offered}
 use Rattle.resume_set.specs.declared.Offered.the-variants.{NoId, AlreadyThere, Taken, Refused}
-use Rattle.listing.specs.SetText.{setText, listedSet}
-use Rattle.listing.specs.EventText.{eventText, listing}
 use Rattle.abi.specs.Answers.{numbersOf, entryIn}
 use Rattle.abi.specs.Flat.{flat, flatRead, readOutput, readUsed, writeOutput}
 use Rattle.abi.proofs.FlatLaws.{length-flat}
 use Rattle.promises.specs.Meaning.{RecordLaid}
 use Rattle.promises.specs.Faults.{EventFault}
 use Rattle.promises.specs.PlainFaults.{OfBody, HeadedFault, WriteFault}
-use Rattle.promises.specs.SetFaults.{SetFault}
-use Rattle.promises.specs.Exact.{RefusesExactly, WritesExactly, ListingExact, FlatFault, ArchiveExact}
+use Rattle.promises.specs.Exact.{RefusesExactly, WritesExactly, FlatFault, ArchiveExact}
 use Rattle.promises.proofs.Forces.{WriterRefuses}
-use Rattle.promises.proofs.Exactly.{short-exactly, writes-exactly}
+use Rattle.promises.proofs.Exactly.{writes-exactly}
 use Rattle.promises.proofs.Demand2.{laid-record-read, records-mean}
 use Rattle.promises.proofs.EventExact.{event-refused, event-faulty}
 use Rattle.promises.proofs.WritingExact.{write-given, write-forced, write-writes, write-written}
-use Rattle.promises.proofs.IntegersExact.{integers-exact}
-use Rattle.promises.proofs.SetsExact.{apart, unfit-fault, fault-unfit, sets-exact, offers-exactly}
-use Rattle.promises.proofs.BodiesExact.{entry-good, headed-exact, bodies-exact}
-
--- ---- a set's text
-
-module _ (word set : List ℕ) where
-  abbrev Text : List ℕ → Type 0
-  Text bs = (s : List Entry) × SetLaid set s × (bs ≡ setText word s)
-
-  text-given : (r : Refusal) → listedSet word (lentSet set) ≡ refused r → SetFault set (number r)
-  text-given r = go (lentSet set) refl
-    where
-      go : (l : Lent) → lentSet set ≡ l → listedSet word l ≡ refused r → SetFault set (number r)
-      go unfit lent e = let this : number r ≡ 14 = cc in rw this (unfit-fault set lent)
-      go (form s) lent e = apart cc
-
-  text-forced : (n : ℕ) → SetFault set n → WriterRefuses (listedSet word (lentSet set)) n
-  text-forced n fault = let (this, lent) = fault-unfit set n fault in (notASet, rw lent, sym this)
-
-  text-writes : (bs : List ℕ) → listedSet word (lentSet set) ≡ bytes bs → Text bs
-  text-writes bs = go (lentSet set) refl
-    where
-      go : (l : Lent) → lentSet set ≡ l → listedSet word l ≡ bytes bs → Text bs
-      go unfit lent e = apart cc
-      go (form s) lent e = (s, lent-is set s lent, cc)
-
-  text-written : (bs : List ℕ) → Text bs → listedSet word (lentSet set) ≡ bytes bs
-  text-written bs (s, laid, is) = rw (is-lent set s laid, is)
-
-pub listing-exact : ListingExact
-listing-exact = record {
-  «list_set» = λ word set out. writes-exactly (listedSet word (lentSet set)) out (SetFault set) _ (text-given word set) (text-forced word set)
-      (text-writes word set) (text-written word set);
-  list = λ type body. short-exactly (eventText type body);
-  «list_input» = λ input. short-exactly (listing input);
-}
+use Rattle.promises.proofs.SetsExact.{apart, offers-exactly}
+use Rattle.promises.proofs.BodiesExact.{entry-good, headed-exact}
 
 -- ---- an offer's numbers
 
@@ -198,21 +157,13 @@ read-entry-exact body at are = headed-exact 1 body at are (λ p. entryRead p .re
 
 pub archive-exact : ArchiveExact
 archive-exact = record {
-  «gtid_read_varlen_uint» = λ s. integers-exact .«read_varlen_uint» s 0;
-  «gtid_check_set» = sets-exact .«check_set»;
-  «gtid_contains» = sets-exact .contains;
-  «gtid_take_in» = sets-exact .«take_in»;
-  «gtid_read_previous» = bodies-exact .read;
   «gtid_read_entry» = read-entry-exact;
-  «gtid_rewrite» = bodies-exact .rewrite;
-  «gtid_list» = listing-exact .«list_input»;
   «gtid_offer» = λ set type body out a l are.
       let both = offers-exactly set (record { type = type; body = body; out = out }) a l are in (
         λ (is, left). both .0 (same-numbers _ a is, left),
         λ answer. let (is, left) = both .1 answer in (ap numbersOf is, left),
       );
   «gtid_read» = read-exact;
-  «gtid_read_present» = read-exact;
   «gtid_write» = λ fields out. writes-exactly (writeOutput fields) out (FlatFault fields) (Event fields) (flat-given fields) (flat-forced fields)
       (flat-writes fields) (flat-written fields);
 }

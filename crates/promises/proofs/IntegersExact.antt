@@ -8,10 +8,10 @@ use lib.ListN.{length, drop, getD, length-append, length-drop, drop-of-length-le
 use lib.Seq.{drop-cons}
 use Rattle.misc.specs.Refusal.{ended, negative, badLead}
 use Rattle.misc.specs.Parse.{Bytes, refuse, parsed, uintRead}
-use Rattle.misc.specs.Le.{leAt, leBytes}
-use Rattle.misc.specs.Varlen.{varlenAt, varlenBytes}
-use Rattle.misc.specs.Signed.{meantBy, sentAs, signedAt, notNegative, naturalAt, intRead}
-use Rattle.misc.specs.Lenenc.{lenencAt, lenencBytes}
+use Rattle.misc.specs.Le.{leAt}
+use Rattle.misc.specs.Varlen.{varlenAt}
+use Rattle.misc.specs.Signed.{meantBy, signedAt, notNegative, naturalAt, intRead}
+use Rattle.misc.specs.Lenenc.{lenencAt}
 use Rattle.misc.proofs.ParseLaws.{split}
 use Rattle.misc.proofs.Places.{from-first}
 use Rattle.misc.proofs.FormsRead.{form-some, form-reads}
@@ -126,18 +126,10 @@ module _ (s : List ℕ) (at : ℕ) where
 
 pub integers-exact : IntegersExact
 integers-exact = record {
-  «read_u32_le» = fixed-exact 4 (omega arith);
-  «read_u56_le» = fixed-exact 7 (omega arith);
-  «read_u64_le» = fixed-exact 8 (omega arith);
+  fixed = λ w some. fixed-exact w some;
   «read_varlen_uint» = varlen-exact;
   «read_varlen_int» = signed-exact;
   «read_varlen_natural» = natural-exact;
   «read_lenenc_int» = lenenc-exact;
-  «write_bytes» = short-exactly;
-  «write_u32_le» = λ value. short-exactly (leBytes 4 value);
-  «write_u56_le» = λ value. short-exactly (leBytes 7 value);
-  «write_u64_le» = λ value. short-exactly (leBytes 8 value);
-  «write_varlen_uint» = λ value. short-exactly (varlenBytes value);
-  «write_varlen_int» = λ value. short-exactly (varlenBytes (sentAs value));
-  «write_lenenc_int» = λ value. short-exactly (lenencBytes value);
+  write = short-exactly;
 }

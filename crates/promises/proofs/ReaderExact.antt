@@ -274,4 +274,4 @@ module _ (s : List ℕ) (index : ℕ) where
       long-exact
 
 pub reader-exact : ReaderExact
-reader-exact = record { start = start-exact; «step_at» = step-exact; next = step-exact; «entry_number» = number-exact }
+reader-exact = record { start = start-exact; «step_at» = step-exact; «entry_number» = number-exact }

@@ -31,7 +31,7 @@ use Rattle.abi.proofs.FlatReportLaws.{no-report, no-place, place-cases, adds-he
 use Rattle.abi.proofs.FlatReportBack.{adds-alike, zeros-new}
 use Rattle.promises.specs.Exact.{Exactly}
 use Rattle.promises.specs.Reports.{CountsMembers, lentNumber, lentSum, noNumbers, Told, AddAnswer, NumbersLine, SetLine, Lines, ReportsExactly, ourReport, flatOver, zeros, NoReport, ArchiveReports, Reports}
-use Rattle.promises.proofs.Exactly.{short-exactly, judges-exactly, writes-exactly}
+use Rattle.promises.proofs.Exactly.{judges-exactly, writes-exactly}
 use Rattle.promises.proofs.Forces.{WriterRefuses}
 use Rattle.promises.proofs.SetsExact.{apart, unfit-fault, fault-unfit}
 
@@ -301,7 +301,6 @@ reports = record {
   totals = totals;
   report = report-holds;
   «line_of» = told-exactly;
-  write = λ sets out. short-exactly (ourReport .text sets) out;
   longest = longest-is;
   archive = archive;
 }

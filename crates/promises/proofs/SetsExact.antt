@@ -33,6 +33,7 @@ use Rattle.gtid_sets.proofs.RunLaws.{answer-cases}
 use Rattle.set_check.specs.Check.{checkedOf}
 use Rattle.resume_set.specs.Answers.{setRead, contained, savedIf, takenIn, says, eventOf, fitting, offeredOf, outputFor, offered, output}
 use Rattle.resume_set.specs.declared.Offered.{Offered}
+use Rattle.listing.specs.SetText.{setText, listedSet}
 use Rattle.resume_set.specs.declared.Offered.the-variants.{Refused}
 use Rattle.resume_set_laws.specs.History.{lentHas, member}
 use Rattle.resume_set_laws.specs.Ours.{ours}
@@ -132,6 +133,34 @@ module _ (body : List ℕ) (are : Bytes body) where
   take-in-written : (bs : List ℕ) → TakenInAs body bs → takenIn (previous body) ≡ bytes bs
   take-in-written bs (TakenInAs.joined is good within) = let (used, read) = body-read is in rw (read, good, within)
 
+-- ---- a set's text
+
+module _ (word set : List ℕ) where
+  abbrev Text : List ℕ → Type 0
+  Text bs = (s : List Entry) × SetLaid set s × (bs ≡ setText word s)
+
+  text-given : (r : Refusal) → listedSet word (lentSet set) ≡ refused r → SetFault set (number r)
+  text-given r = go (lentSet set) refl
+    where
+      go : (l : Lent) → lentSet set ≡ l → listedSet word l ≡ refused r → SetFault set (number r)
+      go unfit lent e = let this : number r ≡ 14 = cc in rw this (unfit-fault set lent)
+      go (form s) lent e = apart cc
+
+  text-forced : (n : ℕ) → SetFault set n → WriterRefuses (listedSet word (lentSet set)) n
+  text-forced n fault = let (this, lent) = fault-unfit set n fault in (notASet, rw lent, sym this)
+
+  text-writes : (bs : List ℕ) → listedSet word (lentSet set) ≡ bytes bs → Text bs
+  text-writes bs = go (lentSet set) refl
+    where
+      go : (l : Lent) → lentSet set ≡ l → listedSet word l ≡ bytes bs → Text bs
+      go unfit lent e = apart cc
+      go (form s) lent e = (s, lent-is set s lent, cc)
+
+  text-written : (bs : List ℕ) → Text bs → listedSet word (lentSet set) ≡ bytes bs
+  text-written bs (s, laid, is) = rw (is-lent set s laid, is)
+
+-- ---- together
+
 pub sets-exact : SetsExact
 sets-exact = record {
   check = λ set. set-exact (λ l. checkedOf l .refusal) set refl (λ s. refl);
@@ -139,6 +168,8 @@ sets-exact = record {
   contains = λ set uuid tag gno. set-exact (λ l. contained l uuid tag gno .refusal) set refl (λ s. refl);
   «take_in» = λ body out are. writes-exactly (takenIn (previous body)) out (TakeInFault body) (TakenInAs body) (take-in-given body are)
       (take-in-forced body are) (take-in-writes body are) (take-in-written body are);
+  «list_set» = λ word set out. writes-exactly (listedSet word (lentSet set)) out (SetFault set) _ (text-given word set) (text-forced word set)
+      (text-writes word set) (text-written word set);
 }
 
 -- ---- `offer`

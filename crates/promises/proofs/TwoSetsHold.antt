@@ -301,18 +301,13 @@ module _ (op : Bool → Bool → Bool) (none : op false false ≡ false) (iss js
   too-great f l g m great =
       let i = uuids-laid iss f l in
       let j = uuids-laid jss g m in
-      let is = keeps-combined op none (uuids 0 iss) (uuids 0 jss) (i .formed) (j .formed) in
-      record {
-        first = bodyBytes (uuids 0 iss);
-        second = bodyBytes (uuids 0 jss);
-        s = uuids 0 iss;
-        t = uuids 0 jss;
-        one = i;
-        two = j;
-        refused = limits-refuse (combined op (uuids 0 iss) (uuids 0 jss)) great
+      let is = keeps-combined op none (uuids 0 iss) (uuids 0 jss) (i .formed) (j .formed) in (
+        bodyBytes (uuids 0 iss),
+        bodyBytes (uuids 0 jss),
+        limits-refuse (combined op (uuids 0 iss) (uuids 0 jss)) great
             (λ over this. rw this (CombineFault.crowdedEntry i j is over))
-            (λ over this. rw this (CombineFault.overLimits i j is over));
-      }
+            (λ over this. rw this (CombineFault.overLimits i j is over)),
+      )
 
 crowds-entry : Exceeding either 17 × Exceeding both 17 × Exceeding without 17
 unfolding spread gnoTop maxEntries maxIntervals maxOfEntry judged limits
@@ -334,9 +329,6 @@ fills-set = (
 pub two-sets : TwoSets
 two-sets = record {
   results = results-exactly;
-  either = results-exactly either refl;
-  both = results-exactly both refl;
-  without = results-exactly without refl;
   within = compares-exactly;
   members = λ op first second out none zero. result-of op none first second out zero;
   empty = empty-exactly;
@@ -346,8 +338,5 @@ two-sets = record {
   joined = λ s es f good.
       let l = lawful-holds es good in
       rw (join-is-either es s l f) (keeps-combined either refl s (takeIn es) f (form-takeIn es l));
-  «gtid_either» = results-exactly either refl;
-  «gtid_both» = results-exactly both refl;
-  «gtid_without» = results-exactly without refl;
   «gtid_within» = numbers-exactly;
 }

@@ -1,19 +1,18 @@
--- Demand 1, "given exactly when": every public function that can refuse, by its name. Its answer is the right side of the function's own promise, and it
--- refuses with a number exactly where the case of that number holds. From this follows that no two cases with different numbers hold at once, and that
+-- Demand 1, "given exactly when": every public function that can refuse, by its name, and once where some promise the same. Its answer is the right side of
+-- the function's own promise, and it refuses with a number exactly where the case of that number holds. From this follows that no two cases with different numbers hold at once, and that
 -- a call accepts exactly where no case holds (`one-case` and `accepted` of proofs/OneOutcome.antt).
-use Prim.Native.Nat.{ℕ, _+_, _*_}
+use Prim.Native.Nat.{ℕ, _+_, _*_, _≤_}
 use mathlib.Core.Path.{_≡_}
 use mathlib.Core.Bool.{Bool, true, false}
 use mathlib.Core.List.{List, _++_}
-use lib.IntN.{ℤ}
 use lib.ListN.{length, drop}
 use Rattle.misc.specs.declared.Wrote.{Wrote}
 use Rattle.misc.specs.Parse.{Bytes, uintRead}
 use Rattle.misc.specs.Body.{ofBody}
-use Rattle.misc.specs.Le.{leAt, leBytes}
-use Rattle.misc.specs.Varlen.{varlenAt, varlenBytes}
-use Rattle.misc.specs.Signed.{sentAs, signedAt, naturalAt, intRead}
-use Rattle.misc.specs.Lenenc.{lenencAt, lenencBytes}
+use Rattle.misc.specs.Le.{leAt}
+use Rattle.misc.specs.Varlen.{varlenAt}
+use Rattle.misc.specs.Signed.{signedAt, naturalAt, intRead}
+use Rattle.misc.specs.Lenenc.{lenencAt}
 use Rattle.misc.specs.Output.{bytes, answerOf}
 use Rattle.previous_gtids_event.specs.Entry.{Entry}
 use Rattle.packets.specs.Tag.{noneOrTag}
@@ -33,7 +32,6 @@ use Rattle.set_check.specs.Check.{checkedOf}
 use Rattle.resume_set.specs.Answers.{setRead, contained, takeInAnswers, offerAnswers, offerLeaves}
 use Rattle.resume_set.specs.declared.Offered.{Offered}
 use Rattle.listing.specs.SetText.{setText, listedSet}
-use Rattle.listing.specs.EventText.{eventText, listing}
 use Rattle.abi.specs.Answers.{numbersOf, entryIn}
 use Rattle.abi.specs.Flat.{flat, flatRead, readOutput, readUsed, writeOutput}
 use Rattle.resume_set_laws.specs.History.{Turn, Offering, member}
@@ -58,21 +56,15 @@ WritesExactly wrote Fault = (n len : ℕ) → Exactly ((wrote .refusal ≡ n) ×
 -- ---- misc
 
 pub record IntegersExact : Type 0 where
-  pub «read_u32_le» : (s : List ℕ) (at : ℕ) → RefusesExactly (uintRead (leAt 4 s at) .refusal) (FixedFault 4 (drop at s))
-  pub «read_u56_le» : (s : List ℕ) (at : ℕ) → RefusesExactly (uintRead (leAt 7 s at) .refusal) (FixedFault 7 (drop at s))
-  pub «read_u64_le» : (s : List ℕ) (at : ℕ) → RefusesExactly (uintRead (leAt 8 s at) .refusal) (FixedFault 8 (drop at s))
+  -- `read_u32_le`, `read_u56_le` and `read_u64_le`
+  pub fixed : (w : ℕ) → 1 ≤ w → (s : List ℕ) (at : ℕ) → RefusesExactly (uintRead (leAt w s at) .refusal) (FixedFault w (drop at s))
   pub «read_varlen_uint» : (s : List ℕ) (at : ℕ) → Bytes s → RefusesExactly (uintRead (varlenAt s at) .refusal) (VarlenFault (drop at s))
   pub «read_varlen_int» : (s : List ℕ) (at : ℕ) → Bytes s → RefusesExactly (intRead (signedAt s at) .refusal) (VarlenFault (drop at s))
   pub «read_varlen_natural» : (s : List ℕ) (at : ℕ) → Bytes s → RefusesExactly (uintRead (naturalAt s at) .refusal) (NaturalFault (drop at s))
   pub «read_lenenc_int» : (s : List ℕ) (at : ℕ) → Bytes s → RefusesExactly (uintRead (lenencAt s at) .refusal) (LenencFault (drop at s))
-  pub «write_bytes» : (source out : List ℕ) → WritesExactly (answerOf out (bytes source)) (ShortFault source (length out))
-  pub «write_u32_le» : (value : ℕ) (out : List ℕ) → WritesExactly (answerOf out (bytes (leBytes 4 value))) (ShortFault (leBytes 4 value) (length out))
-  pub «write_u56_le» : (value : ℕ) (out : List ℕ) → WritesExactly (answerOf out (bytes (leBytes 7 value))) (ShortFault (leBytes 7 value) (length out))
-  pub «write_u64_le» : (value : ℕ) (out : List ℕ) → WritesExactly (answerOf out (bytes (leBytes 8 value))) (ShortFault (leBytes 8 value) (length out))
-  pub «write_varlen_uint» : (value : ℕ) (out : List ℕ) → WritesExactly (answerOf out (bytes (varlenBytes value))) (ShortFault (varlenBytes value) (length out))
-  pub «write_varlen_int» : (value : ℤ) (out : List ℕ)
-      → WritesExactly (answerOf out (bytes (varlenBytes (sentAs value)))) (ShortFault (varlenBytes (sentAs value)) (length out))
-  pub «write_lenenc_int» : (value : ℕ) (out : List ℕ) → WritesExactly (answerOf out (bytes (lenencBytes value))) (ShortFault (lenencBytes value) (length out))
+  -- whatever has its bytes to write, whatever it is given: `write_bytes`, `write_u32_le`, `write_u56_le`, `write_u64_le`, `write_varlen_uint`,
+  -- `write_varlen_int`, `write_lenenc_int`; `list` and `list_input` of listing, `write` of report; `gtid_list`
+  pub write : (bs out : List ℕ) → WritesExactly (answerOf out (bytes bs)) (ShortFault bs (length out))
 
 -- ---- gtid_event, gtid_event_read, gtid_event_write
 
@@ -102,13 +94,13 @@ pub record BodiesExact : Type 0 where
 
 pub record ReaderExact : Type 0 where
   pub start : (body : List ℕ) → RefusesExactly (startOf body .refusal) (OfBody body (FixedFault 8 body))
+  -- `next`, which holds its body, promises the same
   pub «step_at» : (body : List ℕ) (c : Cursor) → Bytes body
       → RefusesExactly (stepOf body c .entry .refusal) (OfBody body (HeadedFault (c .left) (c .at) body))
-  pub next : (body : List ℕ) (c : Cursor) → Bytes body → RefusesExactly (stepOf body c .entry .refusal) (OfBody body (HeadedFault (c .left) (c .at) body))
   pub «entry_number» : (body : List ℕ) (index : ℕ) → Bytes body
       → RefusesExactly (stepAfter body index .entry .refusal) (OfBody body (NumberFault index body))
 
--- ---- set_check and resume_set
+-- ---- set_check, resume_set and listing
 
 pub record SetsExact : Type 0 where
   pub check : (set : List ℕ) → RefusesExactly (checkedOf (lentSet set) .refusal) (SetFault set)
@@ -116,15 +108,9 @@ pub record SetsExact : Type 0 where
   pub contains : (set uuid tag : List ℕ) (gno : ℕ) → RefusesExactly (contained (lentSet set) uuid tag gno .refusal) (SetFault set)
   pub «take_in» : (body out : List ℕ) → Bytes body
       → WritesExactly (takeInAnswers body out) (WriteFault (TakeInFault body) (TakenInAs body) (length out))
-
--- ---- listing
-
-pub record ListingExact : Type 0 where
   pub «list_set» : (word set out : List ℕ)
       → WritesExactly (answerOf out (listedSet word (lentSet set)))
       (WriteFault (SetFault set) (λ bs. (s : List Entry) × SetLaid set s × (bs ≡ setText word s)) (length out))
-  pub list : (type : ℕ) (body out : List ℕ) → WritesExactly (answerOf out (bytes (eventText type body))) (ShortFault (eventText type body) (length out))
-  pub «list_input» : (input out : List ℕ) → WritesExactly (answerOf out (bytes (listing input))) (ShortFault (listing input) (length out))
 
 -- ---- `offer`, and any in its place: every answer, and what it leaves in the output, exactly where its case holds
 
@@ -154,29 +140,18 @@ pub data FlatFault (fields : List ℕ) : ℕ → Type 0 where
   otherSize : (length fields ≡ 116 → ⊥) → FlatFault fields 12
   badRecord : {n : ℕ} → length fields ≡ 116 → RecordFault (flatRead fields) n → FlatFault fields n
 
--- a record that is read into 116 bytes: what is answered for 13 in the place of the bytes used is the length that is needed
-abbrev pub FlatReadExact : Type 0
-FlatReadExact = (type : ℕ) (body out : List ℕ) → Bytes body
-    → WritesExactly (record { refusal = answerOf out (readOutput (gtid type body)) .refusal; len = readUsed (gtid type body) (length out) })
-    (WriteFault (EventFault type body) (λ bs. (x : Seen) × (used : ℕ) × RecordLaid type body x used × (bs ≡ flat (x .event))) (length out))
-
+-- `gtid_read_varlen_uint`, `gtid_check_set`, `gtid_contains`, `gtid_take_in`, `gtid_read_previous` and `gtid_rewrite` promise the right sides of the calls
+-- that they are named for (the first at the place 0), and so what is said of those holds of them
 pub record ArchiveExact : Type 0 where
-  pub «gtid_read_varlen_uint» : (s : List ℕ) → Bytes s → RefusesExactly (uintRead (varlenAt s 0) .refusal) (VarlenFault s)
-  pub «gtid_check_set» : (set : List ℕ) → RefusesExactly (setRead (lentSet set) .refusal) (SetFault set)
-  pub «gtid_contains» : (set uuid tag : List ℕ) (gno : ℕ) → RefusesExactly (contained (lentSet set) uuid tag gno .refusal) (SetFault set)
-  pub «gtid_take_in» : (body out : List ℕ) → Bytes body
-      → WritesExactly (takeInAnswers body out) (WriteFault (TakeInFault body) (TakenInAs body) (length out))
-  pub «gtid_read_previous» : (body : List ℕ) → Bytes body → RefusesExactly (previousRead (previous body) .refusal) (BodyFault body)
   pub «gtid_read_entry» : (body : List ℕ) (at : ℕ) → Bytes body → RefusesExactly (entryRead (entryIn body at) .refusal) (OfBody body (HeadedFault 1 at body))
-  pub «gtid_rewrite» : (body out : List ℕ) → Bytes body
-      → WritesExactly (answerOf out (rewritten (previous body))) (WriteFault (BodyFault body) (RewrittenAs body) (length out))
-  pub «gtid_list» : (input out : List ℕ) → WritesExactly (answerOf out (bytes (listing input))) (ShortFault (listing input) (length out))
   -- its numbers tell every answer from every other
   pub «gtid_offer» : (set : List ℕ) (type : ℕ) (body out : List ℕ) (a : Offered) (l : List ℕ) → Bytes body
       → Exactly ((numbersOf (offerAnswers set type body out) ≡ numbersOf a)
       × (offerLeaves set type body out ≡ l)) (OfferAnswer set type body out a l)
-  pub «gtid_read» : FlatReadExact
-  pub «gtid_read_present» : FlatReadExact
+  -- a record that is read into 116 bytes, also by `gtid_read_present`: what is answered for 13 in the place of the bytes used is the length that is needed
+  pub «gtid_read» : (type : ℕ) (body out : List ℕ) → Bytes body
+      → WritesExactly (record { refusal = answerOf out (readOutput (gtid type body)) .refusal; len = readUsed (gtid type body) (length out) })
+      (WriteFault (EventFault type body) (λ bs. (x : Seen) × (used : ℕ) × RecordLaid type body x used × (bs ≡ flat (x .event))) (length out))
   pub «gtid_write» : (fields out : List ℕ)
       → WritesExactly (answerOf out (writeOutput fields))
       (WriteFault (FlatFault fields) (λ bs. (length fields ≡ 116) × (writable (flatRead fields) ≡ true) × (bs ≡ eventBytes (flatRead fields))) (length out))

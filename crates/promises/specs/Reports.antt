@@ -22,7 +22,7 @@ use Rattle.report.specs.Text.{setWord, sumWord, reportText}
 use Rattle.report.specs.declared.Line.{Line}
 use Rattle.report.specs.declared.Counts.{Counts}
 use Rattle.abi.specs.FlatReport.{reportIn, flatAdds, flatLeaves, flatRefusal, flatSum, flatText}
-use Rattle.promises.specs.PlainFaults.{ShortFault, WriteFault}
+use Rattle.promises.specs.PlainFaults.{WriteFault}
 use Rattle.promises.specs.SetFaults.{SetFault}
 use Rattle.promises.specs.Exact.{Exactly, RefusesExactly, WritesExactly}
 
@@ -147,9 +147,6 @@ pub record Reports : Type 0 where
   pub totals : CountsMembers
   pub report : ReportsExactly ourReport
   pub «line_of» : (set : List ℕ) (l : Line) → Exactly (lineOf (lentSet set) ≡ l) (Told set l)
-  -- 13 exactly if the output is shorter than the text, whose length is told; it says nothing of the sets, and the report is the same as before
-  pub write : (sets : List (List ℕ)) (out : List ℕ)
-      → WritesExactly (answerOf out (bytes (ourReport .text sets))) (ShortFault (ourReport .text sets) (length out))
-  -- no report is longer
+  -- no report is longer. (`write` is `write` of `IntegersExact`: 13 says nothing of the sets, and the report is the same as before)
   pub longest : (sets : List (List ℕ)) → length (ourReport .text sets) ≤ 2476
   pub archive : ArchiveReports

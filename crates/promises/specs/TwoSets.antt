@@ -104,25 +104,15 @@ ComparesExactly f = (first second : List ℕ) (r : AllWithin) → Exactly (f fir
 
 -- ---- a result that is too great
 
--- two sets within the limits, whose result is refused with n
-pub record Exceeding (op : Bool → Bool → Bool) (n : ℕ) : Type 0 where
-  pub first : List ℕ
-  pub second : List ℕ
-  pub s : List Entry
-  pub t : List Entry
-  pub one : SetLaid first s
-  pub two : SetLaid second t
-  pub refused : CombineFault op first second n
+-- two sets within the limits (else it is 14), whose result is refused with n
+abbrev pub Exceeding : (Bool → Bool → Bool) → ℕ → Type 0
+Exceeding op n = (first : List ℕ) × (second : List ℕ) × CombineFault op first second n
 
 -- ---- together
 
 pub record TwoSets : Type 0 where
-  -- of any operation that keeps no id which is in neither set
+  -- of any operation that keeps no id which is in neither set, and so of `either`, `both` and `without`, and of the archive's calls, which promise the same
   pub results : (op : Bool → Bool → Bool) → op false false ≡ false → CombinesExactly op (ourCalls op)
-  -- so by their names
-  pub either : CombinesExactly ops.either (ourCalls ops.either)
-  pub both : CombinesExactly ops.both (ourCalls ops.both)
-  pub without : CombinesExactly ops.without (ourCalls ops.without)
   pub within : ComparesExactly withinAnswers
   -- a result that was written is a set, and these are its members
   pub members : (op : Bool → Bool → Bool) (first second out : List ℕ) → op false false ≡ false → combineAnswers op first second out .refusal ≡ 0
@@ -138,9 +128,6 @@ pub record TwoSets : Type 0 where
   pub full : Exceeding ops.either 16 × Exceeding ops.both 16 × Exceeding ops.without 16
   -- a body's ids joined to a set: the ids in either, of the set and of what taking in gives
   pub joined : (s es : List Entry) → SetForm s → lawful es ≡ true → Keeps ops.either s (takeIn es) (union es s)
-  -- the archive's calls promise the same right sides; its numbers tell every answer of `within` from every other, 1 being yes
-  pub «gtid_either» : CombinesExactly ops.either (ourCalls ops.either)
-  pub «gtid_both» : CombinesExactly ops.both (ourCalls ops.both)
-  pub «gtid_without» : CombinesExactly ops.without (ourCalls ops.without)
+  -- the archive's numbers tell every answer of `within` from every other, 1 being yes
   pub «gtid_within» : (first second : List ℕ) (r : AllWithin)
       → Exactly ((withinAnswers first second .refusal ≡ r .refusal) × (bit (withinAnswers first second .all) ≡ pick (r .all) 1 0)) (WithinAnswer first second r)

@@ -155,11 +155,11 @@ counts-inputs-out exactly =
 -- ---- results that are not judged
 
 unjudged-says : (n : ℕ) → 0 < n → Exceeding either n → CombinesExactly either (unjudged n) → ⊥
-unjudged-says n some e exactly =
-    let answer : CombineAnswer either (e .first) (e .second) [] (record { refusal = n; len = 0 }) [] = CombineAnswer.refused (WriteFault.itself (e .refused)) in
-    let (ours, _) = results-exactly either refl (e .first) (e .second) [] _ _ .1 answer in
-    let (says, _) = exactly (e .first) (e .second) [] _ _ .1 answer in
-    let this : eqb (combineAnswers either (e .first) (e .second) [] .refusal) n ≡ true = rw ours (eq-eqb n n refl) in
+unjudged-says n some (first, second, refused) exactly =
+    let answer : CombineAnswer either first second [] (record { refusal = n; len = 0 }) [] = CombineAnswer.refused (WriteFault.itself refused) in
+    let (ours, _) = results-exactly either refl first second [] _ _ .1 answer in
+    let (says, _) = exactly first second [] _ _ .1 answer in
+    let this : eqb (combineAnswers either first second [] .refusal) n ≡ true = rw ours (eq-eqb n n refl) in
     let differs : _≡_ {A = ℕ} 0 n = sym (rw this) ∙ ap (λ (w : Wrote). w .refusal) says in
     omega arith
 
