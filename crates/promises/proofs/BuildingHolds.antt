@@ -103,12 +103,15 @@ new-tagged : (sid tag : List ℕ) (gno : ℕ) → isTag tag ≡ true → serverV
 unfolding newTagged
 new-tagged sid tag gno is = kept tag (fresh sid gno 0 undefinedVersion) is
 
+pub zeros-kept : (sid tag : List ℕ) (gno : ℕ) → isTag tag ≡ true
+    → serverVersions (withTag tag (setNumber 9 0 (setNumber 10 0 (newUntagged sid gno))) .event) ≡ 0 ∷ 0 ∷ []
+zeros-kept sid tag gno is = kept tag (setNumber 9 0 (setNumber 10 0 (newUntagged sid gno))) is
+
 pub building : Building
 building = record {
   built = built;
   untagged = λ s e used none sid gno. rw (absent-versions none);
   tagged = λ tag is s e used none sid gno. rw (absent-versions none) (new-tagged sid tag gno is);
   kept = kept;
-  zeros-kept = λ sid tag gno is. kept tag (setNumber 9 0 (setNumber 10 0 (newUntagged sid gno))) is;
   written = λ sid gno size are few. (bare-output sid gno, bare-long sid gno size, bare-back sid gno size are few);
 }

@@ -15,7 +15,7 @@ use Rattle.gtid_sets.specs.Limits.{intervals}
 use Rattle.gtid_sets.specs.Lent.{Lent, form, unfit, lentSet}
 use Rattle.gtid_sets.specs.Total.{total}
 use Rattle.gtid_sets.proofs.LentLaws.{lent-is, is-lent}
-use Rattle.gtid_sets.proofs.TotalLaws.{total-counts, total-named, same-total, part-total, either-total}
+use Rattle.gtid_sets.proofs.TotalLaws.{total-counts, total-named, part-total, either-total}
 use Rattle.report.specs.Report.{highWord, lowWord, refusedLine, lineOf, idsOf, maxSets, linesOf, added, summed, sumOf}
 use Rattle.report.specs.Built.{withSets, reportOver, linesFor}
 use Rattle.report.specs.Text.{sumWord, countsText, lineText, linesText, reportText, longestReport}
@@ -30,7 +30,8 @@ use Rattle.abi.specs.FlatReport.{reportIn, flatAdds, flatLeaves, flatRefusal, f
 use Rattle.abi.proofs.FlatReportLaws.{no-report, no-place, place-cases, adds-here, adds-none, sum-none, flat-there}
 use Rattle.abi.proofs.FlatReportBack.{adds-alike, zeros-new}
 use Rattle.promises.specs.Exact.{Exactly}
-use Rattle.promises.specs.Reports.{CountsMembers, lentNumber, lentSum, noNumbers, Told, AddAnswer, NumbersLine, SetLine, Lines, ReportsExactly, ourReport, flatOver, zeros, NoReport, ArchiveReports, Reports}
+use Rattle.resume_set_laws.specs.History.{lentNumber}
+use Rattle.promises.specs.Reports.{CountsMembers, lentSum, noNumbers, Told, AddAnswer, NumbersLine, SetLine, Lines, ReportsExactly, ourReport, flatOver, zeros, NoReport, ArchiveReports, Reports}
 use Rattle.promises.proofs.Exactly.{judges-exactly, writes-exactly}
 use Rattle.promises.proofs.Forces.{WriterRefuses}
 use Rattle.promises.proofs.SetsExact.{apart, unfit-fault, fault-unfit}
@@ -39,7 +40,6 @@ totals : CountsMembers
 totals = record {
   counts = total-counts;
   named = total-named;
-  same = λ s t f g m. same-total s t f g m;
   part = part-total;
   twice = λ s t f g. either-total s t f g;
 }

@@ -74,16 +74,9 @@ pub record BodiesTold : Type 0 where
   -- an entry's parts, where its intervals begin, and where it ends
   pub entry : (body : List ℕ) (at : ℕ) (tagged : Bool) (uuid tag : List ℕ) (is : List Interval) (laid rest : List ℕ) → length body ≤ bodyLimit
       → length uuid ≡ 16 → EntryLaid tagged (entry (uuid ++ tag) is) laid → drop at body ≡ laid ++ rest
-      → entryRead (ofBody body (entryAt tagged body at))
-      ≡ record {
-        refusal = 0;
-        uuid = uuid;
-        tag = padded 32 tag;
-        «tag_len» = length tag;
-        intervals = length is;
-        first = at + length laid - 16 * length is;
-        next = at + length laid;
-      }
+      → let next : ℕ = at + length laid in
+      entryRead (ofBody body (entryAt tagged body at))
+      ≡ record { refusal = 0; uuid = uuid; tag = padded 32 tag; «tag_len» = length tag; intervals = length is; first = next - 16 * length is; next = next }
   pub interval : (body : List ℕ) (at start end : ℕ) (a b rest : List ℕ) → length body ≤ bodyLimit → Number 8 start a → Number 8 end b
       → drop at body ≡ a ++ (b ++ rest)
       → intervalRead (ofBody body (intervalAt body at)) ≡ record { refusal = 0; start = start; end = end }

@@ -8,7 +8,7 @@ use Rattle.misc.specs.Parse.{Bytes, parsed}
 use Rattle.misc.specs.Le.{leBytes}
 use Rattle.misc.specs.Output.{bytes}
 use Rattle.packets.specs.Tag.{isTag}
-use Rattle.gtid_event.specs.Event.{newUntagged, newTagged, withTag, setNumber, setTypecode}
+use Rattle.gtid_event.specs.Event.{newUntagged, newTagged, withTag, setTypecode}
 use Rattle.gtid_event.specs.Parts.{Built}
 use Rattle.gtid_event.specs.declared.EventStep.{EventStep}
 use Rattle.gtid_event.specs.declared.GtidEvent.{GtidEvent}
@@ -53,10 +53,8 @@ pub record Building : Type 0 where
   -- tagged or not, a new record has the versions that a reader gives where none were sent
   pub untagged : NewVersions newUntagged
   pub tagged : (tag : List ℕ) → isTag tag ≡ true → NewVersions (λ sid gno. newTagged sid tag gno .event)
-  -- a tag keeps the versions that it finds, also those that were set to 0
+  -- a tag keeps the versions that it finds, also those that were set to 0 (`zeros-kept` of proofs/BuildingHolds.antt)
   pub kept : KeepsVersions withTag
-  pub zeros-kept : (sid tag : List ℕ) (gno : ℕ) → isTag tag ≡ true
-      → serverVersions (withTag tag (setNumber 9 0 (setNumber 10 0 (newUntagged sid gno))) .event) ≡ 0 ∷ 0 ∷ []
   -- without its typecode a new untagged record is written, as 25 bytes, and comes back equal from them
   pub written : (sid : List ℕ) (gno : ℕ) → length sid ≡ 16 → Bytes sid → gno < 2 ^ 64
       → (eventOutput (bare sid gno) ≡ bytes (bareBytes sid gno))

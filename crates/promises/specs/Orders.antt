@@ -31,13 +31,11 @@ use Rattle.gtid_event_write.specs.Write.{eventOutput, lengthOf}
 use Rattle.gtid_sets.specs.Set.{has, add}
 use Rattle.gtid_sets.specs.TakeIn.{lawful, takeIn}
 use Rattle.gtid_sets.specs.Limits.{EntryOver}
-use Rattle.gtid_sets.specs.Lent.{Lent, form, unfit, lentSet, SetLaid}
+use Rattle.gtid_sets.specs.Lent.{unfit, lentSet, SetLaid}
 use Rattle.set_check.specs.Check.{checkedOf}
 use Rattle.resume_set.specs.Answers.{setRead, contained, saved, takenIn, eventOf, offered, output}
 use Rattle.resume_set.specs.declared.Offered.the-variants.{Refused}
-use Rattle.two_sets.specs.Answers.{withinRead, headRead, partOf}
 use Rattle.two_sets.specs.declared.Choice.the-variants.{Refused}
-use Rattle.abi.specs.Answers.{headNumbers}
 use Rattle.abi.specs.Flat.{flat}
 use Rattle.promises.specs.Faults.{EventFault}
 use Rattle.promises.specs.Meaning.{RecordLaid}
@@ -109,17 +107,10 @@ pub record Zeros (r : Refusal) : Type 0 where
   -- nothing is handed out as the unread part
   pub event-rest : (s : List ℕ) → unreadOf {A = GtidEvent} s (refuse r) ≡ []
   pub previous-rest : (s : List ℕ) → unreadOf {A = List Entry} s (refuse r) ≡ []
-  -- bytes that are no set
+  -- bytes that are no set. (Over two sets every part of the answer is told in `WithinAnswer`, `HandedBack` and `HeadTold`)
   pub checked : checkedOf unfit ≡ record { refusal = 14; tagged = false; entries = 0; intervals = 0 }
   pub set : setRead unfit ≡ record { refusal = 14; entries = 0; intervals = 0 }
   pub asked : (uuid tag : List ℕ) (gno : ℕ) → contained unfit uuid tag gno ≡ record { refusal = 14; present = false }
-  pub first-of-two : (second : Lent) → withinRead unfit second ≡ record { refusal = 14; all = false }
-  pub second-of-two : (s : List Entry) → withinRead (form s) unfit ≡ record { refusal = 14; all = false }
-  pub first-of-heads : (second : Lent) → headRead unfit second ≡ Refused 14
-  pub second-of-heads : (s : List Entry) → headRead (form s) unfit ≡ Refused 14
-  -- no set is handed back, and the archive names none
-  pub head-part : (first second : List ℕ) → partOf (Refused (number r)) first second ≡ []
-  pub head-numbers : headNumbers (Refused (number r)) ≡ record { refusal = number r; head = 0 }
   -- a tag that breaks the tag rule, and a record that can't be written
   pub step : (tag : List ℕ) (e : GtidEvent) → isTag tag ≡ false → withTag tag e ≡ record { refusal = 6; event = noEvent }
   pub new : (sid tag : List ℕ) (gno : ℕ) → isTag tag ≡ false → newTagged sid tag gno ≡ record { refusal = 6; event = noEvent }

@@ -11,7 +11,7 @@ use Rattle.packets.specs.Key.{Key}
 use Rattle.previous_gtids_event.specs.Entry.{Entry}
 use Rattle.gtid_sets.specs.Set.{has, SetForm}
 use Rattle.gtid_sets.specs.Limits.{intervals}
-use Rattle.gtid_sets.specs.Lent.{Lent, form, unfit, lentSet, SetLaid}
+use Rattle.gtid_sets.specs.Lent.{lentSet, SetLaid}
 use Rattle.gtid_sets.specs.Combine.{either, both, combined}
 use Rattle.gtid_sets.specs.Total.{total, Id, MembersOnce}
 use Rattle.text.specs.Digits.{decimal}
@@ -22,6 +22,7 @@ use Rattle.report.specs.Text.{setWord, sumWord, reportText}
 use Rattle.report.specs.declared.Line.{Line}
 use Rattle.report.specs.declared.Counts.{Counts}
 use Rattle.abi.specs.FlatReport.{reportIn, flatAdds, flatLeaves, flatRefusal, flatSum, flatText}
+use Rattle.resume_set_laws.specs.History.{lentNumber}
 use Rattle.promises.specs.PlainFaults.{WriteFault}
 use Rattle.promises.specs.SetFaults.{SetFault}
 use Rattle.promises.specs.Exact.{Exactly, RefusesExactly, WritesExactly}
@@ -32,17 +33,12 @@ pub record CountsMembers : Type 0 where
   -- a total is the length of every list that has each member once and nothing else; and there is one
   pub counts : (s : List Entry) (ids : List Id) → SetForm s → MembersOnce s ids → length ids ≡ total s
   pub named : (s : List Entry) → SetForm s → (ids : List Id) × MembersOnce s ids
-  -- so sets with the same members have equal totals, a part's is at most the whole's,
-  pub same : (s t : List Entry) → SetForm s → SetForm t → ((k : Key) (n : ℕ) → has s k n ≡ has t k n) → total s ≡ total t
+  -- so a part's total is at most the whole's, and sets with the same members, each a part of the other, have equal ones;
   pub part : (s t : List Entry) → SetForm s → SetForm t → ((k : Key) (n : ℕ) → has s k n ≡ true → has t k n ≡ true) → total s ≤ total t
-  -- and what is in both of two sets is what their totals count twice
+  -- what is in both of two sets is what their totals count twice
   pub twice : (s t : List Entry) → SetForm s → SetForm t → total (combined either s t) + total (combined both s t) ≡ total s + total t
 
--- ---- numbers over sets, of which those that are none add nothing
-
-abbrev pub lentNumber : (List Entry → ℕ) → Lent → ℕ
-lentNumber f (form s) = f s
-lentNumber f unfit = 0
+-- ---- sums over sets, of which those that are none add nothing
 
 abbrev pub lentSum : (List Entry → ℕ) → List (List ℕ) → ℕ
 lentSum f [] = 0

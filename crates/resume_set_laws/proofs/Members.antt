@@ -8,7 +8,7 @@ use Rattle.previous_gtids_event.specs.Entry.{Entry}
 use Rattle.gtid_sets.specs.Lent.{form, lentSet}
 use Rattle.gtid_sets.specs.Total.{total}
 use Rattle.gtid_sets.proofs.LentLaws.{is-lent}
-use Rattle.resume_set_laws.specs.History.{Turn, kept, keptAll, All, comesTo, OfBytes, TellsHistory, takings, lentTotal, CountsTaken}
+use Rattle.resume_set_laws.specs.History.{Turn, kept, keptAll, All, comesTo, OfBytes, TellsHistory, takings, lentNumber, CountsTaken}
 use Rattle.resume_set_laws.specs.Ours.{ours}
 use Rattle.resume_set_laws.proofs.AnyRun.{EachKeeps, tells-from}
 use Rattle.resume_set_laws.proofs.OneOffer.{KeepsOne, good-said, one-offer}
@@ -25,7 +25,7 @@ tells-history = tells-from OfBytes (comesTo ours) each-keeps
 -- ---- how many there are
 
 counted : (set : List ℕ) (s : List Entry) (ts : List Turn) → lentSet set ≡ form s → All OfBytes ts
-    → lentTotal (lentSet (keptAll (comesTo ours) set ts)) ≡ total s + takings ours set ts
+    → lentNumber total (lentSet (keptAll (comesTo ours) set ts)) ≡ total s + takings ours set ts
 counted set s [] lent ok = rw lent (omega arith)
 counted set s (t ∷ ts) lent ok =
     let one = offer-keeps set s t lent (ok .0) in

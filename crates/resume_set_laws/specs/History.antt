@@ -189,12 +189,12 @@ abbrev pub takings : Offering → List ℕ → List Turn → ℕ
 takings f set [] = 0
 takings f set (t ∷ ts) = takes (f .answers set t) + takings f (kept (comesTo f) set t) ts
 
--- how many ids some bytes have that are a set
-abbrev pub lentTotal : Lent → ℕ
-lentTotal (form s) = total s
-lentTotal unfit = 0
+-- a number of a set, and 0 for what is none
+abbrev pub lentNumber : (List Entry → ℕ) → Lent → ℕ
+lentNumber f (form s) = f s
+lentNumber f unfit = 0
 
 -- over any offers to a set the number of its ids grows by that of the answers "taken"
 abbrev pub CountsTaken : Offering → Type 0
 CountsTaken f = (set : List ℕ) (s : List Entry) (ts : List Turn) → SetLaid set s → All OfBytes ts
-    → lentTotal (lentSet (keptAll (comesTo f) set ts)) ≡ total s + takings f set ts
+    → lentNumber total (lentSet (keptAll (comesTo f) set ts)) ≡ total s + takings f set ts

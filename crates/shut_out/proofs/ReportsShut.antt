@@ -18,7 +18,7 @@ use Rattle.gtid_sets.specs.Total.{total}
 use Rattle.gtid_sets.proofs.LentLaws.{lent-is}
 use Rattle.report.specs.Report.{highWord, lowWord, maxSets}
 use Rattle.report.specs.declared.Line.{Line}
-use Rattle.resume_set_laws.specs.History.{keptAll, Turn, comesTo, lentTotal, CountsTaken}
+use Rattle.resume_set_laws.specs.History.{keptAll, Turn, comesTo, lentNumber, CountsTaken}
 use Rattle.promises.specs.Reports.{lentSum, noNumbers, AddAnswer, ReportsExactly, ourReport}
 use Rattle.shut_out.specs.WrongOnes.{copiesItsSet, alone, allNumbers, losesCarry, countsOnce, countsRefused, forgetsRefused, readsOn, tellsNoNumbers}
 use Rattle.promises.proofs.ReportsHold.{report-holds}
@@ -89,7 +89,7 @@ empty-lent : lentSet (bodyBytes []) ≡ form []
 unfolding many bytesAt byteAt bodyLimit leOf leBytes leAt saysTagged saysCount previous entriesBytes anyTag headerBytes bodyBytes maxEntries maxIntervals judged limits lentSet
 empty-lent = refl
 
-copied : lentTotal (lentSet (keptAll (comesTo copiesItsSet) (bodyBytes []) (nothing ∷ []))) ≡ 0
+copied : lentNumber total (lentSet (keptAll (comesTo copiesItsSet) (bodyBytes []) (nothing ∷ []))) ≡ 0
 unfolding many bytesAt byteAt bodyLimit leOf leBytes leAt saysTagged saysCount previous entriesBytes anyTag headerBytes bodyBytes maxEntries maxIntervals judged limits lentSet outputOf
 copied = refl
 
