@@ -81,7 +81,8 @@ returns c =
     record-is (now (start .args .s)) _ _ _ _ _ _ _ _ _ _ _ _ (start .pre)
     (sid .uuid-bytes .ensures) (gno .number-at .ensures) (tag .tag-bytes .ensures) (typecode .typecode-if .ensures)
     (c .before .before .before .before .before .before .before .number-at2 .ensures) (c .before .before .before .before .before .before .number-at3 .ensures)
-    (c .before .before .before .before .before .number-at4 .ensures) (c .before .before .before .before .number-at5 .ensures) (c .before .before .before .number-at6 .ensures)
+    (c .before .before .before .before .before .number-at4 .ensures) (c .before .before .before .before .number-at5 .ensures)
+    (c .before .before .before .number-at6 .ensures)
     (c .before .before .four-at .ensures) (c .before .four-at2 .ensures) (c .number-at7 .ensures)
 
 pub record-in-spec : {M : Type 1} → statement M
