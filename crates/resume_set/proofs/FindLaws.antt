@@ -15,16 +15,16 @@ use Rattle.packets.specs.Key.{Key, order, orElse, orderRead, _≺_}
 use Rattle.packets.specs.declared.KeyOrder.{KeyOrder}
 use Rattle.packets.specs.declared.KeyOrder.the-variants.{Before, Same, After}
 use Rattle.packets.proofs.Tests.{clash}
-use Rattle.packets.proofs.Keys.{flip, order-eq, order-flip, order-append, after-not-same}
+use Rattle.packets.proofs.Keys.{flip, order-eq, order-flip, order-append, after-not-same, same-self}
 use Rattle.packets.proofs.OrderLaws.{says-before, says-same, says-after}
 use Rattle.previous_gtids_event.specs.Entry.{Entry, entry, tagOf}
 use Rattle.previous_gtids_event.specs.Rewrite.{entriesBytes, anyTag}
-use Rattle.gtid_sets.specs.Interval.{insert}
-use Rattle.gtid_sets.specs.Set.{has, join, SetForm}
+use Rattle.gtid_sets.specs.Interval.{covers, insert}
+use Rattle.gtid_sets.specs.Set.{has, ofKey, join, SetForm}
 use Rattle.gtid_sets.specs.Limits.{summed}
 use Rattle.gtid_sets.specs.Lent.{GoodKeys}
 use Rattle.gtid_sets.proofs.LimitLaws.{summed-append}
-use Rattle.gtid_sets.proofs.SetLaws.{join-before, join-into, join-after, above-misses, entry-has}
+use Rattle.gtid_sets.proofs.SetLaws.{join-before, join-into, join-after, of-key-none, of-key-has}
 use Rattle.gtid_sets.proofs.ByteLaws.{body-least, entriesBytes-append}
 use Rattle.gtid_sets.proofs.Bools.{or-false-parts}
 use Rattle.set_intervals.specs.Intervals.{intervalsAt, intervalsIn, heldIn}
@@ -60,7 +60,7 @@ pub record Passed (bs : List ℕ) (w : Bool) (n : ℕ) (k : Key) (done : ℕ) (c
   pub count : done ≡ length front
   pub all : setOf bs ≡ front ++ entriesLeft bs c
   pub joins : (a b : ℕ) → join k a b (setOf bs) ≡ front ++ join k a b (entriesLeft bs c)
-  pub member : (m : ℕ) → has (setOf bs) k m ≡ has (entriesLeft bs c) k m
+  pub mine : ofKey k (setOf bs) ≡ ofKey k (entriesLeft bs c)
   pub left : CursorIs bs c
   pub alike : c .tagged ≡ w
 
@@ -74,7 +74,7 @@ passed-none bs k c set start =
       count = refl;
       all = sym same;
       joins = λ a b. ap (join k a b) (sym same);
-      member = λ m. rw same;
+      mine = ap (ofKey k) (sym same);
       left = rw (← start) at left;
       alike = refl;
     }
@@ -121,13 +121,14 @@ module _ (bs : List ℕ) (w : Bool) (n : ℕ) (k : Key) (done : ℕ) (c : Cursor
   few-done = omega (arith, x .count, entries, body-least (setOf bs) (x .set .keyed), ap length (x .set .written), x .set .small)
 
   -- the key is not there, and goes before what is left
-  absent : ((a b : ℕ) → join k a b left ≡ entry k (insert a b []) ∷ left) → ((m : ℕ) → has left k m ≡ false)
+  absent : ((a b : ℕ) → join k a b left ≡ entry k (insert a b []) ∷ left) → ofKey k left ≡ []
       → FoundIs bs w k (setOf bs) (absentAt done (c .at))
   absent joins misses = record {
     front = x .front;
     back = left;
     joins = λ a b. x .joins a b ∙ ap (λ (y : List Entry). x .front ++ y) (joins a b);
-    member = λ m. x .member m ∙ misses m;
+    mine = x .mine ∙ misses;
+    member = λ m. of-key-has k (setOf bs) m (x .set .formed);
     gapped = tt;
     index = x .count;
     entries = omega (arith, entries);
@@ -147,7 +148,7 @@ module _ (bs : List ℕ) (w : Bool) (n : ℕ) (k : Key) (done : ℕ) (c : Cursor
   pub passed-all : c .left ≡ 0 → FoundIs bs w k (setOf bs) (absentAt done (c .at))
   passed-all e =
       let none = none-ahead bs c e in
-      absent (λ a b. ap (join k a b) none ∙ ap (λ (y : List Entry). entry k (insert a b []) ∷ y) (sym none)) (λ m. ap (λ (y : List Entry). has y k m) none)
+      absent (λ a b. ap (join k a b) none ∙ ap (λ (y : List Entry). entry k (insert a b []) ∷ y) (sym none)) (ap (ofKey k) none)
 
   module _ (p : EntryPlace) (h : Ahead bs c p) where
     abbrev key : Key
@@ -184,7 +185,7 @@ module _ (bs : List ℕ) (w : Bool) (n : ℕ) (k : Key) (done : ℕ) (c : Cursor
                 x .joins a b
                 ∙ ap (λ (y : List Entry). x .front ++ y) (ap (join k a b) (h .is) ∙ join-after k key a b is back lower)
                 ∙ sym (append-snoc (x .front) (entry key is) (join k a b back));
-            member = λ m. x .member m ∙ ap (λ (y : List Entry). has y k m) (h .is) ∙ rw (after-not-same key k lower);
+            mine = x .mine ∙ ap (ofKey k) (h .is) ∙ rw (after-not-same key k lower);
             left = h .next;
             alike = x .alike;
           }
@@ -194,13 +195,13 @@ module _ (bs : List ℕ) (w : Bool) (n : ℕ) (k : Key) (done : ℕ) (c : Cursor
           → FoundIs bs w k (setOf bs) (record { index = done; at = c .at; here = true; count = p .count; first = p .first; next = p .next })
       found-here same =
           let mine : key ≡ k = order-eq key k (says-same (order key k) (found ∙ same)) in
-          let f : SetForm (entry k is ∷ back) = rw mine at formed in
           let all : left ≡ entry k is ∷ back = h .is ∙ ap (λ (y : Key). entry y is ∷ back) mine in
           record {
             front = x .front;
             back = back;
             joins = λ a b. x .joins a b ∙ ap (λ (y : List Entry). x .front ++ y) (ap (join k a b) all ∙ join-into k a b is back);
-            member = λ m. x .member m ∙ ap (λ (y : List Entry). has y k m) all ∙ entry-has k is back m f;
+            mine = x .mine ∙ ap (ofKey k) all ∙ rw (same-self k);
+            member = λ m. of-key-has k (setOf bs) m (x .set .formed);
             gapped = h .gapped;
             index = x .count;
             entries = omega (arith, entries, ap length all);
@@ -223,7 +224,7 @@ module _ (bs : List ℕ) (w : Bool) (n : ℕ) (k : Key) (done : ℕ) (c : Cursor
           let higher : k ≺ key = order-flip key k ∙ ap flip (says-after (order key k) (found ∙ after)) in
           absent
           (λ a b. ap (join k a b) (h .is) ∙ join-before k key a b is back higher ∙ ap (λ (y : List Entry). entry k (insert a b []) ∷ y) (sym (h .is)))
-          (λ m. ap (λ (y : List Entry). has y k m) (h .is) ∙ above-misses k (entry key is ∷ back) m higher formed)
+          (ap (ofKey k) (h .is) ∙ of-key-none k (entry key is ∷ back) higher formed)
 
 -- ---- the key's own intervals
 
@@ -237,4 +238,4 @@ module _ (bs : List ℕ) (w : Bool) (k : Key) (s : List Entry) (r : Found) (f : 
       ap (λ (n : ℕ). intervalsIn (part bs (r .first) n)) size ∙ intervals-lent (r .count) bs (r .first) (omega (arith, f .end, f .inside))
 
   pub own-held : (n : ℕ) → heldIn n (intervalsIn (own bs r)) ≡ has s k n
-  own-held n = ap (heldIn n) own-is ∙ held-covers 0 n (old bs r) (f .gapped) ∙ sym (f .member n)
+  own-held n = ap (heldIn n) own-is ∙ held-covers 0 n (old bs r) (f .gapped) ∙ ap (λ (is : List Interval). covers is n) (sym (f .mine)) ∙ sym (f .member n)

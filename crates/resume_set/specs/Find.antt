@@ -10,7 +10,7 @@ use Rattle.packets.specs.Key.{Key}
 use Rattle.previous_gtids_event.specs.Entry.{Entry, entry, tagOf}
 use Rattle.previous_gtids_event.specs.Rewrite.{entriesBytes, anyTag}
 use Rattle.gtid_sets.specs.Interval.{covers, Gapped, insert}
-use Rattle.gtid_sets.specs.Set.{has, join}
+use Rattle.gtid_sets.specs.Set.{has, ofKey, join}
 use Rattle.gtid_sets.specs.Limits.{summed, intervals, crowds}
 use Rattle.gtid_sets.specs.Lent.{GoodKeys}
 use Rattle.set_intervals.specs.Intervals.{intervalsAt}
@@ -51,7 +51,8 @@ pub record FoundIs (bs : List ℕ) (w : Bool) (k : Key) (s : List Entry) (r : Fo
   pub front : List Entry
   pub back : List Entry
   pub joins : (a b : ℕ) → join k a b s ≡ front ++ (entry k (insert a b (old bs r)) ∷ back)
-  pub member : (n : ℕ) → has s k n ≡ covers (old bs r) n
+  pub mine : ofKey k s ≡ old bs r
+  pub member : (n : ℕ) → has s k n ≡ covers (ofKey k s) n
   pub gapped : Gapped 0 (old bs r)
   pub index : r .index ≡ length front
   pub entries : length s + added (r .here) ≡ length front + (1 + length back)

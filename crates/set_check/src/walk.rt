@@ -60,6 +60,7 @@ pub fn entries_of(checked: Checked) -> Cursor
     }
 }
 
+// Where the entry at a place stands.
 fn place_at(set: &[u8], at: usize, tagged: bool) -> EntryPlace
     ensures { λ r. ⌜ r ≡ placeIn tagged (now (set .entry)) at ⌝ }
 {
