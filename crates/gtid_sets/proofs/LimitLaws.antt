@@ -12,7 +12,24 @@ use Rattle.packets.specs.Gno.{Interval}
 use Rattle.packets.specs.Key.{Key}
 use Rattle.packets.proofs.Tests.{split, clash, and-true}
 use Rattle.previous_gtids_event.specs.Entry.{Entry, entry}
-use Rattle.gtid_sets.specs.Limits.{maxEntries, maxIntervals, maxOfEntry, summed, intervals, over, crowds, Judged, fine, breaks, isFine, judged, limits, isFull, longestSet, EntryOver}
+use Rattle.gtid_sets.specs.Limits.{
+  maxEntries,
+  maxIntervals,
+  maxOfEntry,
+  summed,
+  intervals,
+  over,
+  crowds,
+  Judged,
+  fine,
+  breaks,
+  isFine,
+  judged,
+  limits,
+  isFull,
+  longestSet,
+  EntryOver,
+}
 
 pub maxEntries-is : maxEntries ≡ 384
 unfolding maxEntries
@@ -67,7 +84,15 @@ entry-over s e none =
 
 later : (n : ℕ) (k : Key) (is : List Interval) (s : List Entry) → EntryOver n s → EntryOver n (entry k is ∷ s)
 later n k is s e =
-    record { front = entry k is ∷ e .front; key = e .key; is = e .is; back = e .back; stands = ap (λ (t : List Entry). entry k is ∷ t) (e .stands); many = e .many }
+    record {
+      front = entry k is ∷ e .front;
+      key = e .key;
+      is = e .is;
+      back = e .back;
+      stands = ap (λ (t : List Entry). entry k is ∷ t) (e .stands);
+      many =
+          e .many;
+    }
 
 -- and what is counted is one
 pub over-entry : (s : List Entry) → (crowds s ≡ 0 → ⊥) → EntryOver maxOfEntry s

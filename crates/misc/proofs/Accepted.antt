@@ -50,7 +50,8 @@ unfolding trailingOnes
 ones-full zero x e = omega arith
 ones-full (suc k) x e = go (ones-full k (x / 2)) (x % 2) refl e
   where
-    go : (k ≡ trailingOnes k (x / 2) → x / 2 % 2 ^ k ≡ 2 ^ k - 1) → (d : ℕ) → x % 2 ≡ d → suc k ≡ above d (trailingOnes k (x / 2)) → x % 2 ^ suc k ≡ 2 ^ suc k - 1
+    go : (k ≡ trailingOnes k (x / 2) → x / 2 % 2 ^ k ≡ 2 ^ k - 1) → (d : ℕ) → x % 2 ≡ d → suc k ≡ above d (trailingOnes k (x / 2))
+        → x % 2 ^ suc k ≡ 2 ^ suc k - 1
     go rest zero p q = absurd (omega arith)
     go rest (suc d) p q =
         let odd : x % 2 ≡ 1 = omega arith in

@@ -64,7 +64,8 @@ pub pick-either {ℓ} : {X : Type ℓ} {A : Type 0} (t : Bool) {a b p : A} → p
 pick-either true e f g = f refl e
 pick-either false e f g = g refl e
 
-pub pick-parsed : {A : Type 0} (t : Bool) (p : Parse A) (r : Refusal) (a : A) (next : ℕ) → pick t p (refuse r) ≡ parsed a next → (t ≡ true) × (p ≡ parsed a next)
+pub pick-parsed : {A : Type 0} (t : Bool) (p : Parse A) (r : Refusal) (a : A) (next : ℕ) → pick t p (refuse r) ≡ parsed a next
+    → (t ≡ true) × (p ≡ parsed a next)
 pick-parsed true p r a next e = (refl, e)
 pick-parsed false p r a next e = never e
 

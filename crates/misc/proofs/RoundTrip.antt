@@ -72,7 +72,10 @@ module _ (pre post : List ℕ) (t v : ℕ) (small : t < 8) (fits : v < 2 ^ (7 * 
       let ones : t ≡ trailingOnes 8 (getD s (length pre) 0) =
       sym (ap (trailingOnes 8) (first-byte pre post t (number t v)) ∙ ones-mod 8 (number t v) ∙ unfold number in ones-of 8 v t small) in
       let value : leOf (part s (length pre) (t + 1)) / 2 ^ (t + 1) ≡ v =
-      rw (bytes-between pre (leBytes (t + 1) (number t v)) post (t + 1) (sym (length-leBytes (t + 1) (number t v))), leOf-leBytes (t + 1) (number t v) number-lt)
+      rw (
+        bytes-between pre (leBytes (t + 1) (number t v)) post (t + 1) (sym (length-leBytes (t + 1) (number t v))),
+        leOf-leBytes (t + 1) (number t v) number-lt,
+      )
       (unfold number in high v (t + 1) trailer) in
       varlen-narrow s (length pre) t (omega arith) ones (omega arith) small ∙ ap (λ (x : ℕ). parsed x (length pre + (t + 1))) value
 

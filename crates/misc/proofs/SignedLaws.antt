@@ -58,12 +58,14 @@ not-below (negsuc n) s t = absurd (let e : _≡_ {A = ℕ} 0 1 = cc in omega ari
 
 -- the machine's value of a negative number, turned
 pub turned : (z : ℤ) → SFits w64 z → ltZ (toZ w64 (ofZ w64 z)) (pos 0) ≡ true
-    → (n : ℕ) × (negsuc 0 -ℤ toZ w64 (ofZ w64 z) ≡ pos n) × (toZ w64 (ofZ w64 (negsuc 0 -ℤ toZ w64 (ofZ w64 z))) ≡ pos n) × (n < 2 ^ 63) × (n * 2 + 1 ≡ sentAs z)
+    → (n : ℕ) × (negsuc 0 -ℤ toZ w64 (ofZ w64 z) ≡ pos n) × (toZ w64 (ofZ w64 (negsuc 0 -ℤ toZ w64 (ofZ w64 z))) ≡ pos n) × (n < 2 ^ 63)
+    × (n * 2 + 1 ≡ sentAs z)
 unfolding sentAs
 turned z s t = go (below-zero z s (subst (λ (y : ℤ). ltZ y (pos 0) ≡ true) (toZ-ofZ s) t))
   where
     go : (n : ℕ) × (z ≡ negsuc n) × (n < 2 ^ 63)
-        → (n : ℕ) × (negsuc 0 -ℤ toZ w64 (ofZ w64 z) ≡ pos n) × (toZ w64 (ofZ w64 (negsuc 0 -ℤ toZ w64 (ofZ w64 z))) ≡ pos n) × (n < 2 ^ 63) × (n * 2 + 1 ≡ sentAs z)
+        → (n : ℕ) × (negsuc 0 -ℤ toZ w64 (ofZ w64 z) ≡ pos n) × (toZ w64 (ofZ w64 (negsuc 0 -ℤ toZ w64 (ofZ w64 z))) ≡ pos n) × (n < 2 ^ 63)
+        × (n * 2 + 1 ≡ sentAs z)
     go b =
         let flip : negsuc 0 -ℤ toZ w64 (ofZ w64 z) ≡ pos (b .0) = ap (λ (y : ℤ). negsuc 0 -ℤ y) (toZ-ofZ s ∙ b .1) ∙ turn-neg (b .0) in
         (b .0, flip, ap (λ (y : ℤ). toZ w64 (ofZ w64 y)) flip ∙ toZ-pos w64 (b .2), b .2, sym (ap sentAs (b .1)))

@@ -200,8 +200,10 @@ module _ (type : ℕ) (body : List ℕ) (said : GtidRead) (is : said ≡ gtidRea
     offer-broken h = let (x, e, n) = named-stopped h in broken-offer bs out type body (said .refusal) x lent e n
 
     module _ (told : said .refusal ≡ 0) where
-      pub offer-none : (d : List ℕ) (w : Wrote) (r : Offered) → type ≡ 34 → bodyBytes (setOf bs) ≡ bs → w ≡ answerOf out (bytes bs) → d ≡ outputOf out (bytes bs)
-          → r ≡ acceptedAs kind.NoId w → (r ≡ offered (lentSet bs) (eventOf type body) (length out)) × (d ≡ outputOf out (output (lentSet bs) (eventOf type body)))
+      pub offer-none : (d : List ℕ) (w : Wrote) (r : Offered) → type ≡ 34 → bodyBytes (setOf bs) ≡ bs → w ≡ answerOf out (bytes bs)
+          → d ≡ outputOf out (bytes bs)
+          → r ≡ acceptedAs kind.NoId w
+          → (r ≡ offered (lentSet bs) (eventOf type body) (length out)) × (d ≡ outputOf out (output (lentSet bs) (eventOf type body)))
       unfolding eventOf
       offer-none d w r t b p q e =
           rw (lent, named-told told, eq-eqb type 34 t, b) (e ∙ ap (acceptedAs kind.NoId) p ∙ told-bytes kind.NoId out bs, q)

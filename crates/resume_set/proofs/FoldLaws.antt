@@ -79,7 +79,8 @@ module _ (held spare : List ℕ) (is : Held) (u t : List ℕ) (a b : ℕ) (h : H
       → (spare′ : List ℕ) (n : ℕ) → WhereFits spare 0 (planRuns (take (is .len) held) u t plan) spare′ n
       → (held′ : List ℕ) → held′ ≡ outputOf held (bytes (take (plan .len) spare′))
       → (was then : ℕ) → was ≡ over (plan .found .count) → then ≡ over (plan .held)
-      → let r : Held = record { tagged = plan .tags; entries = plan .entries; intervals = plan .intervals; crowded = is .crowded - was + then; len = plan .len } in
+      → let r : Held = record
+      { tagged = plan .tags; entries = plan .entries; intervals = plan .intervals; crowded = is .crowded - was + then; len = plan .len } in
       HeldIs held′ r × (heldSet held′ r ≡ join (u ++ t) a b (heldSet held is))
   interval-joined gnos spare′ n put held′ copied was then p q =
       let s = join (u ++ t) a b (heldSet held is) in
@@ -236,7 +237,8 @@ empty = record { tagged = false; entries = 0; intervals = 0; crowded = 0; len = 
 module _ (held : List ℕ) (zeros : take 8 held ≡ 0 ∷ 0 ∷ 0 ∷ 0 ∷ 0 ∷ 0 ∷ 0 ∷ 0 ∷ []) where
   held-empty : HeldIs held empty × (heldSet held empty ≡ [])
   unfolding anyTag
-  held-empty = held-as held [] empty (zeros ∙ sym empty-bytes) tt tt (omega arith) (sym (ap length empty-bytes)) refl (record { count = refl; total = refl; crowd = refl })
+  held-empty = held-as held [] empty (zeros ∙ sym empty-bytes) tt tt (omega arith) (sym (ap length empty-bytes)) refl
+      (record { count = refl; total = refl; crowd = refl })
 
   pub merge-starts : (spare body : List ℕ) → length held ≡ 65536 + 65536 / 24 → length spare ≡ 65536 + 65536 / 24 → refusalOf (previous body) ≡ 0
       → HeldIs held empty × Room held spare (widest (heldSet held empty) + (length body - 8 + length body / 24))

@@ -31,7 +31,17 @@ use Rattle.resume_set.specs.Answers.{saved}
 use Rattle.set_check.proofs.CursorLaws.{cursor-begins}
 use Rattle.set_check.proofs.SetOfLaws.{check-told, check-unfit}
 use Rattle.resume_set.proofs.AnswerLaws.{saved-refused, joined-short, joined-fits}
-use Rattle.two_sets.specs.Answers.{combinedOutput, combineAnswers, combineLeaves, withinRead, withinAnswers, headRead, whichAnswers, OneUnfit, BeginningIs}
+use Rattle.two_sets.specs.Answers.{
+  combinedOutput,
+  combineAnswers,
+  combineLeaves,
+  withinRead,
+  withinAnswers,
+  headRead,
+  whichAnswers,
+  OneUnfit,
+  BeginningIs,
+}
 use Rattle.set_check.specs.Cursor.{entriesLeft, begun}
 use Rattle.two_sets.specs.Pairs.{CursorsAre, combining}
 use Rattle.two_sets.specs.Write.{MadeIs, madeLength}

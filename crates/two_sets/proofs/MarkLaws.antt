@@ -23,7 +23,26 @@ use Rattle.gtid_sets.specs.Combine.{isOpen, mark, keeps, sweep, Rising}
 use Rattle.gtid_sets.proofs.Bools.{or-false-parts}
 use Rattle.gtid_sets.proofs.SweepLaws.{lower, sweep-lt, sweep-eq, sweep-gt}
 use Rattle.misc.proofs.NumberLaws.{number-stands}
-use Rattle.two_sets.specs.Marks.{saidBy, marksAt, marksOf, nextMark, passedSide, leftOf, going, allIf, flipped, oneIf, SideIs, SidesAre, keepsNow, StepIs, TurnIs, NextIs, marksBytes, MarksPut}
+use Rattle.two_sets.specs.Marks.{
+  saidBy,
+  marksAt,
+  marksOf,
+  nextMark,
+  passedSide,
+  leftOf,
+  going,
+  allIf,
+  flipped,
+  oneIf,
+  SideIs,
+  SidesAre,
+  keepsNow,
+  StepIs,
+  TurnIs,
+  NextIs,
+  marksBytes,
+  MarksPut,
+}
 use Rattle.two_sets.specs.declared.Operation.{Operation}
 use Rattle.two_sets.specs.declared.Operation.the-variants as operation
 use Rattle.two_sets.specs.declared.Side.{Side}

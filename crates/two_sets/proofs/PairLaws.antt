@@ -23,7 +23,22 @@ use Rattle.set_check.specs.declared.EntryPlace.{EntryPlace}
 use Rattle.set_check.proofs.CursorLaws.{Ahead, ahead, none-ahead}
 use Rattle.two_sets.specs.Marks.{marksAt, marksOf, SideIs}
 use Rattle.set_check.specs.Cursor.{entriesLeft, CursorIs, beyondOf}
-use Rattle.two_sets.specs.Pairs.{CursorsAre, combining, uuidsOrder, tagsOrder, UuidNext, sideOf, noSide, keyPlace, ofFirst, ofSecond, ofBoth, Moves, keyIn, PairIs}
+use Rattle.two_sets.specs.Pairs.{
+  CursorsAre,
+  combining,
+  uuidsOrder,
+  tagsOrder,
+  UuidNext,
+  sideOf,
+  noSide,
+  keyPlace,
+  ofFirst,
+  ofSecond,
+  ofBoth,
+  Moves,
+  keyIn,
+  PairIs,
+}
 use Rattle.set_check.specs.declared.Cursor.{Cursor}
 use Rattle.two_sets.specs.declared.Cursors.{Cursors}
 use Rattle.two_sets.specs.declared.Pair.{Pair}

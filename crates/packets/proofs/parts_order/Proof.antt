@@ -25,17 +25,20 @@ enum-told-3 c = search needs
 returns : tie.Need-returns
 returns c =
     let a = c .before .before .before .before .before .before .before .args in
-    first-before (order (now (a .uuid)) (now (a .other-uuid))) (order (now (a .tag)) (now (a .other-tag))) (sym (c .before .before .key-order .ensures) ∙ c .enum-told .given .1)
+    first-before (order (now (a .uuid)) (now (a .other-uuid))) (order (now (a .tag)) (now (a .other-tag)))
+    (sym (c .before .before .key-order .ensures) ∙ c .enum-told .given .1)
 
 returns-2 : tie.Need-returns-2
 returns-2 c =
     let a = c .before .before .before .before .before .before .before .before .args in
-    second-decides (order (now (a .uuid)) (now (a .other-uuid))) (order (now (a .tag)) (now (a .other-tag))) _ (sym (c .before .before .before .key-order .ensures) ∙ c .before .enum-told2 .given .1) (c .key-order2 .ensures)
+    second-decides (order (now (a .uuid)) (now (a .other-uuid))) (order (now (a .tag)) (now (a .other-tag))) _
+    (sym (c .before .before .before .key-order .ensures) ∙ c .before .enum-told2 .given .1) (c .key-order2 .ensures)
 
 returns-3 : tie.Need-returns-3
 returns-3 c =
     let a = c .before .before .before .before .before .before .before .args in
-    first-after (order (now (a .uuid)) (now (a .other-uuid))) (order (now (a .tag)) (now (a .other-tag))) (sym (c .before .before .key-order .ensures) ∙ c .enum-told3 .given .1)
+    first-after (order (now (a .uuid)) (now (a .other-uuid))) (order (now (a .tag)) (now (a .other-tag)))
+    (sym (c .before .before .key-order .ensures) ∙ c .enum-told3 .given .1)
 
 pub parts-order-spec : {M : Type 1} → statement M
 parts-order-spec =

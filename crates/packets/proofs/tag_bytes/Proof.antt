@@ -16,7 +16,8 @@ write-bytes-requires : tie.Need-write-bytes-requires
 write-bytes-requires c κs = search needs
 
 returns : tie.Need-returns
-returns c = c .before .write-bytes .ensures .1 ∙ rw (c .before .before .before .front .ensures) (kept-written 32 (c .before .before .before .before .before .args .tag .now))
+returns c = c .before .write-bytes .ensures .1
+    ∙ rw (c .before .before .before .front .ensures) (kept-written 32 (c .before .before .before .before .before .args .tag .now))
 
 pub tag-bytes-spec : {M : Type 1} → statement M
 tag-bytes-spec =

@@ -16,7 +16,8 @@ write-bytes-requires : tie.Need-write-bytes-requires
 write-bytes-requires c κs = search needs
 
 returns : tie.Need-returns
-returns c = c .before .write-bytes .ensures .1 ∙ rw (c .before .before .before .front .ensures) (kept-written 16 (c .before .before .before .before .before .args .uuid .now))
+returns c = c .before .write-bytes .ensures .1
+    ∙ rw (c .before .before .before .front .ensures) (kept-written 16 (c .before .before .before .before .before .args .uuid .now))
 
 pub uuid-bytes-spec : {M : Type 1} → statement M
 uuid-bytes-spec =

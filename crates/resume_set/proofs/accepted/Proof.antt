@@ -18,13 +18,16 @@ enum-told-3 : tie.Need-enum-told-3
 enum-told-3 c = search needs
 
 returns-2 : tie.Need-returns-2
-returns-2 c = accepted-case (c .before .before .before .args .kind) NoId (c .before .before .before .args .wrote) (c .before .before .if1 .left) (c .enum-told .given .1)
+returns-2 c = accepted-case (c .before .before .before .args .kind) NoId (c .before .before .before .args .wrote) (c .before .before .if1 .left)
+    (c .enum-told .given .1)
 
 returns-3 : tie.Need-returns-3
-returns-3 c = accepted-case (c .before .before .before .args .kind) AlreadyThere (c .before .before .before .args .wrote) (c .before .before .if1 .left) (c .enum-told2 .given .1)
+returns-3 c = accepted-case (c .before .before .before .args .kind) AlreadyThere (c .before .before .before .args .wrote) (c .before .before .if1 .left)
+    (c .enum-told2 .given .1)
 
 returns-4 : tie.Need-returns-4
-returns-4 c = accepted-case (c .before .before .before .args .kind) Taken (c .before .before .before .args .wrote) (c .before .before .if1 .left) (c .enum-told3 .given .1)
+returns-4 c = accepted-case (c .before .before .before .args .kind) Taken (c .before .before .before .args .wrote) (c .before .before .if1 .left)
+    (c .enum-told3 .given .1)
 
 pub accepted-spec : {M : Type 1} → statement M
 accepted-spec =

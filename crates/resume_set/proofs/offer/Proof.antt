@@ -19,7 +19,8 @@ fits c = check-told (now (c .before .before .before .before .before .args .set))
 parts : (c : tie.Else2) → KeyParts (c .before .read-named .result .event)
 parts c =
     let a = c .before .before .before .before .before .before .before .args in
-    named-parts (a .event-type) (now (a .body)) (c .before .read-named .result) (c .before .read-named .ensures) (c .if2 .left) (λ i. c .before .before .before .before .before .shared-slice-known2 .given i .fits)
+    named-parts (a .event-type) (now (a .body)) (c .before .read-named .result) (c .before .read-named .ensures) (c .if2 .left)
+    (λ i. c .before .before .before .before .before .shared-slice-known2 .given i .fits)
 
 check-requires : tie.Need-check-requires
 check-requires c κs = search needs
@@ -36,7 +37,8 @@ read-named-requires c κs = search needs
 returns-2 : tie.Need-returns-2
 returns-2 c =
     let a = c .before .before .before .before .before .before .before .args in
-    offer-broken (a .event-type) (now (a .body)) (c .before .read-named .result) (c .before .read-named .ensures) (now (a .set)) (now (a .out)) (fits (c .before .before) .lent) (c .if2 .taken)
+    offer-broken (a .event-type) (now (a .body)) (c .before .read-named .result) (c .before .read-named .ensures) (now (a .set)) (now (a .out))
+    (fits (c .before .before) .lent) (c .if2 .taken)
 
 write-bytes-requires : tie.Need-write-bytes-requires
 write-bytes-requires c κs = search needs
@@ -51,7 +53,10 @@ returns-3 : tie.Need-returns-3
 returns-3 c =
     let a = c .before .before .before .before .before .before .before .before .before .before .before .before .before .args in
     let f = fits (c .before .before .before .before .before .before .before .before) in
-    offer-none (a .event-type) (now (a .body)) (c .before .before .before .before .before .before .before .read-named .result) (c .before .before .before .before .before .before .before .read-named .ensures) (now (a .set)) (now (a .out)) (f .lent) (c .before .before .before .before .before .before .if2 .left) _ _ _ (c .before .before .before .before .before .if3 .taken) (sym (f .set .written)) (c .before .before .before .write-bytes .ensures .0) (c .before .before .before .write-bytes .ensures .1) (c .accepted .ensures)
+    offer-none (a .event-type) (now (a .body)) (c .before .before .before .before .before .before .before .read-named .result)
+    (c .before .before .before .before .before .before .before .read-named .ensures) (now (a .set)) (now (a .out)) (f .lent)
+    (c .before .before .before .before .before .before .if2 .left) _ _ _ (c .before .before .before .before .before .if3 .taken) (sym (f .set .written))
+    (c .before .before .before .write-bytes .ensures .0) (c .before .before .before .write-bytes .ensures .1) (c .accepted .ensures)
 
 cast-tag-len : tie.Need-cast-tag-len
 cast-tag-len c = search needs
@@ -66,15 +71,31 @@ slice-aggregate-offer-id-2 : tie.Need-slice-aggregate-offer-id-2
 slice-aggregate-offer-id-2 c = let p = parts (c .before .before .before .before .before .before .before) in sym (length-take-le _ _ (omega arith))
 
 offer-id-requires : tie.Need-offer-id-requires
-offer-id-requires c κs = let p = parts (c .before .before .before .before .before .before .before .before) in (fits (c .before .before .before .before .before .before .before .before .before .before), (p .0, omega (arith, length-take-le (c .before .before .before .before .before .before .before .before .before .read-named .result .event .«tag_len») (c .before .before .before .before .before .before .before .before .before .read-named .result .event .tag) (omega arith))))
+offer-id-requires c κs = let p = parts (c .before .before .before .before .before .before .before .before) in (
+  fits (c .before .before .before .before .before .before .before .before .before .before),
+  (
+    p .0,
+    omega (
+      arith,
+      length-take-le (c .before .before .before .before .before .before .before .before .before .read-named .result .event .«tag_len»)
+          (c .before .before .before .before .before .before .before .before .before .read-named .result .event .tag) (omega arith),
+    ),
+  ),
+)
 
 same-length-2 : tie.Need-same-length-2
 same-length-2 c = search needs
 
 returns-4 : tie.Need-returns-4
 returns-4 c =
-    let a = c .before .before .before .before .before .before .before .before .before .before .before .before .before .before .before .before .before .before .args in
-    offer-some (a .event-type) (now (a .body)) (c .before .before .before .before .before .before .before .before .before .before .before .before .read-named .result) (c .before .before .before .before .before .before .before .before .before .before .before .before .read-named .ensures) (now (a .set)) (now (a .out)) (fits (c .before .before .before .before .before .before .before .before .before .before .before .before .before) .lent) (c .before .before .before .before .before .before .before .before .before .before .before .if2 .left) _ _ (c .before .before .before .before .before .before .before .before .before .before .if3 .left) (c .before .before .offer-id .ensures)
+    let far = c .before .before .before .before .before .before .before .before .before .before in
+    let a = far .before .before .before .before .before .before .before .before .args in
+    offer-some (a .event-type) (now (a .body))
+    (c .before .before .before .before .before .before .before .before .before .before .before .before .read-named .result)
+    (c .before .before .before .before .before .before .before .before .before .before .before .before .read-named .ensures) (now (a .set)) (now (a .out))
+    (fits (c .before .before .before .before .before .before .before .before .before .before .before .before .before) .lent)
+    (c .before .before .before .before .before .before .before .before .before .before .before .if2 .left) _ _
+    (c .before .before .before .before .before .before .before .before .before .before .if3 .left) (c .before .before .offer-id .ensures)
 
 pub offer-spec : {M : Type 1} → statement M
 offer-spec =

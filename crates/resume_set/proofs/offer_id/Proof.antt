@@ -56,6 +56,7 @@ same-length c = search needs
 
 returns-2 : tie.Need-returns-2
 returns-2 c =
+    let far = c .before .before .before .before .before .before .before .before .before .before in
     let a = c .before .before .before .before .before .before .before .before .before .before .before .before .before .before .before .before .args in
     id-already (setOf (now (a .set))) (now (a .uuid) ++ now (a .tag)) (a .gno) (now (a .out))
     (sym (c .before .before .before .before .before .before .before .before .before .before .before .is-gno .ensures) ∙ not-false _
@@ -63,7 +64,7 @@ returns-2 c =
     (now (a .set)) _ _ _
     (c .before .before .before .before .before .before .before .before .plan-join .ensures .member ∙ sym
     (c .before .before .before .before .before .before .held-behind .ensures) ∙ c .before .before .before .before .before .if2 .taken)
-    (sym (c .before .before .before .before .before .before .before .before .before .before .before .before .before .before .before .before .pre .0 .set .written))
+    (sym (far .before .before .before .before .before .before .pre .0 .set .written))
     (c .before .before .before .write-bytes .ensures .0) (c .before .before .before .write-bytes .ensures .1) (c .accepted .ensures)
 
 write-joined-requires : tie.Need-write-joined-requires

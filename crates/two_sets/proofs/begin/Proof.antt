@@ -25,7 +25,8 @@ entries-of-requires-2 c κs = search needs
 returns-2 : tie.Need-returns-2
 returns-2 c =
     let s = c .before .before .before .before .before .before .before in
-    second-decides (now (s .args .first)) (now (s .args .second)) _ (c .before .before .before .before .check .ensures) _ (c .before .before .if1 .left) _ (c .before .check2 .ensures) (c .before .before .before .entries-of .ensures) (c .entries-of2 .ensures)
+    second-decides (now (s .args .first)) (now (s .args .second)) _ (c .before .before .before .before .check .ensures) _ (c .before .before .if1 .left) _
+    (c .before .check2 .ensures) (c .before .before .before .entries-of .ensures) (c .entries-of2 .ensures)
 
 pub begin-spec : {M : Type 1} → statement M
 begin-spec =

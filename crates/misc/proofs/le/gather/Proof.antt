@@ -49,7 +49,8 @@ loop-again c =
     let w = c .before .before .before .loop in
     let a = c .before .before .before .before .before .args in
     let byte = c .before .shared-slice-known2 .given (a .at + w .i) in
-    let more = gather-more (w .i) (w .scale) (omega arith) (w .inv .3) (a .s .now) (a .at) (w .value) (c .wide .result) (omega arith) (c .wide .ensures) (omega arith) (w .inv .1) (w .inv .2) in
+    let more = gather-more (w .i) (w .scale) (omega arith) (w .inv .3) (a .s .now) (a .at) (w .value) (c .wide .result) (omega arith) (c .wide .ensures)
+    (omega arith) (w .inv .1) (w .inv .2) in
     (omega arith, more .0, more .1, scale-next (w .i) (w .scale) (omega arith) (w .inv .3))
 
 returns : tie.Need-returns Inv-loop μ-loop

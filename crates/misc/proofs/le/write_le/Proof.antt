@@ -23,7 +23,8 @@ same-length c = search needs
 returns-2 : tie.Need-returns-2
 returns-2 c =
     let a = c .before .before .before .before .before .before .args in
-    output-fits (omega (arith, length-leBytes (a .n) (a .value))) (record { holds = c .before .before .scatter .ensures; ends = omega (arith, length-leBytes (a .n) (a .value)) })
+    output-fits (omega (arith, length-leBytes (a .n) (a .value)))
+    (record { holds = c .before .before .scatter .ensures; ends = omega (arith, length-leBytes (a .n) (a .value)) })
 
 pub write-le-spec : {M : Type 1} → statement M
 write-le-spec = tie.close (tie.spec returns scatter-requires same-length returns-2)

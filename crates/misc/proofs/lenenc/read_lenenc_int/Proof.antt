@@ -53,7 +53,8 @@ read-le-requires-2 c κs = search needs
 returns-4 : tie.Need-returns-4
 returns-4 c =
     let a = c .before .before .before .before .before .before .before .args in
-    let law = lenenc-led (a .s .now) (a .at) 0xFD (c .before .before .before .before .before .if1 .left) (c .before .if4 .taken) ∙ led-3 (a .s .now) (a .at + 1) in
+    let law = lenenc-led (a .s .now) (a .at) 0xFD (c .before .before .before .before .before .if1 .left) (c .before .if4 .taken)
+    ∙ led-3 (a .s .now) (a .at + 1) in
     c .read-le2 .ensures .0 ∙ ap uintRead (sym law)
 
 add-read-le-3 : tie.Need-add-read-le-3
@@ -65,7 +66,8 @@ read-le-requires-3 c κs = search needs
 returns-5 : tie.Need-returns-5
 returns-5 c =
     let a = c .before .before .before .before .before .before .before .before .args in
-    let law = lenenc-led (a .s .now) (a .at) 0xFE (c .before .before .before .before .before .before .if1 .left) (c .before .if5 .taken) ∙ led-8 (a .s .now) (a .at + 1) in
+    let law = lenenc-led (a .s .now) (a .at) 0xFE (c .before .before .before .before .before .before .if1 .left) (c .before .if5 .taken)
+    ∙ led-8 (a .s .now) (a .at + 1) in
     c .read-le3 .ensures .0 ∙ ap uintRead (sym law)
 
 refused-uint-requires-2 : tie.Need-refused-uint-requires-2
@@ -76,7 +78,9 @@ returns-6 c =
     let a = c .before .before .before .before .before .before .before .before .args in
     let s = a .s .now in
     let lead = getD s (a .at) 0 in
-    let law = lenenc-led s (a .at) lead (c .before .before .before .before .before .before .if1 .left) refl ∙ led-none lead s (a .at + 1) (c .before .before .before .before .if2 .left) (c .before .before .before .if3 .left) (c .before .before .if4 .left) (c .before .if5 .left) in
+    let law = lenenc-led s (a .at) lead (c .before .before .before .before .before .before .if1 .left) refl
+    ∙ led-none lead s (a .at + 1) (c .before .before .before .before .if2 .left) (c .before .before .before .if3 .left) (c .before .before .if4 .left)
+    (c .before .if5 .left) in
     c .refused-uint2 .ensures ∙ ap uintRead (sym law)
 
 pub read-lenenc-int-spec : {M : Type 1} → statement M

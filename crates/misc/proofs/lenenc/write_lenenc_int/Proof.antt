@@ -15,7 +15,8 @@ same-length : tie.Need-same-length
 same-length c = search needs
 
 returns : tie.Need-returns
-returns c = rw (bytes-1 (c .before .before .before .before .before .before .args .value) (c .before .before .before .before .if1 .taken)) (c .before .before .write-led .ensures)
+returns c = rw (bytes-1 (c .before .before .before .before .before .before .args .value) (c .before .before .before .before .if1 .taken))
+    (c .before .before .write-led .ensures)
 
 write-led-requires-2 : tie.Need-write-led-requires-2
 write-led-requires-2 c κs = search needs
@@ -24,7 +25,8 @@ same-length-2 : tie.Need-same-length-2
 same-length-2 c = search needs
 
 returns-2 : tie.Need-returns-2
-returns-2 c = rw (bytes-3 (c .before .before .before .before .before .before .before .args .value) (c .before .before .before .before .before .if1 .left) (c .before .before .before .before .if2 .taken)) (c .before .before .write-led2 .ensures)
+returns-2 c = rw (bytes-3 (c .before .before .before .before .before .before .before .args .value) (c .before .before .before .before .before .if1 .left)
+    (c .before .before .before .before .if2 .taken)) (c .before .before .write-led2 .ensures)
 
 write-led-requires-3 : tie.Need-write-led-requires-3
 write-led-requires-3 c κs = search needs
@@ -33,7 +35,8 @@ same-length-3 : tie.Need-same-length-3
 same-length-3 c = search needs
 
 returns-3 : tie.Need-returns-3
-returns-3 c = rw (bytes-4 (c .before .before .before .before .before .before .before .before .args .value) (c .before .before .before .before .before .if2 .left) (c .before .before .before .before .if3 .taken)) (c .before .before .write-led3 .ensures)
+returns-3 c = rw (bytes-4 (c .before .before .before .before .before .before .before .before .args .value)
+    (c .before .before .before .before .before .if2 .left) (c .before .before .before .before .if3 .taken)) (c .before .before .write-led3 .ensures)
 
 write-led-requires-4 : tie.Need-write-led-requires-4
 write-led-requires-4 c κs = search needs
@@ -42,7 +45,8 @@ same-length-4 : tie.Need-same-length-4
 same-length-4 c = search needs
 
 returns-4 : tie.Need-returns-4
-returns-4 c = rw (bytes-9 (c .before .before .before .before .before .before .before .before .args .value) (c .before .before .before .before .if3 .left)) (c .before .before .write-led4 .ensures)
+returns-4 c = rw (bytes-9 (c .before .before .before .before .before .before .before .before .args .value) (c .before .before .before .before .if3 .left))
+    (c .before .before .write-led4 .ensures)
 
 pub write-lenenc-int-spec : {M : Type 1} → statement M
 write-lenenc-int-spec =

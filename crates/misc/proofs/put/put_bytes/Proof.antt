@@ -24,7 +24,10 @@ write-bytes-requires c κs = search needs
 place-behind-requires : tie.Need-place-behind-requires
 place-behind-requires c κs =
     let a = c .before .before .before .before .before .before .before .args in
-    λ done. omega (arith, lent-ends (now (a .out)) (now (a .source)) (a .at) (c .before .before .before .before .if1 .left) _ (c .before .before .write-bytes .ensures .0) done)
+    λ done. omega (
+      arith,
+      lent-ends (now (a .out)) (now (a .source)) (a .at) (c .before .before .before .before .if1 .left) _ (c .before .before .write-bytes .ensures .0) done,
+    )
 
 same-length : tie.Need-same-length
 same-length c = search needs

@@ -21,13 +21,17 @@ same-length : tie.Need-same-length
 same-length c = search needs
 
 returns : tie.Need-returns
-returns c = let a = c .before .before .before .before .before .before .args in put-short (now (a .out)) _ (a .at) (rw length-append (omega (arith, c .if1 .taken, c .before .left-at .ensures, c .before .before .before .varlen-uint-size .ensures)))
+returns c = let a = c .before .before .before .before .before .before .args in
+    put-short (now (a .out)) _ (a .at)
+    (rw length-append (omega (arith, c .if1 .taken, c .before .left-at .ensures, c .before .before .before .varlen-uint-size .ensures)))
 
 same-length-2 : tie.Need-same-length-2
 same-length-2 c = search needs
 
 returns-2 : tie.Need-returns-2
-returns-2 c = let a = c .before .before .before .before .before .before .before .args in put-short (now (a .out)) _ (a .at) (rw length-append (omega (arith, c .if2 .taken, c .before .before .left-at .ensures, c .before .before .before .before .varlen-uint-size .ensures)))
+returns-2 c = let a = c .before .before .before .before .before .before .before .args in
+    put-short (now (a .out)) _ (a .at)
+    (rw length-append (omega (arith, c .if2 .taken, c .before .before .left-at .ensures, c .before .before .before .before .varlen-uint-size .ensures)))
 
 put-varlen-uint-requires : tie.Need-put-varlen-uint-requires
 put-varlen-uint-requires c κs = search needs
@@ -42,9 +46,18 @@ returns-3 : tie.Need-returns-3
 returns-3 c =
     let a = c .before .before .before .before .before .before .before .before .before .before .before .before .before .before .before .args in
     let n = length (now (a .source)) in
-    let both = put-placed (c .before .before .before .before .before .before .put-varlen-uint .ensures) also put-placed (c .before .before .put-bytes .ensures) in
+    let both = put-placed (c .before .before .before .before .before .before .put-varlen-uint .ensures)
+    also put-placed (c .before .before .put-bytes .ensures) in
     let room : a .at + length (varlenBytes n ++ now (a .source)) ≤ length (now (a .out)) =
-    rw length-append (omega (arith, size-range n, length-varlenBytes n, c .before .before .before .before .before .before .before .before .if2 .left, c .before .before .before .before .before .before .before .before .before .if1 .left, c .before .before .before .before .before .before .before .before .before .before .left-at .ensures, c .before .before .before .before .before .before .before .before .before .before .before .before .varlen-uint-size .ensures)) in
+    rw length-append (omega (
+      arith,
+      size-range n,
+      length-varlenBytes n,
+      c .before .before .before .before .before .before .before .before .if2 .left,
+      c .before .before .before .before .before .before .before .before .before .if1 .left,
+      c .before .before .before .before .before .before .before .before .before .before .left-at .ensures,
+      c .before .before .before .before .before .before .before .before .before .before .before .before .varlen-uint-size .ensures,
+    )) in
     put-there room (both .placed room)
 
 pub put-sized-spec : {M : Type 1} → statement M

@@ -25,7 +25,11 @@ write-varlen-uint-requires c κs = search needs
 place-behind-requires : tie.Need-place-behind-requires
 place-behind-requires c κs =
     let a = c .before .before .before .before .before .before .args in
-    λ done. omega (arith, lent-ends (now (a .out)) (varlenBytes (a .value)) (a .at) (c .before .before .before .before .if1 .left) _ (c .before .before .write-varlen-uint .ensures .0) done)
+    λ done. omega (
+      arith,
+      lent-ends (now (a .out)) (varlenBytes (a .value)) (a .at) (c .before .before .before .before .if1 .left) _
+          (c .before .before .write-varlen-uint .ensures .0) done,
+    )
 
 same-length : tie.Need-same-length
 same-length c = search needs
@@ -34,7 +38,8 @@ returns-2 : tie.Need-returns-2
 returns-2 c =
     let a = c .before .before .before .before .before .before .before .args in
     let wrote = c .before .before .before .write-varlen-uint .ensures in
-    lent-put (now (a .out)) (varlenBytes (a .value)) (a .at) (c .before .before .before .before .before .if1 .left) _ (wrote .0) (c .place-behind .ensures) (wrote .1)
+    lent-put (now (a .out)) (varlenBytes (a .value)) (a .at) (c .before .before .before .before .before .if1 .left) _ (wrote .0) (c .place-behind .ensures)
+    (wrote .1)
 
 pub put-varlen-uint-spec : {M : Type 1} → statement M
 put-varlen-uint-spec =

@@ -17,7 +17,8 @@ meant-by-requires : tie.Need-meant-by-requires
 meant-by-requires c κs = search needs
 
 returns-2 : tie.Need-returns-2
-returns-2 c = signed-read _ _ _ (c .before .before .read-varlen-uint .ensures) (c .before .if1 .left) (toZ-ofZ (record { sfits = c .meant-by .ok }) ∙ c .meant-by .ensures)
+returns-2 c = signed-read _ _ _ (c .before .before .read-varlen-uint .ensures) (c .before .if1 .left)
+    (toZ-ofZ (record { sfits = c .meant-by .ok }) ∙ c .meant-by .ensures)
 
 pub read-varlen-int-spec : {M : Type 1} → statement M
 read-varlen-int-spec =

@@ -21,7 +21,9 @@ refused-uint-requires : tie.Need-refused-uint-requires
 refused-uint-requires c κs = search needs
 
 returns-3 : tie.Need-returns-3
-returns-3 c = c .refused-uint .ensures ∙ ap uintRead (sym (natural-odd _ _ (uint-told _ _ (c .before .before .before .read-varlen-uint .ensures) (c .before .before .if1 .left)) (c .before .if2 .left)))
+returns-3 c = c .refused-uint .ensures
+    ∙ ap uintRead (sym (natural-odd _ _ (uint-told _ _ (c .before .before .before .read-varlen-uint .ensures) (c .before .before .if1 .left))
+    (c .before .if2 .left)))
 
 pub read-varlen-natural-spec : {M : Type 1} → statement M
 read-varlen-natural-spec =

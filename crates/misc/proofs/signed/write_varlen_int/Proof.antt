@@ -18,7 +18,8 @@ same-length c = search needs
 
 returns : tie.Need-returns
 returns c =
-    let e : c .before .before .before .before .sent-as .result ≡ sentAs (c .before .before .before .before .before .before .args .value) = c .before .before .before .before .sent-as .ensures ∙ ap sentAs (toZ-ofZ (c .before .before .before .before .before .before .fits .value)) in
+    let e : c .before .before .before .before .sent-as .result ≡ sentAs (c .before .before .before .before .before .before .args .value) =
+    c .before .before .before .before .sent-as .ensures ∙ ap sentAs (toZ-ofZ (c .before .before .before .before .before .before .fits .value)) in
     rw (← e) (c .before .before .write-varlen-uint .ensures)
 
 pub write-varlen-int-spec : {M : Type 1} → statement M

@@ -45,7 +45,11 @@ returns-2 c =
     let n = c .before .before .before .before .before .before .varlen-uint-size in
     let nine : varlenSize (a .value) ≡ 9 = sym (sized (a .value) (n .result) (n .ensures .0)) ∙ c .before .before .before .before .if2 .taken in
     output-fits (omega arith)
-    (record { holds = c .before .before .scatter .ensures ∙ rw (bytes-nine (a .value) nine) (written-cons (a .out .now) 0 255 (leBytes 8 (a .value))); ends = omega arith })
+    (record {
+      holds = c .before .before .scatter .ensures
+          ∙ rw (bytes-nine (a .value) nine) (written-cons (a .out .now) 0 255 (leBytes 8 (a .value)));
+      ends = omega arith;
+    })
 
 shl-shifted : tie.Need-shl-shifted
 shl-shifted c = search needs

@@ -23,30 +23,38 @@ put-head-requires c κs = search needs
 
 sub-put-spliced : tie.Need-sub-put-spliced
 sub-put-spliced c =
-    c .before .before .before .before .before .before .before .before .before .before .before .before .before .before .before .before .before .before .before .before .pre .own-there .0
+    let far = c .before .before .before .before .before .before .before .before .before .before in
+    far .before .before .before .before .before .before .before .before .before .before .pre .own-there .0
 
 part-put-spliced-start : tie.Need-part-put-spliced-start
 part-put-spliced-start c =
-    let h = c .before .before .before .before .before .before .before .before .before .before .before .before .before .before .before .before .before .before .before .before .pre .own-there in omega (arith, h)
+    let far = c .before .before .before .before .before .before .before .before .before .before in
+    let h = far .before .before .before .before .before .before .before .before .before .before .pre .own-there in omega (arith, h)
 
 part-put-spliced-end : tie.Need-part-put-spliced-end
 part-put-spliced-end c =
-    c .before .before .before .before .before .before .before .before .before .before .before .before .before .before .before .before .before .before .before .before .pre .own-there .1
+    let far = c .before .before .before .before .before .before .before .before .before .before in
+    far .before .before .before .before .before .before .before .before .before .before .pre .own-there .1
 
 put-spliced-requires : tie.Need-put-spliced-requires
 put-spliced-requires c κs =
-    c .before .before .before .before .before .before .before .before .before .before .before .before .before .before .before .before .before .before .before .before .before .before .pre .splice-inside
+    let far = c .before .before .before .before .before .before .before .before .before .before in
+    far .before .before .before .before .before .before .before .before .before .before .before .before .pre .splice-inside
 
 put-entries-requires-2 : tie.Need-put-entries-requires-2
 put-entries-requires-2 c κs =
-    c .before .before .before .before .before .before .before .before .before .before .before .before .before .before .before .before .before .before .before .before .before .before .before .before .before .before .pre .after-there
+    let far = c .before .before .before .before .before .before .before .before .before .before in
+    far .before .before .before .before .before .before .before .before .before .before .before .before .before .before .before .before .pre .after-there
 
 same-length : tie.Need-same-length
 same-length c = search needs
 
 returns : tie.Need-returns
 returns c =
-    put-placed (c .before .before .before .before .before .before .before .before .before .before .before .before .before .before .before .before .before .before .before .put-header .ensures) also c .before .before .before .before .before .before .before .before .before .before .before .before .before .before .before .put-entries .ensures also put-placed (c .before .before .before .before .before .before .before .before .before .before .before .put-head .ensures) also c .before .before .before .before .before .before .put-spliced .ensures
+    let far = c .before .before .before .before .before .before .before .before .before .before in
+    put-placed (far .before .before .before .before .before .before .before .before .before .put-header .ensures)
+    also far .before .before .before .before .before .put-entries .ensures also put-placed (far .before .put-head .ensures)
+    also c .before .before .before .before .before .before .put-spliced .ensures
     also c .before .before .put-entries2 .ensures
 
 pub put-joined-spec : {M : Type 1} → statement M

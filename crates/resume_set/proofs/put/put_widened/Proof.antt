@@ -11,7 +11,8 @@ use Rattle.resume_set.proofs.put.put_widened.Statement.{statement}
 use Rattle.resume_set.proofs.put.put_widened.Tie as tie
 
 abbrev Inv-loop : tie.InvT-loop
-Inv-loop set from count out₀ at next₀ put₀ done₀ out next put done = (done ≤ count) × (length out ≡ length out₀) × Widening set (widened count set from) out₀ at (count - done) next out put
+Inv-loop set from count out₀ at next₀ put₀ done₀ out next put done =
+    (done ≤ count) × (length out ≡ length out₀) × Widening set (widened count set from) out₀ at (count - done) next out put
 
 abbrev μ-loop : tie.MeasureT-loop
 μ-loop set from count out₀ at next₀ put₀ done₀ out next put done = count - done
@@ -43,25 +44,44 @@ put-wider-requires : tie.Need-put-wider-requires Inv-loop μ-loop
 put-wider-requires c κs =
     let a = c .before .before .before .before .before .before .args in
     let l = c .before .before .before .loop in
-    inside (now (a .set)) _ _ _ (l .next) (l .out) (l .put) (a .count - (l .done + 1)) (so-far (c .before .before)) (c .before .number-at .result) (c .before .number-at .ensures)
+    inside (now (a .set)) _ _ _ (l .next) (l .out) (l .put) (a .count - (l .done + 1)) (so-far (c .before .before)) (c .before .number-at .result)
+    (c .before .number-at .ensures)
 
 mul-next : tie.Need-mul-next Inv-loop μ-loop
 mul-next c =
     let a = c .before .before .before .before .before .before .before .before .before .args in
     let l = c .before .before .before .before .before .before .loop in
-    record { fits = omega (arith, inside (now (a .set)) _ _ _ (l .next) (l .out) (l .put) (a .count - (l .done + 1)) (so-far (c .before .before .before .before .before)) (c .before .before .before .before .number-at .result) (c .before .before .before .before .number-at .ensures)) }
+    record {
+      fits = omega (
+        arith,
+        inside (now (a .set)) _ _ _ (l .next) (l .out) (l .put) (a .count - (l .done + 1)) (so-far (c .before .before .before .before .before))
+            (c .before .before .before .before .number-at .result) (c .before .before .before .before .number-at .ensures),
+      );
+    }
 
 add-next : tie.Need-add-next Inv-loop μ-loop
 add-next c =
     let a = c .before .before .before .before .before .before .before .before .before .args in
     let l = c .before .before .before .before .before .before .loop in
-    record { fits = omega (arith, inside (now (a .set)) _ _ _ (l .next) (l .out) (l .put) (a .count - (l .done + 1)) (so-far (c .before .before .before .before .before)) (c .before .before .before .before .number-at .result) (c .before .before .before .before .number-at .ensures)) }
+    record {
+      fits = omega (
+        arith,
+        inside (now (a .set)) _ _ _ (l .next) (l .out) (l .put) (a .count - (l .done + 1)) (so-far (c .before .before .before .before .before))
+            (c .before .before .before .before .number-at .result) (c .before .before .before .before .number-at .ensures),
+      );
+    }
 
 add-next-2 : tie.Need-add-next-2 Inv-loop μ-loop
 add-next-2 c =
     let a = c .before .before .before .before .before .before .before .before .before .args in
     let l = c .before .before .before .before .before .before .loop in
-    record { fits = omega (arith, inside (now (a .set)) _ _ _ (l .next) (l .out) (l .put) (a .count - (l .done + 1)) (so-far (c .before .before .before .before .before)) (c .before .before .before .before .number-at .result) (c .before .before .before .before .number-at .ensures)) }
+    record {
+      fits = omega (
+        arith,
+        inside (now (a .set)) _ _ _ (l .next) (l .out) (l .put) (a .count - (l .done + 1)) (so-far (c .before .before .before .before .before))
+            (c .before .before .before .before .number-at .result) (c .before .before .before .before .number-at .ensures),
+      );
+    }
 
 add-done : tie.Need-add-done Inv-loop μ-loop
 add-done c = search needs
@@ -73,8 +93,13 @@ loop-again : tie.Need-loop-again Inv-loop μ-loop
 loop-again c =
     let a = c .before .before .before .before .before .before .before .before .before .args in
     let l = c .before .before .before .before .before .before .loop in
-    let k = c .before .before .put-wider .kept .1 .1 .1 .0 in
-    (omega arith, k ∙ l .inv .1, widening-turn (now (a .set)) _ _ _ (l .next) (l .out) (l .put) (a .count - (l .done + 1)) (so-far (c .before .before .before .before .before)) (c .before .before .before .before .number-at .result) (c .before .before .before .before .number-at .ensures) _ _ (c .before .before .put-wider .ensures))
+    let k = c .before .before .put-wider .kept .1 .1 .1 .0 in (
+      omega arith,
+      k ∙ l .inv .1,
+      widening-turn (now (a .set)) _ _ _ (l .next) (l .out) (l .put) (a .count - (l .done + 1)) (so-far (c .before .before .before .before .before))
+          (c .before .before .before .before .number-at .result) (c .before .before .before .before .number-at .ensures) _ _
+          (c .before .before .put-wider .ensures),
+    )
 
 same-length : tie.Need-same-length Inv-loop μ-loop
 same-length c = c .before .loop .inv .1

@@ -54,8 +54,11 @@ returns : tie.Need-returns
 returns c =
     let a = c .before .before .before .before .before .before .before .before .before .before .before .before .before .before .before .before .args in
     let s = now (a .set) in
-    put-part s (a .from) 16 (a .from + 16 - a .from) (omega arith) (put-placed (c .before .before .before .before .before .before .before .before .before .before .before .put-bytes .ensures)) also put-placed (c .before .before .before .before .before .before .before .put-varlen-uint .ensures)
-    also put-part s (a .from + 16) (8 + 16 * a .count) (a .from + (24 + 16 * a .count) - (a .from + 16)) (omega arith) (put-placed (c .before .before .put-bytes2 .ensures))
+    put-part s (a .from) 16 (a .from + 16 - a .from) (omega arith)
+    (put-placed (c .before .before .before .before .before .before .before .before .before .before .before .put-bytes .ensures))
+    also put-placed (c .before .before .before .before .before .before .before .put-varlen-uint .ensures)
+    also put-part s (a .from + 16) (8 + 16 * a .count) (a .from + (24 + 16 * a .count) - (a .from + 16)) (omega arith)
+    (put-placed (c .before .before .put-bytes2 .ensures))
 
 pub put-wider-spec : {M : Type 1} → statement M
 put-wider-spec =

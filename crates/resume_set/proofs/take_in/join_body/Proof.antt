@@ -38,7 +38,8 @@ join-entry-requires c κs =
     let l = c .before .before .before .before .loop in
     let f = l .inv .2 in
     let entry = c .before .before .entry-at in
-    let room = folding-room _ _ _ _ _ _ _ _ f (omega arith) _ (entry .ensures) (l .spare) (omega (arith, l .inv .0, p .1 .1 .wide)) (omega (arith, l .inv .0, l .inv .1, p .1 .1 .alike)) (omega (arith, l .inv .0, p .1 .1 .small)) in
+    let room = folding-room _ _ _ _ _ _ _ _ f (omega arith) _ (entry .ensures) (l .spare) (omega (arith, l .inv .0, p .1 .1 .wide))
+    (omega (arith, l .inv .0, l .inv .1, p .1 .1 .alike)) (omega (arith, l .inv .0, p .1 .1 .small)) in
     (f .held-is, (folding-next _ _ _ _ _ _ _ _ f (omega arith) _ (entry .ensures), room))
 
 sub-left : tie.Need-sub-left Inv-loop μ-loop
@@ -53,7 +54,8 @@ loop-again c =
     let call = c .before .before .before .before .join-entry in (
       call .kept .1 .1 .0 ∙ l .inv .0,
       call .kept .1 .1 .1 .0 ∙ l .inv .1,
-      folding-turn _ _ _ _ _ _ _ _ (l .inv .2) (omega arith) _ (c .before .before .before .before .before .before .before .entry-at .ensures) _ _ (call .ensures .0) (call .ensures .1),
+      folding-turn _ _ _ _ _ _ _ _ (l .inv .2) (omega arith) _ (c .before .before .before .before .before .before .before .entry-at .ensures) _ _
+          (call .ensures .0) (call .ensures .1),
     )
 
 same-length : tie.Need-same-length Inv-loop μ-loop

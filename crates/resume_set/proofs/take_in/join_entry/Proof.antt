@@ -39,7 +39,12 @@ slice-aggregate-join-interval : tie.Need-slice-aggregate-join-interval Inv-loop 
 slice-aggregate-join-interval c = sym (c .before .before .before .before .before .before .before .before .before .before .before .before .pre .1 .0 .uuid)
 
 array-share-prefix-tag : tie.Need-array-share-prefix-tag Inv-loop μ-loop
-array-share-prefix-tag c = omega (arith, c .before .before .before .before .before .before .before .before .before .before .before .before .pre .1 .0 .tag, c .before .before .before .before .before .before .before .before .before .before .before .before .pre .1 .0 .short)
+array-share-prefix-tag c =
+    omega (
+      arith,
+      c .before .before .before .before .before .before .before .before .before .before .before .before .pre .1 .0 .tag,
+      c .before .before .before .before .before .before .before .before .before .before .before .before .pre .1 .0 .short,
+    )
 
 slice-aggregate-join-interval-2 : tie.Need-slice-aggregate-join-interval-2 Inv-loop μ-loop
 slice-aggregate-join-interval-2 c = sym (length-take-le _ _ (array-share-prefix-tag (c .before)))
@@ -52,11 +57,20 @@ join-interval-requires c κs =
     let j = l .inv .2 in
     let start = c .before .before .before .before .before .number-at .ensures in
     let end = c .before .before .before .before .number-at2 .ensures in
-    let room = joining-room _ _ _ _ _ _ _ j (omega arith) (l .spare) (omega (arith, l .inv .0, l .inv .1, p .1 .1 .alike)) (omega (arith, l .inv .0, p .1 .1 .small)) in
-    (j .held-is, ((e .uuid, omega (arith, e .short, slice-aggregate-join-interval-2 c), e .rule), (joining-next _ _ _ _ _ _ _ j (omega arith) _ _ start end, room)))
+    let room = joining-room _ _ _ _ _ _ _ j (omega arith) (l .spare) (omega (arith, l .inv .0, l .inv .1, p .1 .1 .alike))
+    (omega (arith, l .inv .0, p .1 .1 .small)) in (
+      j .held-is,
+      (
+        (e .uuid, omega (arith, e .short, slice-aggregate-join-interval-2 c), e .rule),
+        (joining-next _ _ _ _ _ _ _ j (omega arith) _ _ start end, room),
+      ),
+    )
 
 add-at : tie.Need-add-at Inv-loop μ-loop
-add-at c = record { fits = omega (arith, c .before .before .before .before .before .before .before .before .before .before .before .before .loop .inv .2 .inside) }
+add-at c = record {
+  fits =
+      omega (arith, c .before .before .before .before .before .before .before .before .before .before .before .before .loop .inv .2 .inside);
+}
 
 sub-left : tie.Need-sub-left Inv-loop μ-loop
 sub-left c = omega arith
@@ -66,13 +80,18 @@ loop-less c = omega arith
 
 loop-again : tie.Need-loop-again Inv-loop μ-loop
 loop-again c =
-    let a = c .before .before .before .before .before .before .before .before .before .before .before .before .before .before .before .before .before .before .args in
-    let e = c .before .before .before .before .before .before .before .before .before .before .before .before .before .before .before .before .before .before .pre .1 .0 in
-    let l = c .before .before .before .before .before .before .before .before .before .before .before .before .loop in
+    let turn = c .before .before .before .before .before .before .before .before .before .before .before .before in
+    let start = turn .before .before .before .before .before .before in
+    let a = start .args in
+    let e = start .pre .1 .0 in
+    let l = turn .loop in
     let call = c .before .before .before .before .join-interval in (
       call .kept .0 ∙ l .inv .0,
       call .kept .1 .0 ∙ l .inv .1,
-      joining-turn _ _ _ _ _ _ _ (l .inv .2) (omega arith) _ _ (c .before .before .before .before .before .before .before .before .before .before .number-at .ensures) (c .before .before .before .before .before .before .before .before .before .number-at2 .ensures) (good-key (a .entry .uuid) _ (e .uuid) (e .rule)) _ _ (call .kept .0) (call .ensures .0) (call .ensures .1),
+      joining-turn _ _ _ _ _ _ _ (l .inv .2) (omega arith) _ _
+          (c .before .before .before .before .before .before .before .before .before .before .number-at .ensures)
+          (c .before .before .before .before .before .before .before .before .before .number-at2 .ensures) (good-key (a .entry .uuid) _ (e .uuid) (e .rule)) _ _
+          (call .kept .0) (call .ensures .0) (call .ensures .1),
     )
 
 same-length : tie.Need-same-length Inv-loop μ-loop

@@ -28,7 +28,8 @@ slice-aggregate-join-body-2 c = search needs
 join-body-requires : tie.Need-join-body-requires
 join-body-requires c κs =
     let p = c .before .before .before .before .pre in
-    let (is, room) = merge-starts buffer refl buffer (now (c .before .before .before .before .args .body)) (length-replicate {A = ℕ} 68266 0) (length-replicate {A = ℕ} 68266 0) (p .0) in
+    let (is, room) = merge-starts buffer refl buffer (now (c .before .before .before .before .args .body)) (length-replicate {A = ℕ} 68266 0)
+    (length-replicate {A = ℕ} 68266 0) (p .0) in
     (is, (p, room))
 
 array-share-prefix-held : tie.Need-array-share-prefix-held
@@ -49,7 +50,9 @@ returns : tie.Need-returns
 returns c =
     let out = now (c .before .before .before .before .before .before .before .before .before .before .before .before .args .out) in
     let wrote = c .before .before .write-set .ensures in
-    let all = merge-ends buffer refl _ (entriesOf (previous (now (c .before .before .before .before .before .before .before .before .before .before .before .before .args .body)))) (c .before .before .before .before .before .before .before .join-body .ensures .1) in
+    let all = merge-ends buffer refl _
+    (entriesOf (previous (now (c .before .before .before .before .before .before .before .before .before .before .before .before .args .body))))
+    (c .before .before .before .before .before .before .before .join-body .ensures .1) in
     (wrote .0 ∙ ap (λ (s : List Entry). answerOf out (saved s)) all, wrote .1 ∙ ap (λ (s : List Entry). outputOf out (saved s)) all)
 
 pub merge-spec : {M : Type 1} → statement M

@@ -14,7 +14,8 @@ use Rattle.resume_set.proofs.take_in.take_in.Tie as tie
 
 -- what was read ends within the body
 within : (c : tie.Else1) → c .before .read .result .used ≤ length (now (c .before .before .before .before .args .body))
-within c = used-inside (now (c .before .before .before .before .args .body)) (now (c .before .before .before .before .args .out)) (c .before .read .result) (c .before .read .ensures) (c .if1 .left)
+within c = used-inside (now (c .before .before .before .before .args .body)) (now (c .before .before .before .before .args .out)) (c .before .read .result)
+    (c .before .read .ensures) (c .if1 .left)
 
 read-requires : tie.Need-read-requires
 read-requires c κs = search needs
@@ -43,23 +44,31 @@ returns-2 : tie.Need-returns-2
 returns-2 c =
     let a = c .before .before .before .before .before .before .before .before .before .before .before .before .args in
     let r = c .before .before .before .before .before .before .before .before .before .read in
-    let f = check-told (take (r .result .used) (now (a .body))) (c .before .before .before .before .before .before .check .result) (c .before .before .before .before .before .before .check .ensures) (c .before .before .before .before .before .if2 .taken) in
-    taken-copied (now (a .body)) (now (a .out)) (r .result) (r .ensures) (c .before .before .before .before .before .before .before .before .if1 .left) (setOf (take (r .result .used) (now (a .body)))) _ _ (f .lent) (c .before .before .write-bytes .ensures .0) (c .before .before .write-bytes .ensures .1)
+    let f = check-told (take (r .result .used) (now (a .body))) (c .before .before .before .before .before .before .check .result)
+    (c .before .before .before .before .before .before .check .ensures) (c .before .before .before .before .before .if2 .taken) in
+    taken-copied (now (a .body)) (now (a .out)) (r .result) (r .ensures) (c .before .before .before .before .before .before .before .before .if1 .left)
+    (setOf (take (r .result .used) (now (a .body)))) _ _ (f .lent) (c .before .before .write-bytes .ensures .0) (c .before .before .write-bytes .ensures .1)
 
 lawful-body-requires : tie.Need-lawful-body-requires
-lawful-body-requires c κs = can-be-read (now (c .before .before .before .before .before .before .before .args .body)) (now (c .before .before .before .before .before .before .before .args .out)) (c .before .before .before .before .read .result) (c .before .before .before .before .read .ensures) (c .before .before .before .if1 .left)
+lawful-body-requires c κs =
+    can-be-read (now (c .before .before .before .before .before .before .before .args .body))
+    (now (c .before .before .before .before .before .before .before .args .out)) (c .before .before .before .before .read .result)
+    (c .before .before .before .before .read .ensures) (c .before .before .before .if1 .left)
 
 returns-3 : tie.Need-returns-3
 returns-3 c =
     let a = c .before .before .before .before .before .before .before .before .before .args in
     let r = c .before .before .before .before .before .before .read in
-    taken-unlawful (now (a .body)) (now (a .out)) (r .result) (r .ensures) (c .before .before .before .before .before .if1 .left) (sym (c .before .lawful-body .ensures) ∙ not-true _ (c .if3 .taken))
+    taken-unlawful (now (a .body)) (now (a .out)) (r .result) (r .ensures) (c .before .before .before .before .before .if1 .left)
+    (sym (c .before .lawful-body .ensures) ∙ not-true _ (c .if3 .taken))
 
 merge-requires : tie.Need-merge-requires
 merge-requires c κs =
     let a = c .before .before .before .before .before .before .before .before .before .before .args in
-    let r = c .before .before .before .before .before .before .before .read in
-    (can-be-read (now (a .body)) (now (a .out)) (r .result) (r .ensures) (c .before .before .before .before .before .before .if1 .left), sym (c .before .before .lawful-body .ensures) ∙ not-false _ (c .before .if3 .left))
+    let r = c .before .before .before .before .before .before .before .read in (
+      can-be-read (now (a .body)) (now (a .out)) (r .result) (r .ensures) (c .before .before .before .before .before .before .if1 .left),
+      sym (c .before .before .lawful-body .ensures) ∙ not-false _ (c .before .if3 .left),
+    )
 
 same-length-2 : tie.Need-same-length-2
 same-length-2 c = search needs
@@ -68,7 +77,9 @@ returns-4 : tie.Need-returns-4
 returns-4 c =
     let a = c .before .before .before .before .before .before .before .before .before .before .before .before .before .args in
     let r = c .before .before .before .before .before .before .before .before .before .before .read in
-    taken-merged (now (a .body)) (now (a .out)) (r .result) (r .ensures) (c .before .before .before .before .before .before .before .before .before .if1 .left) _ _ (sym (c .before .before .before .before .before .lawful-body .ensures) ∙ not-false _ (c .before .before .before .before .if3 .left)) (c .before .before .merge .ensures .0) (c .before .before .merge .ensures .1)
+    taken-merged (now (a .body)) (now (a .out)) (r .result) (r .ensures) (c .before .before .before .before .before .before .before .before .before .if1 .left)
+    _ _ (sym (c .before .before .before .before .before .lawful-body .ensures) ∙ not-false _ (c .before .before .before .before .if3 .left))
+    (c .before .before .merge .ensures .0) (c .before .before .merge .ensures .1)
 
 pub take-in-spec : {M : Type 1} → statement M
 take-in-spec =

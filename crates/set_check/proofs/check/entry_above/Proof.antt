@@ -82,7 +82,8 @@ add-low-tag-end : tie.Need-add-low-tag-end
 add-low-tag-end c = search needs
 
 add-tag-end : tie.Need-add-tag-end
-add-tag-end c = let h = c .before .before .before .before .before .before in record { fits = omega (arith, parts h .first-is, parts h .next-is, head h .inside) }
+add-tag-end c = let h = c .before .before .before .before .before .before in
+    record { fits = omega (arith, parts h .first-is, parts h .next-is, head h .inside) }
 
 sub-low-uuid : tie.Need-sub-low-uuid
 sub-low-uuid c = search needs

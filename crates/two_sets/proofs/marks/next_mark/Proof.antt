@@ -35,7 +35,8 @@ loop-again : tie.Need-loop-again Inv-loop μ-loop
 loop-again c =
     let l = c .before .before .before .before .before .before .loop in
     let a = c .before .before .before .before .before .before .before .before .before .args in
-    passing-turn (saidBy (a .operation)) (now (a .first)) (now (a .second)) (a .sides) (l .left) (l .inv) _ (c .before .before .turn .ensures) (c .before .if2 .left)
+    passing-turn (saidBy (a .operation)) (now (a .first)) (now (a .second)) (a .sides) (l .left) (l .inv) _ (c .before .before .turn .ensures)
+    (c .before .if2 .left)
 
 returns-2 : tie.Need-returns-2 Inv-loop μ-loop
 returns-2 c =

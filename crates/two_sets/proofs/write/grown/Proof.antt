@@ -25,16 +25,22 @@ head-len-requires : tie.Need-head-len-requires
 head-len-requires c κs = search needs
 
 add-t14 : tie.Need-add-t14
-add-t14 c = let a = c .before .before .before .before .before .before .before .before .args in record { fits = omega (arith, c .before .head-len .ensures, head-short (a .tags) (a .tag-len)) }
+add-t14 c = let a = c .before .before .before .before .before .before .before .before .args in
+    record { fits = omega (arith, c .before .head-len .ensures, head-short (a .tags) (a .tag-len)) }
 
 mul-t15 : tie.Need-mul-t15
 mul-t15 c = search needs
 
 add-t16 : tie.Need-add-t16
-add-t16 c = let a = c .before .before .before .before .before .before .before .before .args in record { fits = omega (arith, c .before .head-len .ensures, head-short (a .tags) (a .tag-len)) }
+add-t16 c = let a = c .before .before .before .before .before .before .before .before .args in
+    record { fits = omega (arith, c .before .head-len .ensures, head-short (a .tags) (a .tag-len)) }
 
 returns-2 : tie.Need-returns-2
-returns-2 c = rw (ne-eqb (c .before .before .before .before .before .before .before .before .args .marks) 0 (λ h. omega arith), c .before .before .before .over .ensures .0, c .before .head-len .ensures)
+returns-2 c = rw (
+  ne-eqb (c .before .before .before .before .before .before .before .before .args .marks) 0 (λ h. omega arith),
+  c .before .before .before .over .ensures .0,
+  c .before .head-len .ensures,
+)
 
 pub grown-spec : {M : Type 1} → statement M
 grown-spec =

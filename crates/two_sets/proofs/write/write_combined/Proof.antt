@@ -35,7 +35,8 @@ returns-2 c =
     let s = c .before .before .before .before .before .before .before .before .before .before in
     let m = c .before .before .before .before .before .put-combined in
     let g = combining-good (saidBy (s .args .operation)) (now (s .args .first)) (now (s .args .second)) (s .args .from) (s .pre .0) in
-    no-room _ g _ (m .ensures .0) (now (s .args .out)) _ (c .before .before .before .judge .ensures) (c .before .before .if1 .left) _ (c .before .length-of .ensures) (c .if2 .taken)
+    no-room _ g _ (m .ensures .0) (now (s .args .out)) _ (c .before .before .before .judge .ensures) (c .before .before .if1 .left) _
+    (c .before .length-of .ensures) (c .if2 .taken)
 
 put-header-requires : tie.Need-put-header-requires
 put-header-requires c κs = search needs
@@ -51,7 +52,12 @@ returns-3 c =
     let s = c .before .before .before .before .before .before .before .before .before .before .before .before .before .before .before .before .before .before in
     let m = c .before .before .before .before .before .before .before .before .before .before .before .before .before .put-combined in
     let g = combining-good (saidBy (s .args .operation)) (now (s .args .first)) (now (s .args .second)) (s .args .from) (s .pre .0) in
-    all-written _ g _ (m .ensures .0) (now (s .args .out)) _ (c .before .before .before .before .before .before .before .before .before .before .before .judge .ensures) (c .before .before .before .before .before .before .before .before .before .before .if1 .left) _ (c .before .before .before .before .before .before .before .before .before .length-of .ensures) (c .before .before .before .before .before .before .before .before .if2 .left) (put-placed (c .before .before .before .before .before .before .put-header .ensures)) (c .before .before .put-combined2 .ensures .1)
+    all-written _ g _ (m .ensures .0) (now (s .args .out)) _
+    (c .before .before .before .before .before .before .before .before .before .before .before .judge .ensures)
+    (c .before .before .before .before .before .before .before .before .before .before .if1 .left) _
+    (c .before .before .before .before .before .before .before .before .before .length-of .ensures)
+    (c .before .before .before .before .before .before .before .before .if2 .left)
+    (put-placed (c .before .before .before .before .before .before .put-header .ensures)) (c .before .before .put-combined2 .ensures .1)
 
 pub write-combined-spec : {M : Type 1} → statement M
 write-combined-spec =
