@@ -35,7 +35,7 @@ use Rattle.set_check.proofs.EntryPlaces.{EntryHere, entry-here, tag-sta
 pub tag-bytes : (t : List ℕ) → length t < 128 → tagBytes true t ≡ 2 * length t ∷ t
 tag-bytes t h = rw (one-byte (length t) h)
 
-pub some-more : (is : List Interval) → Some is → 0 < length is
+some-more : (is : List Interval) → Some is → 0 < length is
 some-more [] s = absurd s
 some-more (i ∷ is) s = omega arith
 

@@ -42,7 +42,7 @@ use Rattle.set_check.proofs.EntryPlaces.{entries-head, EntryHere, entry
 use Rattle.set_check.proofs.HeadLaws.{written-found}
 
 -- a key of a set without tags has none
-pub key-ok : (w any : Bool) (k : Key) (is : List Interval) (s : List Entry) → GoodKey k → (any || anyTag (entry k is ∷ s)) ≡ w → KeyOk w k
+key-ok : (w any : Bool) (k : Key) (is : List Interval) (s : List Entry) → GoodKey k → (any || anyTag (entry k is ∷ s)) ≡ w → KeyOk w k
 unfolding anyTag
 key-ok w any k is s g t = record {
   good = g;
