@@ -1,38 +1,19 @@
 -- A reader with its lent bytes stands for a place and a set after the end was named too.
-use Prim.Native.Nat.{ℕ, _≤_}
+use Prim.Native.Nat.{ℕ}
 use mathlib.Core.Path.{_≡_, refl, ap, _∙_}
 use mathlib.Core.Bool.{false}
 use mathlib.Core.List.{List, [], _∷_}
-use native.Mathlib.Omega.{arith}
-use lib.ListN.{length}
-use Rattle.misc.specs.Refusal.{notWritable}
 use Rattle.binlog.specs.Place.{Place, opening, heading, inside, passing, whole, ended, stopped}
 use Rattle.binlog.specs.Run.{endOf}
 use Rattle.binlog.specs.Walk.{isWhole}
-use Rattle.binlog.specs.Held.{workLen, made, placeOf, endAnswers}
 use Rattle.binlog.specs.declared.Phase.{Phase}
 use Rattle.binlog.specs.declared.Phase.the-variants as phase
-use Rattle.binlog.proofs.WalkRun.{either}
-use Rattle.binlog.proofs.PhaseLaws.{sound-by}
-use Rattle.binlog.proofs.PlaceLaws.{place-stopped, needs-most}
-use Rattle.binlog.proofs.EndLaws.{end-place, end-unmade}
+use Rattle.binlog.proofs.EndLaws.{end-place-room}
 use Rattle.binlog_reader.specs.Step.{saidIn, endAnswersOf}
 use Rattle.binlog_reader.specs.declared.Said.{Said}
 use Rattle.binlog_reader.specs.declared.Answer.{Answer}
 use Rattle.binlog_laws.specs.Loop.{Lending, EndsTo, eventsSaid}
 use Rattle.binlog_laws.proofs.Standing.{StandsAt}
-
--- a phase that no call made
-unmade-place : (p : Phase) (w : List ℕ) → made p ≡ false → placeOf p w ≡ stopped notWritable 0
-unfolding placeOf
-unmade-place p w h = rw h
-
--- with enough work bytes, wherever the reader is and whoever made it
-end-any : (p : Phase) (w : List ℕ) → workLen ≤ length w → placeOf (endAnswers p) w ≡ endOf (placeOf p w)
-end-any p w enough =
-    either (made p)
-    (λ h. let most = needs-most p in end-place p w (sound-by p (length w) h (omega arith)))
-    (λ h. rw (← end-unmade p h, unmade-place p w h) (place-stopped notWritable 0 w))
 
 end-between : (p : Place) → isWhole p ≡ false → isWhole (endOf p) ≡ false
 end-between (opening n) h = refl
@@ -60,7 +41,7 @@ end-stands room t m m′ r p kept s to =
     rw is (record {
       trails = s .trails;
       between = end-between p (s .between);
-      stands = end-any (m .reader .phase) (m .work) (s .work) ∙ ap endOf (s .stands);
+      stands = end-place-room (m .reader .phase) (m .work) (s .work) ∙ ap endOf (s .stands);
       front = s .front;
       work = s .work;
       rooms = s .rooms;

@@ -118,7 +118,8 @@ module _ (left : ℕ) (s : List ℕ) (at : ℕ) (are : Bytes s) where
   headed-forced : (n : ℕ) → HeadedFault left at s n → Refuses (headed left s at) n
   headed-forced n (HeadedFault.cutHeader few) = is-refused ended (rw (le-gone 8 s 0 few))
   headed-forced n (HeadedFault.inEntry {tagged = tagged} {header = header} rest whole says some fault) =
-      let (h, read, is, _, _) = header-reads s header rest says (front-bytes header rest (subst Bytes whole are)) (record { is = whole; inside = omega arith }) in
+      let (h, read, is, _, _) =
+      header-reads s header rest says (front-bytes header rest (subst Bytes whole are)) (record { is = whole; inside = omega arith }) in
       same-refused (entry-place-forced s tagged at n fault) (λ r e. rw (read, ne-eqb left 0 some, is, e))
 
   pub headed-exact : (say : Parse Entry → ℕ) → ((r : Refusal) → say (refuse r) ≡ number r) → ((e : Entry) (next : ℕ) → say (parsed e next) ≡ 0)
@@ -160,7 +161,9 @@ bodies-exact = record {
   «entry_at» = λ body at tagged are. of-body-exact body (entryAt tagged body at) (EntryFault tagged (drop at body)) (λ p. entryRead p .refusal)
       (λ r. refl) entry-good (entry-given body tagged at are) (entry-place-forced body tagged at);
   «interval_at» = λ body first index. of-body-exact body (intervalAt body (first + 16 * index)) (FixedFault 16 (drop (first + 16 * index) body))
-      (λ p. intervalRead p .refusal) (λ r. refl) (interval-good body (first + 16 * index)) (interval-given body (first + 16 * index)) (interval-forced body (first + 16 * index));
-  rewrite = λ body out are. writes-exactly (rewritten (previous body)) out (BodyFault body) (RewrittenAs body) (rewrite-given body are) (rewrite-forced body are)
+      (λ p. intervalRead p .refusal) (λ r. refl) (interval-good body (first + 16 * index)) (interval-given body (first + 16 * index))
+      (interval-forced body (first + 16 * index));
+  rewrite = λ body out are. writes-exactly (rewritten (previous body)) out (BodyFault body) (RewrittenAs body) (rewrite-given body are)
+      (rewrite-forced body are)
       (rewrite-writes body are) (rewrite-written body are);
 }

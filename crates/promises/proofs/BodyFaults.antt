@@ -18,11 +18,13 @@ use Rattle.misc.proofs.Accepted.{form-read}
 use Rattle.packets.specs.Key.{Key}
 use Rattle.previous_gtids_event.specs.Entry.{Entry}
 use Rattle.packets.specs.Tag.{noneOrTag}
-use Rattle.previous_gtids_event.specs.Previous.{tagAt, keyAt, Head, head, headAt, intervalAt, intervalsAfter, entryAt, saysTagged, saysCount, entriesAfter, entriesIn, previous}
+use Rattle.previous_gtids_event.specs.Previous.{tagAt, keyAt, Head, head, headAt, intervalAt, intervalsAfter, entryAt, saysTagged, saysCount, entriesAfter}
+use Rattle.previous_gtids_event.specs.Previous.{entriesIn, previous}
 use Rattle.previous_gtids_event.proofs.Reading.{intervals-here, intervals-gone}
 use Rattle.previous_gtids_event.proofs.Accepting.{header-found, KeyFound, key-found, HeadFound, head-found, head-whole, entries-found}
 use Rattle.promises.specs.BodyFaults.{EntryFault, BodyFault}
-use Rattle.promises.proofs.Gives.{Gives, refuse-gives, parsed-gives, then-gives, then-at-gives, mapped-gives, pick-gives, many-gives, bytes-gives, le-gives, then-le-gives, sized-gives}
+use Rattle.promises.proofs.Gives.{Gives, refuse-gives, parsed-gives, then-gives, then-at-gives, mapped-gives, pick-gives, many-gives, bytes-gives}
+use Rattle.promises.proofs.Gives.{le-gives, then-le-gives, sized-gives}
 use Rattle.promises.proofs.TaggedFaulty.{cut-form}
 
 module _ (s : List ℕ) (are : Bytes s) where

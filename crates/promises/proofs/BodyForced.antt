@@ -67,7 +67,8 @@ module _ (s : List ℕ) where
       let m = at + 16 + length tag in
       let fourth : From s (m + 8) rest = rw (count-is .long) at (from-next s m count rest third) in
       let counted = number-reads s 8 m k count rest count-is third in
-      is-refused ended (rw (bytes-here 16 s at room, read, counted, intervals-gone s k (m + 8) (fourth .inside) (omega (arith, from-size s (m + 8) rest fourth))))
+      is-refused ended (rw
+      (bytes-here 16 s at room, read, counted, intervals-gone s k (m + 8) (fourth .inside) (omega (arith, from-size s (m + 8) rest fourth))))
   entry-forced tagged at l n (EntryFault.tagRule uuid t {size = size} rest sixteen form bad) h =
       let (room, second) = uuid-there s at uuid (size ++ (t ++ rest)) sixteen h in
       is-refused badTag (rw (bytes-here 16 s at room, tag-breaks (at + 16) t size rest form bad second))
@@ -76,7 +77,8 @@ pub body-forced : (s : List ℕ) → Bytes s → (n : ℕ) → BodyFault s n →
 unfolding previous
 body-forced s are n (BodyFault.tooLong l over) = is-refused tooLong (rw (lt-leb (length s) bodyLimit over))
 body-forced s are n (BodyFault.cutHeader l few) = is-refused ended (rw (le-leb (length s) bodyLimit (omega (arith, bodyLimit-is)), le-gone 8 s 0 few))
-body-forced s are n (BodyFault.inEntries {tagged = tagged} {count = count} {es = es} {header = header} {front = front} {rest = rest} short says entries below bad) =
+body-forced s are n (BodyFault.inEntries {tagged = tagged} {count = count} {es = es} {header = header} {front = front} {rest = rest} short says entries below
+    bad) =
     let (h, read, is, counted, second) = header-reads s header (front ++ rest) says (front-bytes header (front ++ rest) are) (from-start s) in
     let passed = entries-read s tagged es front entries 8 rest second in
     let (r, e, this) = entry-forced s tagged (8 + length front) rest n bad (from-next s 8 front rest second) in

@@ -25,5 +25,8 @@ use Rattle.abi.specs.Flat.{flatIdentity, flatClock, flatRest, flat, fourAt, fla
 use Rattle.promises.specs.Edges.{edges, Agree}
 
 pub edges-agree : Agree edges
-unfolding many bytesAt byteAt bodyLimit meantBy signedAt naturalAt bitsOf limitedAt uuidAt tagAt fieldAt fieldsFrom openingAt untagged tagged seen leOf leBytes leAt lenencBytes trailingOnes itemValue varlenAt sizeFrom varlenSize itemOf varlenBytes sentAs padded allTagBytes isTag headerBytes sizeWith payloadSize sizeIn64 itemsBytes identityBytes clockBytes restBytes fieldBytes taggedBytes openingBytes laterBytes untaggedBytes eventBytes numberAt flatIdentity flatClock flatRest flat fourAt flatRead reportText linesText lineText countsText refusedText decimal decimalIn highWord lowWord
+unfolding many bytesAt byteAt bodyLimit meantBy signedAt naturalAt bitsOf limitedAt uuidAt tagAt fieldAt fieldsFrom openingAt untagged tagged seen leOf
+    leBytes leAt lenencBytes trailingOnes itemValue varlenAt sizeFrom varlenSize itemOf varlenBytes sentAs padded allTagBytes isTag headerBytes sizeWith
+    payloadSize sizeIn64 itemsBytes identityBytes clockBytes restBytes fieldBytes taggedBytes openingBytes laterBytes untaggedBytes eventBytes numberAt
+    flatIdentity flatClock flatRest flat fourAt flatRead reportText linesText lineText countsText refusedText decimal decimalIn highWord lowWord
 edges-agree = refl

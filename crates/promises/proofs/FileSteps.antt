@@ -1,7 +1,7 @@
 -- A step that refuses before it looks at a byte (`StepsRefuse` of `specs/Files.antt`).
 use Prim.Native.Nat.{ℕ, _<_}
 use mathlib.Core.Path.{_≡_, refl, ap, _∙_}
-use mathlib.Core.Bool.{true, false}
+use mathlib.Core.Bool.{true}
 use mathlib.Core.List.{List, []}
 use native.Mathlib.Omega.{arith}
 use lib.ListN.{length}
@@ -14,6 +14,7 @@ use Rattle.binlog.specs.declared.Phase.{Phase}
 use Rattle.binlog.specs.declared.Phase.the-variants as phase
 use Rattle.binlog.proofs.WalkRun.{walk-waits}
 use Rattle.binlog.proofs.PhaseLaws.{renumber}
+use Rattle.binlog.proofs.AnswerLaws.{unmade-place}
 use Rattle.binlog_reader.specs.Step.{stepped, steps, stepOf}
 use Rattle.binlog_reader.specs.declared.Reader.{Reader}
 use Rattle.promises.specs.Files.{RefusesAtOnce, StepsRefuse}
@@ -27,10 +28,6 @@ module _ (r : Reader) (work set chunk : List ℕ) (spare : ℕ) where
   at-once : (x : Refusal) (n : ℕ) → placeOf (r .phase) work ≡ stopped x n → RefusesAtOnce r (stepOf r work set spare chunk) (number x) n
   at-once x n is = rw (is, stays-there _ _ x n _ chunk) (record { answers = refl; leaves = λ buffer. refl })
 
-forged-place : (p : Phase) (w : List ℕ) → made p ≡ false → placeOf p w ≡ stopped notWritable 0
-unfolding placeOf
-forged-place p w bad = rw bad
-
 short-place : (p : Phase) (w : List ℕ) → made p ≡ true → needs p ≡ 65540 → length w < 65540 → placeOf p w ≡ stopped noRoom workLen
 unfolding placeOf
 short-place p w good need few = rw (good, need, lt-leb 65540 (length w) few)
@@ -41,7 +38,7 @@ again-place n len w some = rw (lt-ltb 0 n some, le-leb 0 (length w) (omega arith
 
 pub steps-refuse : StepsRefuse
 steps-refuse = record {
-  forged = λ r work set chunk spare bad. at-once r work set chunk spare notWritable 0 (forged-place (r .phase) work bad);
+  forged = λ r work set chunk spare bad. at-once r work set chunk spare notWritable 0 (unmade-place (r .phase) work bad);
   short = λ r work set chunk spare good need few. at-once r work set chunk spare noRoom 65540 (short-place (r .phase) work good need few);
   again = λ r work set chunk spare n len some is.
       rw (renumber n some) at (at-once r work set chunk spare (numbered n) len (ap (λ (p : Phase). placeOf p work) is ∙ again-place n len work some));

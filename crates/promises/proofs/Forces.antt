@@ -64,12 +64,17 @@ module _ (s : List ℕ) where
     where
       led : at < length s → ledAt (getD s at 0) s (at + 1) ≡ refuse ended
       led inside =
-          tests.split (eqb (getD s at 0) 0xFC) (λ c. rw (eqb-true (getD s at 0) 0xFC c, led-2) (let over : length s < at + (1 + 2) = rw c at h in le-gone 2 s (at + 1) (omega arith))) (λ c.
-          tests.split (eqb (getD s at 0) 0xFD) (λ d. rw (eqb-true (getD s at 0) 0xFD d, led-3) (let over : length s < at + (1 + 3) = rw (c, d) at h in le-gone 3 s (at + 1) (omega arith))) (λ d.
-          tests.split (eqb (getD s at 0) 0xFE) (λ f. rw (eqb-true (getD s at 0) 0xFE f, led-8) (let over : length s < at + (1 + 8) = rw (c, d, f) at h in le-gone 8 s (at + 1) (omega arith))) (λ f.
+          tests.split (eqb (getD s at 0) 0xFC)
+          (λ c. rw (eqb-true (getD s at 0) 0xFC c, led-2) (let over : length s < at + (1 + 2) = rw c at h in le-gone 2 s (at + 1) (omega arith))) (λ c.
+          tests.split (eqb (getD s at 0) 0xFD)
+          (λ d. rw (eqb-true (getD s at 0) 0xFD d, led-3) (let over : length s < at + (1 + 3) = rw (c, d) at h in le-gone 3 s (at + 1) (omega arith))) (λ d.
+          tests.split (eqb (getD s at 0) 0xFE)
+          (λ f. rw (eqb-true (getD s at 0) 0xFE f, led-8) (let over : length s < at + (1 + 8) = rw (c, d, f) at h in le-gone 8 s (at + 1) (omega arith))) (λ f.
           let over : length s < at + (1 + 0) = rw (c, d, f) at h in
           absurd (omega arith))))
 
   pub lead-refused : (at : ℕ) → at < length s → (getD s at 0 ≡ 0xFB) ⊎ (getD s at 0 ≡ 0xFF) → lenencAt s at ≡ refuse badLead
-  lead-refused at inside (inl e) = lenenc-led s at 0xFB inside e ∙ led-none 0xFB s (at + 1) (omega arith) (λ q. omega arith) (λ q. omega arith) (λ q. omega arith)
-  lead-refused at inside (inr e) = lenenc-led s at 0xFF inside e ∙ led-none 0xFF s (at + 1) (omega arith) (λ q. omega arith) (λ q. omega arith) (λ q. omega arith)
+  lead-refused at inside (inl e) = lenenc-led s at 0xFB inside e
+      ∙ led-none 0xFB s (at + 1) (omega arith) (λ q. omega arith) (λ q. omega arith) (λ q. omega arith)
+  lead-refused at inside (inr e) = lenenc-led s at 0xFF inside e
+      ∙ led-none 0xFF s (at + 1) (omega arith) (λ q. omega arith) (λ q. omega arith) (λ q. omega arith)

@@ -80,7 +80,8 @@ module _ (P : ℕ → Type 0) where
     pub bytes-gives : (n at : ℕ) → (Ends (plain n) s at → P 1) → Gives P (bytesAt n s at)
     unfolding bytesAt
     bytes-gives n at h =
-        pick-gives (leb (at + n) (length s)) _ _ (λ _. parsed-gives (part s at n) (at + n)) (λ over. refuse-gives ended (h (leb-false (at + n) (length s) over)))
+        pick-gives (leb (at + n) (length s)) _ _ (λ _. parsed-gives (part s at n) (at + n))
+        (λ over. refuse-gives ended (h (leb-false (at + n) (length s) over)))
 
     pub byte-gives : (at : ℕ) → (Ends (plain 1) s at → P 1) → Gives P (byteAt s at)
     unfolding byteAt

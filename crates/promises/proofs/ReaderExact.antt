@@ -111,7 +111,8 @@ module _ (s : List ℕ) (short : length s ≤ bodyLimit) (h : ℕ) (read : leAt 
   still k c none = ap (λ (d : Cursor). stepOf s d .entry .refusal) (after-still s c none k)
 
   -- the entry at a place is refused: so is every step from there on
-  refused-hits : (k left at : ℕ) (r : Refusal) → entryAt (saysTagged h) s at ≡ refuse r → RefusesExactly (said k (cursorAt (suc left) at)) (Hits k (suc left) at)
+  refused-hits : (k left at : ℕ) (r : Refusal) → entryAt (saysTagged h) s at ≡ refuse r
+      → RefusesExactly (said k (cursorAt (suc left) at)) (Hits k (suc left) at)
   refused-hits k left at r e =
       let here : stepOf s (cursorAt (suc left) at) ≡ refusedStep (number r) = step-is (suc left) at ∙ rw (ne-eqb (suc left) 0 (λ none. omega arith), e) in
       known-exactly (said k (cursorAt (suc left) at)) (number r) (Hits k (suc left) at)
@@ -134,13 +135,15 @@ module _ (s : List ℕ) (short : length s ≤ bodyLimit) (h : ℕ) (read : leAt 
 
   -- it is handed out
   handed : (left at : ℕ) (e : Entry) (next : ℕ) → entryAt (saysTagged h) s at ≡ parsed e next → stepOf s (cursorAt (suc left) at) ≡ entryStep left e next
-  handed left at e next p = step-is (suc left) at ∙ rw (ne-eqb (suc left) 0 (λ none. omega arith), p) (ap (λ (n : ℕ). entryStep n e next) (let one : suc left - 1 ≡ left = omega arith in one))
+  handed left at e next p = step-is (suc left) at
+      ∙ rw (ne-eqb (suc left) 0 (λ none. omega arith), p) (ap (λ (n : ℕ). entryStep n e next) (let one : suc left - 1 ≡ left = omega arith in one))
 
   first-hands : (left at : ℕ) (e : Entry) (next : ℕ) → entryAt (saysTagged h) s at ≡ parsed e next
       → RefusesExactly (said 0 (cursorAt (suc left) at)) (Hits 0 (suc left) at)
   first-hands left at (entry j is) next p =
       accepts-exactly (said 0 (cursorAt (suc left) at)) (Hits 0 (suc left) at)
-      (ap (λ (d : Cursor). stepOf s d .entry .refusal) (after-none s (cursorAt (suc left) at)) ∙ ap (λ (x : Step). x .entry .refusal) (handed left at (entry j is) next p))
+      (ap (λ (d : Cursor). stepOf s d .entry .refusal) (after-none s (cursorAt (suc left) at))
+      ∙ ap (λ (x : Step). x .entry .refusal) (handed left at (entry j is) next p))
       (λ n hit. go (hit .es) (hit .to) (hit .passed) (hit .early) (hit .r) (hit .stops))
     where
       go : (es : List Entry) (to : ℕ) → many (entryAt (saysTagged h) s) (length es) at ≡ parsed es to → length es ≤ 0 → (x : Refusal)
@@ -179,7 +182,8 @@ module _ (s : List ℕ) (short : length s ≤ bodyLimit) (h : ℕ) (read : leAt 
           never (sym there ∙ p)
       go n (f ∷ fs) to passed x early counted stops is =
           let others = sym (many-next (entryAt (saysTagged h) s) (length fs) at e next p) ∙ passed in
-          let behind : many (entryAt (saysTagged h) s) (length fs) next ≡ parsed fs to = ahead-parsed (many (entryAt (saysTagged h) s) (length fs) next) e f fs to others in
+          let behind : many (entryAt (saysTagged h) s) (length fs) next ≡ parsed fs to =
+          ahead-parsed (many (entryAt (saysTagged h) s) (length fs) next) e f fs to others in
           record { es = fs; to = to; r = x; passed = behind; early = omega arith; counted = omega arith; stops = stops; is = is }
 
   at-first : (left at : ℕ) (p : Parse Entry) → entryAt (saysTagged h) s at ≡ p → RefusesExactly (said 0 (cursorAt (suc left) at)) (Hits 0 (suc left) at)
@@ -213,7 +217,9 @@ module _ (s : List ℕ) (short : length s ≤ bodyLimit) (h : ℕ) (read : leAt 
     fault-hit : (n : ℕ) → OfBody s (NumberFault index s) n → Hits index (saysCount h) 8 n
     fault-hit n (OfBody.tooLong long) = absurd (omega arith)
     fault-hit n (OfBody.inPart _ (NumberFault.cutHeader few)) = never (sym (le-gone 8 s 0 few) ∙ read)
-    fault-hit n (OfBody.inPart _ (NumberFault.inEntries {tagged = tagged} {count = count} {es = es} {header = header} {front = front} {rest = rest} whole says entries early below bad)) =
+    fault-hit n (OfBody.inPart _
+        (NumberFault.inEntries {tagged = tagged} {count = count} {es = es} {header = header} {front = front} {rest = rest} whole says entries early below
+        bad)) =
         let (g, told, is, counted, second) =
         header-reads s header (front ++ rest) says (front-bytes header (front ++ rest) (subst Bytes whole are)) (record { is = whole; inside = omega arith }) in
         let same : g ≡ h = cc in
@@ -265,7 +271,8 @@ module _ (s : List ℕ) (index : ℕ) where
       only n (OfBody.inPart _ (NumberFault.cutHeader _)) = refl
       only n (OfBody.inPart _ (NumberFault.inEntries {header = header} {front = front} {rest = rest} whole says entries early below bad)) =
           let (_, told, _, _, _) =
-          header-reads s header (front ++ rest) says (front-bytes header (front ++ rest) (subst Bytes whole are)) (record { is = whole; inside = omega arith }) in
+          header-reads s header (front ++ rest) says (front-bytes header (front ++ rest) (subst Bytes whole are))
+          (record { is = whole; inside = omega arith }) in
           never (sym (le-gone 8 s 0 few) ∙ told)
 
   number-exact : Bytes s → RefusesExactly (stepAfter s index .entry .refusal) (OfBody s (NumberFault index s))

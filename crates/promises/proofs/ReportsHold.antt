@@ -31,7 +31,8 @@ use Rattle.abi.proofs.FlatReportLaws.{no-report, no-place, place-cases, adds-he
 use Rattle.abi.proofs.FlatReportBack.{adds-alike, zeros-new}
 use Rattle.promises.specs.Exact.{Exactly}
 use Rattle.resume_set_laws.specs.History.{lentNumber}
-use Rattle.promises.specs.Reports.{CountsMembers, lentSum, noNumbers, Told, AddAnswer, NumbersLine, SetLine, Lines, ReportsExactly, ourReport, flatOver, zeros, NoReport, ArchiveReports, Reports}
+use Rattle.promises.specs.Reports.{CountsMembers, lentSum, noNumbers, Told, AddAnswer, NumbersLine, SetLine, Lines, ReportsExactly, ourReport, flatOver}
+use Rattle.promises.specs.Reports.{zeros, NoReport, ArchiveReports, Reports}
 use Rattle.promises.proofs.Exactly.{judges-exactly, writes-exactly}
 use Rattle.promises.proofs.Forces.{WriterRefuses}
 use Rattle.promises.proofs.SetsExact.{apart, unfit-fault, fault-unfit}

@@ -37,6 +37,7 @@ use Rattle.listing.specs.SetText.{setText, listedSet}
 use Rattle.resume_set.specs.declared.Offered.the-variants.{Refused}
 use Rattle.resume_set_laws.specs.History.{lentHas, member}
 use Rattle.resume_set_laws.specs.Ours.{ours}
+use Rattle.resume_set_laws.proofs.OneOffer.{out-refused}
 use Rattle.promises.specs.PlainFaults.{ShortFault}
 use Rattle.promises.specs.SetFaults.{SetFault, BodyIs, TakeInFault, TakenInAs, keyOf, Names, Accepts, OfferFault, OfferAnswer}
 use Rattle.promises.specs.Exact.{RefusesExactly, SetsExact, OffersExactly, AsksExactly, asks}
@@ -181,10 +182,6 @@ out-fits bs out room = rw (le-leb (length bs) (length out) room)
 out-short : (bs out : List ℕ) → leb (length bs) (length out) ≡ false → outputOf out (bytes bs) ≡ out
 unfolding outputOf
 out-short bs out over = rw over
-
-out-refused : (out : List ℕ) (r : Refusal) → outputOf out (refused r) ≡ out
-unfolding outputOf
-out-refused out r = refl
 
 module _ (set : List ℕ) (type : ℕ) (body : List ℕ) (out : List ℕ) (are : Bytes body) where
   -- ---- a case forces its answer, and what is left in the output

@@ -20,11 +20,14 @@ use Rattle.packets.proofs.Tests.{clash, and-true}
 use Rattle.packets.specs.Tag.{isTag}
 use Rattle.gtid_event.specs.declared.GtidEvent.{GtidEvent}
 use Rattle.gtid_event_read.specs.declared.Fields.{Fields}
-use Rattle.gtid_event_read.specs.Fields.{Kind, anyNumber, upTo, natural, uuid, tag, unknown, fieldTable, kindOf, noFields, limitedAt, uuidAt, tagAt, valueAt, fieldAt, fieldsFrom, fieldsOf}
+use Rattle.gtid_event_read.specs.Fields.{Kind, anyNumber, upTo, natural, uuid, tag, unknown, fieldTable, kindOf, noFields, limitedAt, uuidAt, tagAt, valueAt}
+use Rattle.gtid_event_read.specs.Fields.{fieldAt, fieldsFrom, fieldsOf}
 use Rattle.gtid_event_read.specs.Untagged.{pair, ifLeft, originalAfter, pairAt, timestampsAt, lengthAt, versionsAt, openingAt, clockAt, typecodeAt, untagged}
 use Rattle.gtid_event_read.specs.Tagged.{finished, payloadAt, tagged}
-use Rattle.promises.proofs.Stops.{plain, varlen, lenenc, Ends, Later, AtLength, AtVersions, Untagged, UntaggedStop, Reached, AtValue, AtUuidItem, Wanted, FieldStop, Envelope, TaggedStop}
-use Rattle.promises.proofs.Gives.{Gives, le-parsed, refuse-gives, parsed-gives, then-gives, then-at-gives, mapped-gives, pick-gives, judged-gives, many-gives, bytes-gives, byte-gives, le-gives, then-le-gives, varlen-gives, sized-gives, lenenc-gives}
+use Rattle.promises.proofs.Stops.{plain, varlen, lenenc, Ends, Later, AtLength, AtVersions, Untagged, UntaggedStop, Reached, AtValue, AtUuidItem, Wanted}
+use Rattle.promises.proofs.Stops.{FieldStop, Envelope, TaggedStop}
+use Rattle.promises.proofs.Gives.{Gives, le-parsed, refuse-gives, parsed-gives, then-gives, then-at-gives, mapped-gives, pick-gives, judged-gives}
+use Rattle.promises.proofs.Gives.{many-gives, bytes-gives, byte-gives, le-gives, then-le-gives, varlen-gives, sized-gives, lenenc-gives}
 
 -- ---- an untagged event
 
@@ -60,7 +63,8 @@ module _ (s : List ℕ) where
   pair-faults w at there h =
       then-le-gives (UntaggedStop s) s w at (originalAfter w s) (λ ends. absurd (omega arith)) (λ v e.
       pick-gives (UntaggedStop s) (hasBit (8 * w - 1) v) _ _
-      (λ marked. mapped-gives (UntaggedStop s) _ (leAt w s (at + w)) (le-gives (UntaggedStop s) s w (at + w) (h (rw (le-parsed w s at v (at + w) e .1) at marked))))
+      (λ marked. mapped-gives (UntaggedStop s) _ (leAt w s (at + w))
+      (le-gives (UntaggedStop s) s w (at + w) (h (rw (le-parsed w s at v (at + w) e .1) at marked))))
       (λ _. parsed-gives (UntaggedStop s) (pair v v) (at + w)))
 
   module _ (bytes : Bytes s) (later : Later s) where
@@ -185,7 +189,8 @@ module _ (last : ℕ) (s : List ℕ) where
     value-faults f uuid is = mapped-gives (FieldStop last s) _ (uuidAt s from) (uuid-faults is)
     value-faults f tag is = mapped-gives (FieldStop last s) _ (tagAt s from) (tag-faults is)
     value-faults f unknown is =
-        pick-gives (FieldStop last s) (leb id last) _ _ (λ low. refuse-gives (FieldStop last s) unknownField (FieldStop.unknownId here is (leb-true id last low)))
+        pick-gives (FieldStop last s) (leb id last) _ _
+        (λ low. refuse-gives (FieldStop last s) unknownField (FieldStop.unknownId here is (leb-true id last low)))
         (λ _. parsed-gives (FieldStop last s) f (length s))
 
   field-faults : (n : ℕ) (f : Fields) (at : ℕ) → Reached last s f at → Gives (FieldStop last s) (fieldsFrom n last s f at)

@@ -66,7 +66,8 @@ module _ (s : List ℕ) (are : Bytes s) where
       let one = form-read s are at u m read in
       go u m rest last one low (items-found n m rest last (one .inside) r) (cc) (cc)
     where
-      go : (u m : ℕ) (rest : List ℕ) (last : ℕ) → Found (Form u) s at m → u ≤ 255 → (length rest ≡ n) × Found (Items rest) s m last → u ∷ rest ≡ us → last ≡ next
+      go : (u m : ℕ) (rest : List ℕ) (last : ℕ) → Found (Form u) s at m → u ≤ 255 → (length rest ≡ n) × Found (Items rest) s m last → u ∷ rest ≡ us
+          → last ≡ next
           → (length us ≡ suc n) × Found (Items us) s at next
       go u m rest last one low (size, others) list place =
           rw (← list, ← place) (ap suc size, found-both s (λ a b form items. Items.more form low items) one others)
@@ -100,7 +101,8 @@ module _ (s : List ℕ) (are : Bytes s) where
         let (read, low) = limited-parsed limit s from v next p in
         value (number id v) (found-as s (λ bs form. mk v bs form low) (form-read s are from v next read)) q
 
-    natural-found : (id : ℕ) → ((v : ℕ) (bs : List ℕ) → Form (v * 2) bs → Value id (number id v) bs) → mapped (withNumber id f) (naturalAt s from) ≡ parsed g next
+    natural-found : (id : ℕ) → ((v : ℕ) (bs : List ℕ) → Form (v * 2) bs → Value id (number id v) bs)
+        → mapped (withNumber id f) (naturalAt s from) ≡ parsed g next
         → Next last id f from g next
     natural-found id mk e =
         let (v, p, q) = mapped-parsed (withNumber id f) (naturalAt s from) g next e in
@@ -188,7 +190,7 @@ module _ (s : List ℕ) (are : Bytes s) where
       drop-cons s 0 0 inside ∙ ap (λ (b : ℕ). b ∷ drop 1 s) (sym is)
 
   -- behind a place, so many bytes and the rest
-  split-at-size : (start size : ℕ) → start ≤ size → drop start s ≡ part s start (size - start) ++ drop size s
+  pub split-at-size : (start size : ℕ) → start ≤ size → drop start s ≡ part s start (size - start) ++ drop size s
   split-at-size start size h =
       let sum : start + (size - start) ≡ size = omega arith in
       part-from s start (size - start) ∙ ap (λ (n : ℕ). part s start (size - start) ++ drop n s) sum
@@ -200,7 +202,8 @@ module _ (s : List ℕ) (are : Bytes s) where
       let b = form-read s are (p .size-end) (p .last) (p .start) (p .last-read) in
       let t = part s (p .start) (p .size - p .start) in
       go (p .size) (p .size-end) (p .last) (p .start) (p .fields) a b (p .large) (p .here) (byte-parsed s 0 2 1 (p .version) .0) (first-byte (p .version))
-      (fields-found t (part-bytes s (p .start) (p .size - p .start) are) (p .last) (length t) noFields 0 (p .fields) (p .fields-end) (omega arith) (p .fields-read))
+      (fields-found t (part-bytes s (p .start) (p .size - p .start) are) (p .last) (length t) noFields 0 (p .fields) (p .fields-end) (omega arith)
+      (p .fields-read))
       (p .tag-there) (p .is) (p .ends)
     where
       go : (size m last start : ℕ) (f : Fields) (a : Found (Form size) s 1 m) (b : Found (Form last) s m start) → start ≤ size → size ≤ length s → 0 < length s

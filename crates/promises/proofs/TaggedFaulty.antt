@@ -25,7 +25,7 @@ use Rattle.promises.proofs.Stops.{Item, varlen, Ends, Reached, AtValue,
 use Rattle.promises.specs.TaggedLayout.{Sent, Value, sends}
 use Rattle.promises.specs.Faults.{CutForm, FieldsFront, ValueFault, FieldFault, TaggedFault}
 use Rattle.promises.proofs.TaggedSaid.{sent-at}
-use Rattle.promises.proofs.TaggedAccepted.{items-found, Next, field-parts, fields-found}
+use Rattle.promises.proofs.TaggedAccepted.{split-at-size, items-found, Next, field-parts, fields-found}
 
 -- ---- the table of kinds, read backwards
 abbrev Of : Kind → ℕ → Type 0
@@ -152,7 +152,8 @@ module _ (s : List ℕ) (are : Bytes s) where
         let form = form-read s are at v to told in
         at-value (item .value) (rw (items .is, form .is) (ValueFault.largeItem (drop to s) (items .holds) few (form .holds) over))
     fields-faulty (FieldStop.negative {id = id} {from = from} {n = n} {to = to} here is told) =
-        at-value here (after-number id from (n * 2 + 1) to 3 (signed-sent s from n to told) (λ bs rest form. ValueFault.negative n rest (of-kind id natural is) form))
+        at-value here (after-number id from (n * 2 + 1) to 3 (signed-sent s from n to told)
+        (λ bs rest form. ValueFault.negative n rest (of-kind id natural is) form))
     fields-faulty (FieldStop.unknownId {id = id} here is low) = at-value here (ValueFault.unknownId (of-kind id unknown is) low)
     fields-faulty (FieldStop.tagRule {from = from} {n = n} {to = to} here told room bad) =
         let form = form-read s are from n to told in
@@ -189,12 +190,6 @@ module _ (s : List ℕ) (are : Bytes s) where
         place = omega (arith, found-size s x some, found-size s y (x .inside), length-append (x .bytes) (y .bytes));
       }
 
-  -- the payload's fields, and what is behind them
-  fields-whole : (start size : ℕ) → start ≤ size → drop start s ≡ part s start (size - start) ++ drop size s
-  fields-whole start size h =
-      let sum : start + (size - start) ≡ size = omega arith in
-      part-from s start (size - start) ∙ ap (λ (n : ℕ). part s start (size - start) ++ drop n s) sum
-
   counted : {size last start : ℕ} (p : Parts size last start) → start ≤ size → size ≤ length s
       → size ≡ length (2 ∷ (p .a ++ (p .b ++ part s start (size - start))))
   counted {size} {last} {start} p large here =
@@ -226,7 +221,7 @@ module _ (s : List ℕ) (are : Bytes s) where
       let p = parts v in
       let bad = fields-faulty (part s start (size - start)) (part-bytes s start (size - start) are) last fault in
       subst (λ (l : List ℕ). TaggedFault l n)
-      (sym (p .whole ∙ ap (λ (l : List ℕ). 2 ∷ (p .a ++ (p .b ++ l))) (fields-whole start size large)))
+      (sym (p .whole ∙ ap (λ (l : List ℕ). 2 ∷ (p .a ++ (p .b ++ l))) (split-at-size s are start size large)))
       (TaggedFault.inFields (drop size s) (p .size-is) (p .last-is) (counted p large here) bad)
   tagged-faulty (TaggedStop.noTag {size = size} {last = last} {start = start} {at = at} {f = f} v large here read none) =
       let p = parts v in
@@ -234,5 +229,5 @@ module _ (s : List ℕ) (are : Bytes s) where
       let (told, laid, kept) = fields-found t (part-bytes s start (size - start) are) last (length t) noFields 0 f at (omega arith) read in
       let no : sends 3 told ≡ false = sym (sent-at told 3 (omega arith)) ∙ ap (λ (y : Fields). getD (y .present) 3 false) (sym kept) ∙ none in
       subst (λ (l : List ℕ). TaggedFault l 7)
-      (sym (p .whole ∙ ap (λ (l : List ℕ). 2 ∷ (p .a ++ (p .b ++ l))) (fields-whole start size large)))
+      (sym (p .whole ∙ ap (λ (l : List ℕ). 2 ∷ (p .a ++ (p .b ++ l))) (split-at-size s are start size large)))
       (TaggedFault.noTag (drop size s) (p .size-is) (p .last-is) (counted p large here) laid no)

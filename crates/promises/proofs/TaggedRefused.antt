@@ -95,8 +95,10 @@ module _ (s : List ℕ) where
         is-refused ended (item-refused us done rest ended items few h (rw (cut-ends (at + length done) rest cut (from-next s at done rest h))))
     bad-refused id l n (ValueFault.cutTag {n = k} {size = size} rest form few) h =
         let behind = from-next s at size rest h in
-        is-refused ended (rw (form-reads s at k size rest form h, bytes-gone k s (at + length size) (omega (arith, from-size s (at + length size) rest behind))))
-    bad-refused id l n (ValueFault.largeFlags {v = v} {bs = bs} rest form over) h = is-refused tooLarge (rw (form-reads s at v bs rest form h, lt-leb v 255 over))
+        is-refused ended (rw
+        (form-reads s at k size rest form h, bytes-gone k s (at + length size) (omega (arith, from-size s (at + length size) rest behind))))
+    bad-refused id l n (ValueFault.largeFlags {v = v} {bs = bs} rest form over) h =
+        is-refused tooLarge (rw (form-reads s at v bs rest form h, lt-leb v 255 over))
     bad-refused id l n (ValueFault.largeItem {u = u} {us = us} {done = done} {bs = bs} rest items few form over) h =
         let behind = from-next s at done (bs ++ rest) h in
         is-refused tooLarge (item-refused us done (bs ++ rest) tooLarge items few h
@@ -204,7 +206,8 @@ tagged-refused s n (TaggedFault.cutSize {rest = rest} cut) =
     is-refused ended (rw (version-here s (omega arith) refl .found refl, cut-ends s 1 rest cut first))
 tagged-refused s n (TaggedFault.cutLast {size = size} {a = a} {rest = rest} form cut) =
     let first : From s 1 (a ++ rest) = from-next s 0 (2 ∷ []) (a ++ rest) (from-start s) in
-    is-refused ended (rw (version-here s (omega arith) refl .found refl, form-reads s 1 size a rest form first, cut-ends s (1 + length a) rest cut (from-next s 1 a rest first)))
+    is-refused ended (rw
+    (version-here s (omega arith) refl .found refl, form-reads s 1 size a rest form first, cut-ends s (1 + length a) rest cut (from-next s 1 a rest first)))
 tagged-refused s n (TaggedFault.cutPayload {size = size} {last = last} {a = a} {b = b} rest size-is last-is large over) =
     let r = read-envelope s size last a b rest refl size-is last-is in
     is-refused ended (payload s r ∙ payload-cut s size last (1 + length a + length b) (omega (arith, length-append a b)) over)

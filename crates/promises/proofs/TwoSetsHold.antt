@@ -28,7 +28,8 @@ use Rattle.gtid_sets.proofs.FormLaws.{lawful-holds}
 use Rattle.gtid_sets.proofs.TakeInLaws.{form-takeIn}
 use Rattle.gtid_sets.proofs.LimitLaws.{limits-from}
 use Rattle.gtid_sets.proofs.LentLaws.{lent-is, is-lent, lent-back}
-use Rattle.gtid_sets.proofs.CombineLaws.{combined-good, combined-form, combined-has, is-combined, not-first, in-second, subset-says, subset-from, join-is-either}
+use Rattle.gtid_sets.proofs.CombineLaws.{combined-good, combined-form, combined-has, is-combined, not-first, in-second, subset-says, subset-from}
+use Rattle.gtid_sets.proofs.CombineLaws.{join-is-either}
 use Rattle.resume_set.specs.Answers.{savedIf, saved}
 use Rattle.two_sets.specs.Answers.{combinedOutput, combineAnswers, combineLeaves, withinRead, withinAnswers}
 use Rattle.two_sets.specs.declared.AllWithin.{AllWithin}
@@ -36,7 +37,8 @@ use Rattle.abi.specs.Answers.{bit}
 use Rattle.resume_set_laws.specs.History.{member}
 use Rattle.promises.specs.PlainFaults.{ShortFault, WriteFault}
 use Rattle.promises.specs.Exact.{Exactly}
-use Rattle.promises.specs.TwoSets.{Keeps, Lacks, PairFault, CombineFault, ResultAs, CombineAnswer, CombinesExactly, ourCalls, WithinAnswer, allIn, ComparesExactly, Exceeding, TwoSets}
+use Rattle.promises.specs.TwoSets.{Keeps, Lacks, PairFault, CombineFault, ResultAs, CombineAnswer, CombinesExactly, ourCalls, WithinAnswer, allIn}
+use Rattle.promises.specs.TwoSets.{ComparesExactly, Exceeding, TwoSets}
 use Rattle.promises.proofs.LimitsExact.{entry-limit, limits-refuse}
 use Rattle.promises.proofs.AtLimits.{spread, uuids, uuids-laid, fours, oneAndFour, threes, otherThrees}
 use Rattle.promises.proofs.SetsTold.{as-number}

@@ -24,7 +24,8 @@ use Rattle.misc.proofs.Accepted.{number-found, lenenc-found}
 use Rattle.packets.proofs.Tests as tests
 use Rattle.packets.proofs.Tests.{clash, and-true}
 use Rattle.gtid_event.specs.declared.GtidEvent.{GtidEvent}
-use Rattle.gtid_event_read.specs.Untagged.{Pair, pair, ifLeft, originalAfter, pairAt, timestampsAt, lengthAt, versionsAt, openingAt, clocked, clockAt, typecodeAt, untagged}
+use Rattle.gtid_event_read.specs.Untagged.{Pair, pair, ifLeft, originalAfter, pairAt, timestampsAt, lengthAt, versionsAt, openingAt, clocked, clockAt}
+use Rattle.gtid_event_read.specs.Untagged.{typecodeAt, untagged}
 use Rattle.gtid_event_read.proofs.UntaggedLaws.{OpeningParts, opening-parsed, clock-parsed}
 use Rattle.promises.specs.UntaggedLayout.{PairLaid, PairIfLeft, LengthIfLeft, NoTypecode, ShortLaid, LongLaid, UntaggedLaid}
 use Rattle.promises.proofs.Gives.{le-parsed}

@@ -105,7 +105,8 @@ untagged-stop s n (UntaggedFault.badLead {i = i} {o = o} lead front clock times 
     let (later, behind) = clock-there s front clock (times ++ (lead ∷ rest)) refl size sixteen in
     let next = from-next s 42 times (lead ∷ rest) behind in
     let (first, inside) = from-first s (42 + length times) lead rest next in
-    UntaggedStop.lead (42 + length times) (record { later = later; passed = (pair i o, times-read s i o times (lead ∷ rest) pairs behind) }) inside (rw first bad)
+    UntaggedStop.lead (42 + length times) (record { later = later; passed = (pair i o, times-read s i o times (lead ∷ rest) pairs behind) }) inside
+    (rw first bad)
 
 -- ---- what is refused is wrong
 
@@ -156,13 +157,19 @@ module _ (s : List ℕ) (are : Bytes s) where
       go : (b : ℕ) → length s < at + (1 + pick (eqb b 0xFC) 2 (pick (eqb b 0xFD) 3 (pick (eqb b 0xFE) 8 0)))
           → CutLenenc (b ∷ drop (suc at) s)
       go b over =
-          tests.split (eqb b 0xFC) (λ c. let o : length s < at + (1 + 2) = rw c at over in rw (eqb-true b 0xFC c) (CutLenenc.led-by-FC (drop (suc at) s) (omega (arith, size)))) (λ c.
-          tests.split (eqb b 0xFD) (λ d. let o : length s < at + (1 + 3) = rw (c, d) at over in rw (eqb-true b 0xFD d) (CutLenenc.led-by-FD (drop (suc at) s) (omega (arith, size)))) (λ d.
-          tests.split (eqb b 0xFE) (λ f. let o : length s < at + (1 + 8) = rw (c, d, f) at over in rw (eqb-true b 0xFE f) (CutLenenc.led-by-FE (drop (suc at) s) (omega (arith, size)))) (λ f.
+          tests.split (eqb b 0xFC)
+          (λ c. let o : length s < at + (1 + 2) = rw c at over in rw (eqb-true b 0xFC c) (CutLenenc.led-by-FC (drop (suc at) s) (omega (arith, size)))) (λ c.
+          tests.split (eqb b 0xFD)
+          (λ d. let o : length s < at + (1 + 3) = rw (c, d) at over in rw (eqb-true b 0xFD d) (CutLenenc.led-by-FD (drop (suc at) s) (omega (arith, size))))
+          (λ d.
+          tests.split (eqb b 0xFE)
+          (λ f. let o : length s < at + (1 + 8) = rw (c, d, f) at over in rw (eqb-true b 0xFE f) (CutLenenc.led-by-FE (drop (suc at) s) (omega (arith, size))))
+          (λ f.
           let o : length s < at + (1 + 0) = rw (c, d, f) at over in absurd (omega arith))))
 
   -- the timestamps that were passed
-  times-found : (p : Pair) (at : ℕ) → 42 ≤ length s → timestampsAt s 42 ≡ parsed p at → (i : ℕ) × (o : ℕ) × Found (λ bs. PairIfLeft 7 0 i o bs (drop at s)) s 42 at
+  times-found : (p : Pair) (at : ℕ) → 42 ≤ length s → timestampsAt s 42 ≡ parsed p at
+      → (i : ℕ) × (o : ℕ) × Found (λ bs. PairIfLeft 7 0 i o bs (drop at s)) s 42 at
   unfolding timestampsAt
   times-found (pair i o) at enough read = (i, o, left-found s are 7 (omega arith) 0 42 i o at enough read)
 
@@ -183,7 +190,8 @@ module _ (s : List ℕ) (are : Bytes s) where
       let enough : 42 ≤ length s = omega (arith, timestamps-forward s 42 passed) in
       let (j, o, times) = times-found p to enough passed in
       subst (λ (l : List ℕ). UntaggedFault l 1) (sym (with-times (before .later) enough to (times .bytes) (times .is)))
-      (UntaggedFault.cutLength (part s 0 25) (part s 26 16) (times .bytes) (drop to s) (front-size (before .later)) (clock-size (before .later) enough) (times .holds)
+      (UntaggedFault.cutLength (part s 0 25) (part s 26 16) (times .bytes) (drop to s) (front-size (before .later)) (clock-size (before .later) enough)
+      (times .holds)
       (cut-lenenc to inside over))
   untagged-cut at i (Untagged.originalVersion {at = to} before here bit) over =
       let from = before .from in
@@ -211,7 +219,8 @@ module _ (s : List ℕ) (are : Bytes s) where
           subst (λ (l : List ℕ). LengthIfLeft len (size .bytes) l) behind (size .holds) in
           subst (λ (l : List ℕ). UntaggedFault l 1)
           (sym (with-times later enough from (times .bytes) (times .is) ∙ ap (λ (l : List ℕ). part s 0 25 ++ (2 ∷ (part s 26 16 ++ (times .bytes ++ l)))) all))
-          (UntaggedFault.cutVersion v (part s 0 25) (part s 26 16) (times .bytes) (size .bytes) (part s to 4) (drop (to + 4) s) (front-size later) (clock-size later enough)
+          (UntaggedFault.cutVersion v (part s 0 25) (part s 26 16) (times .bytes) (size .bytes) (part s to 4) (drop (to + 4) s) (front-size later)
+          (clock-size later enough)
           pairs length-is number small few)
 
   pub untagged-faulty : {n : ℕ} → UntaggedStop s n → UntaggedFault s n

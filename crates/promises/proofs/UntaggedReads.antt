@@ -96,7 +96,8 @@ module _ (s : List ℕ) where
       → LengthIfLeft len len-bytes (versions ++ unread) → PairIfLeft 4 999999 v ov versions unread
       → untagged s ≡ parsed (untaggedRecord flags uuid gno 2 last sequence i o len v ov) (42 + length timestamps + length len-bytes + length versions)
   unfolding timestampsAt versionsAt
-  long-reads flags gno last sequence i o len v ov uuid last-bytes sequence-bytes timestamps len-bytes versions unread read h last-is sequence-is times-are len-is versions-are =
+  long-reads flags gno last sequence i o len v ov uuid last-bytes sequence-bytes timestamps len-bytes versions unread read h last-is sequence-is times-are
+      len-is versions-are =
       let rest₄ = len-bytes ++ (versions ++ unread) in
       let rest₃ = timestamps ++ rest₄ in
       let (two, inside) = from-first s 25 2 (last-bytes ++ (sequence-bytes ++ rest₃)) h in
@@ -106,7 +107,8 @@ module _ (s : List ℕ) where
       let fourth = from-next s 42 timestamps rest₄ third in
       let fifth = from-next s (42 + length timestamps) len-bytes (versions ++ unread) fourth in
       untagged-clock s read inside two
-      ∙ clock-later s _ 26 (number-reads s 8 26 last last-bytes (sequence-bytes ++ rest₃) last-is one) (number-reads s 8 34 sequence sequence-bytes rest₃ sequence-is second)
+      ∙ clock-later s _ 26 (number-reads s 8 26 last last-bytes (sequence-bytes ++ rest₃) last-is one)
+      (number-reads s 8 34 sequence sequence-bytes rest₃ sequence-is second)
       ∙ rw (
         left-reads 7 0 42 i o timestamps rest₄ times-are third,
         length-reads (42 + length timestamps) len len-bytes (versions ++ unread) len-is fourth,
@@ -125,7 +127,8 @@ untagged-reads s e used (inr l) =
     let (read, rest) = opening-reads s (l .flags) (l .gno) (l .uuid) (l .gno-bytes) behind (l .uuid-is) (l .gno-is) h in
     let end : 42 + length (l .timestamps) + length (l .len-bytes) + length (l .versions) ≡ used =
     sym (l .uses ∙ simp length-append (omega (arith, l .uuid-is, l .gno-is .long, l .last-is .long, l .sequence-is .long))) in
-    let times : PairIfLeft 7 0 (l .immediate) (l .original) (l .timestamps) (l .len-bytes ++ (l .versions ++ l .unread)) = rw append-assoc at (l .timestamps-are) in
+    let times : PairIfLeft 7 0 (l .immediate) (l .original) (l .timestamps) (l .len-bytes ++ (l .versions ++ l .unread)) =
+    rw append-assoc at (l .timestamps-are) in
     long-reads s (l .flags) (l .gno) (l .last) (l .sequence) (l .immediate) (l .original) (l .len) (l .version) (l .original-version)
     (l .uuid) (l .last-bytes) (l .sequence-bytes) (l .timestamps) (l .len-bytes) (l .versions) (l .unread) read rest
     (l .last-is) (l .sequence-is) times (l .len-is) (l .versions-are)

@@ -69,7 +69,8 @@ pub record BodiesTold : Type 0 where
       → previousRead (previous body) ≡ record { refusal = 0; used = used; entries = length es }
   pub unread : (body : List ℕ) (es : List Entry) (used : ℕ) → Bytes body → length body ≤ bodyLimit → BodyLaid body es used
       → unreadOf body (previous body) ≡ drop used body
-  pub header : (body : List ℕ) (tagged : Bool) (n : ℕ) (laid rest : List ℕ) → Bytes body → length body ≤ bodyLimit → HeaderLaid tagged n laid → body ≡ laid ++ rest
+  pub header : (body : List ℕ) (tagged : Bool) (n : ℕ) (laid rest : List ℕ) → Bytes body → length body ≤ bodyLimit → HeaderLaid tagged n laid
+      → body ≡ laid ++ rest
       → headerRead (ofBody body (leAt 8 body 0)) ≡ record { refusal = 0; tagged = tagged; entries = n }
   -- an entry's parts, where its intervals begin, and where it ends
   pub entry : (body : List ℕ) (at : ℕ) (tagged : Bool) (uuid tag : List ℕ) (is : List Interval) (laid rest : List ℕ) → length body ≤ bodyLimit

@@ -17,7 +17,8 @@ pub data EntryFault : Bool → List ℕ → ℕ → Type 0 where
   -- 1: the bytes end inside the uuid, the tag's length, the tag, the count, or the intervals
   cutUuid : {tagged : Bool} {rest : List ℕ} → length rest < 16 → EntryFault tagged rest 1
   cutTagLength : (uuid : List ℕ) {rest : List ℕ} → length uuid ≡ 16 → CutForm rest → EntryFault true (uuid ++ rest) 1
-  cutTag : {n : ℕ} (uuid : List ℕ) {size : List ℕ} (rest : List ℕ) → length uuid ≡ 16 → Form n size → length rest < n → EntryFault true (uuid ++ (size ++ rest)) 1
+  cutTag : {n : ℕ} (uuid : List ℕ) {size : List ℕ} (rest : List ℕ) → length uuid ≡ 16 → Form n size → length rest < n
+      → EntryFault true (uuid ++ (size ++ rest)) 1
   cutCount : {tagged : Bool} (uuid : List ℕ) {tag bytes : List ℕ} (rest : List ℕ) → length uuid ≡ 16 → TagLaid tagged tag bytes → length rest < 8
       → EntryFault tagged (uuid ++ (bytes ++ rest)) 1
   cutIntervals : {tagged : Bool} {n : ℕ} (uuid : List ℕ) {tag bytes count : List ℕ} (rest : List ℕ) → length uuid ≡ 16 → TagLaid tagged tag bytes

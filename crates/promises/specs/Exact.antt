@@ -1,6 +1,6 @@
--- Demand 1, "given exactly when": every public function that can refuse, by its name, and once where some promise the same. Its answer is the right side of
--- the function's own promise, and it refuses with a number exactly where the case of that number holds. From this follows that no two cases with different numbers hold at once, and that
--- a call accepts exactly where no case holds (`one-case` and `accepted` of proofs/OneOutcome.antt).
+-- Demand 1, "given exactly when": every public function that can refuse, by its name, and once where some promise the same. Its answer is the right
+-- side of the function's own promise, and it refuses with a number exactly where the case of that number holds. From this follows that no two cases with
+-- different numbers hold at once, and that a call accepts exactly where no case holds (`one-case` and `accepted` of proofs/OneOutcome.antt).
 use Prim.Native.Nat.{ℕ, _+_, _*_, _≤_}
 use mathlib.Core.Path.{_≡_}
 use mathlib.Core.Bool.{Bool, true, false}
@@ -38,7 +38,8 @@ use Rattle.resume_set_laws.specs.History.{Turn, Offering, member}
 use Rattle.promises.specs.Meaning.{RecordLaid}
 use Rattle.promises.specs.Faults.{EventFault}
 use Rattle.promises.specs.BodyFaults.{EntryFault, BodyFault}
-use Rattle.promises.specs.PlainFaults.{FixedFault, VarlenFault, NaturalFault, LenencFault, OfBody, HeadedFault, NumberFault, TagFault, RecordFault, ShortFault, WriteFault}
+use Rattle.promises.specs.PlainFaults.{FixedFault, VarlenFault, NaturalFault, LenencFault, OfBody, HeadedFault, NumberFault, TagFault, RecordFault}
+use Rattle.promises.specs.PlainFaults.{ShortFault, WriteFault}
 use Rattle.promises.specs.SetFaults.{SetFault, NamingFault, RewrittenAs, TakeInFault, TakenInAs, OfferAnswer}
 
 -- either holds just if the other does
@@ -85,7 +86,8 @@ pub record BodiesExact : Type 0 where
   pub «entry_at» : (body : List ℕ) (at : ℕ) (tagged : Bool) → Bytes body
       → RefusesExactly (entryRead (ofBody body (entryAt tagged body at)) .refusal) (OfBody body (EntryFault tagged (drop at body)))
   pub «interval_at» : (body : List ℕ) (first index : ℕ)
-      → RefusesExactly (intervalRead (ofBody body (intervalAt body (first + 16 * index))) .refusal) (OfBody body (FixedFault 16 (drop (first + 16 * index) body)))
+      → RefusesExactly (intervalRead (ofBody body (intervalAt body (first + 16 * index))) .refusal)
+      (OfBody body (FixedFault 16 (drop (first + 16 * index) body)))
   pub rewrite : (body out : List ℕ) → Bytes body
       → WritesExactly (answerOf out (rewritten (previous body)))
       (WriteFault (BodyFault body) (RewrittenAs body) (length out))

@@ -59,14 +59,17 @@ pub data TaggedFault : List ℕ → ℕ → Type 0 where
   cutVersion : TaggedFault [] 1
   cutSize : {rest : List ℕ} → CutForm rest → TaggedFault (2 ∷ rest) 1
   cutLast : {size : ℕ} {a rest : List ℕ} → Form size a → CutForm rest → TaggedFault (2 ∷ (a ++ rest)) 1
-  cutPayload : {size last : ℕ} {a b : List ℕ} (rest : List ℕ) → Form size a → Form last b → length (2 ∷ (a ++ b)) ≤ size → length (2 ∷ (a ++ (b ++ rest))) < size
+  cutPayload : {size last : ℕ} {a b : List ℕ} (rest : List ℕ) → Form size a → Form last b → length (2 ∷ (a ++ b)) ≤ size
+      → length (2 ∷ (a ++ (b ++ rest))) < size
       → TaggedFault (2 ∷ (a ++ (b ++ rest))) 1
   -- 4: the version byte isn't 2
   wrongVersion : {v : ℕ} {rest : List ℕ} → (v ≡ 2 → ⊥) → TaggedFault (v ∷ rest) 4
   -- 9: the declared payload is smaller than its envelope
-  smallPayload : {size last : ℕ} {a b : List ℕ} (rest : List ℕ) → Form size a → Form last b → size < length (2 ∷ (a ++ b)) → TaggedFault (2 ∷ (a ++ (b ++ rest))) 9
+  smallPayload : {size last : ℕ} {a b : List ℕ} (rest : List ℕ) → Form size a → Form last b → size < length (2 ∷ (a ++ b))
+      → TaggedFault (2 ∷ (a ++ (b ++ rest))) 9
   -- 1, 2, 3, 5, 6: a fault of the fields
-  inFields : {size last n : ℕ} {a b fields : List ℕ} (rest : List ℕ) → Form size a → Form last b → size ≡ length (2 ∷ (a ++ (b ++ fields))) → FieldFault last fields n
+  inFields : {size last n : ℕ} {a b fields : List ℕ} (rest : List ℕ) → Form size a → Form last b → size ≡ length (2 ∷ (a ++ (b ++ fields)))
+      → FieldFault last fields n
       → TaggedFault (2 ∷ (a ++ (b ++ (fields ++ rest)))) n
   -- 7: the fields end without a tag
   noTag : {size last : ℕ} {a b fields : List ℕ} {told : List Sent} (rest : List ℕ) → Form size a → Form last b → size ≡ length (2 ∷ (a ++ (b ++ fields)))

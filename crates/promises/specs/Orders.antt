@@ -102,8 +102,10 @@ pub record Zeros (r : Refusal) : Type 0 where
   pub interval : intervalRead (refuse r) ≡ record { refusal = number r; start = 0; end = 0 }
   pub start : cursorOf (refuse r) ≡ record { refusal = number r; at = 0; left = 0 }
   -- a step of the reader: nothing more, no entry, and the cursor at 0 with nothing left
-  pub step-header : (s : List ℕ) (c : Cursor) → headedStep s c (refuse r) ≡ record { more = false; entry = refusedEntry (number r); cursor = record { refusal = 0; at = 0; left = 0 } }
-  pub step-entry : (left : ℕ) → stepped left (refuse r) ≡ record { more = false; entry = refusedEntry (number r); cursor = record { refusal = 0; at = 0; left = 0 } }
+  pub step-header : (s : List ℕ) (c : Cursor)
+      → headedStep s c (refuse r) ≡ record { more = false; entry = refusedEntry (number r); cursor = record { refusal = 0; at = 0; left = 0 } }
+  pub step-entry : (left : ℕ)
+      → stepped left (refuse r) ≡ record { more = false; entry = refusedEntry (number r); cursor = record { refusal = 0; at = 0; left = 0 } }
   -- nothing is handed out as the unread part
   pub event-rest : (s : List ℕ) → unreadOf {A = GtidEvent} s (refuse r) ≡ []
   pub previous-rest : (s : List ℕ) → unreadOf {A = List Entry} s (refuse r) ≡ []
@@ -125,4 +127,5 @@ pub record Outputs (bs out : List ℕ) : Type 0 where
   -- 13: the output as it was
   pub short : length out < length bs → outputOf out (bytes bs) ≡ out
   -- else the bytes at its front, and the rest unchanged
-  pub fits : length bs ≤ length out → (answerOf out (bytes bs) ≡ record { refusal = 0; len = length bs }) × (outputOf out (bytes bs) ≡ bs ++ drop (length bs) out)
+  pub fits : length bs ≤ length out
+      → (answerOf out (bytes bs) ≡ record { refusal = 0; len = length bs }) × (outputOf out (bytes bs) ≡ bs ++ drop (length bs) out)

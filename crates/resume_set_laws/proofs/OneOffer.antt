@@ -74,9 +74,9 @@ unfolding outputOf
 short out bs h = rw h
 
 -- nor does a refusal change it
-still : (out : List ℕ) (r : Refusal) → outputOf out (refused r) ≡ out
+pub out-refused : (out : List ℕ) (r : Refusal) → outputOf out (refused r) ≡ out
 unfolding outputOf
-still out r = refl
+out-refused out r = refl
 
 -- the ids of an event are the one that it names
 pub among-id : (e : Event) (k : Key) (n : ℕ) → isOf e k n ≡ among (idOf e) k n
@@ -158,10 +158,10 @@ refusals-keep set t n len h = (unchanged (lentSet set) refl, rw h)
     told s noId e o = no-room NoId _ (λ m x. let z : _≡_ {A = ℕ} 0 1 = cc in omega arith) o
     told s already e o = no-room AlreadyThere _ (λ m x. let z : _≡_ {A = ℕ} 0 1 = cc in omega arith) o
     told s taken e o = no-room Taken _ (λ m x. let z : _≡_ {A = ℕ} 0 1 = cc in omega arith) o
-    told s (run.refused r) e o = still (t .out) r
+    told s (run.refused r) e o = out-refused (t .out) r
 
     unchanged : (l : Lent) → lentSet set ≡ l → ours .leaves set t ≡ t .out
-    unchanged unfit e = rw e (still (t .out) notASet)
+    unchanged unfit e = rw e (out-refused (t .out) notASet)
     unchanged (form s) e =
         let o : offeredAs (answer s (said t)) (length (bodyBytes (after s (said t)))) (length (t .out)) ≡ Refused n len = rw e at h in
         rw e (told s (answer s (said t)) refl o)

@@ -57,17 +57,21 @@ tag-offer body = record { type = 42; body = body; out = replicate 50 0 }
 
 -- no uuid and no gno: 21
 absent-21 : ours .answers none (tag-offer tagAlone) ≡ Refused 21 0
-unfolding eventOf named seen bodyLimit tagged byteAt bytesAt varlenAt trailingOnes itemValue leAt leOf fieldsFrom fieldAt tagAt isTag allTagBytes padded lentSet previous saysTagged saysCount many limits judged maxEntries maxIntervals maxOfEntry bodyBytes anyTag headerBytes entriesBytes leBytes
+unfolding eventOf named seen bodyLimit tagged byteAt bytesAt varlenAt trailingOnes itemValue leAt leOf fieldsFrom fieldAt tagAt isTag allTagBytes padded
+    lentSet previous saysTagged saysCount many limits judged maxEntries maxIntervals maxOfEntry bodyBytes anyTag headerBytes entriesBytes leBytes
 absent-21 = refl
 
 -- a uuid, and the gno as 0: 15
 zero-15 : ours .answers none (tag-offer zeroGno) ≡ Refused 15 0
-unfolding eventOf named seen bodyLimit tagged byteAt bytesAt varlenAt trailingOnes itemValue leAt leOf fieldsFrom fieldAt limitedAt uuidAt tagAt naturalAt signedAt meantBy isTag allTagBytes padded gnoTop lentSet previous saysTagged saysCount many limits judged maxEntries maxIntervals maxOfEntry bodyBytes anyTag headerBytes entriesBytes leBytes
+unfolding eventOf named seen bodyLimit tagged byteAt bytesAt varlenAt trailingOnes itemValue leAt leOf fieldsFrom fieldAt limitedAt uuidAt tagAt naturalAt
+    signedAt meantBy isTag allTagBytes padded gnoTop lentSet previous saysTagged saysCount many limits judged maxEntries maxIntervals maxOfEntry bodyBytes
+    anyTag headerBytes entriesBytes leBytes
 zero-15 = refl
 
 -- no tag either: 7
 no-tag-7 : ours .answers none (tag-offer nothingSent) ≡ Refused 7 0
-unfolding eventOf named seen bodyLimit tagged byteAt bytesAt varlenAt trailingOnes itemValue leAt leOf fieldsFrom fieldAt lentSet previous saysTagged saysCount many limits judged maxEntries maxIntervals maxOfEntry bodyBytes anyTag headerBytes entriesBytes leBytes
+unfolding eventOf named seen bodyLimit tagged byteAt bytesAt varlenAt trailingOnes itemValue leAt leOf fieldsFrom fieldAt lentSet previous saysTagged
+    saysCount many limits judged maxEntries maxIntervals maxOfEntry bodyBytes anyTag headerBytes entriesBytes leBytes
 no-tag-7 = refl
 
 -- ---- wrong offers
@@ -98,11 +102,15 @@ asks-id-before-tag-out exactly = instead-out 7 21 (tag-offer nothingSent) (λ e.
 
 -- one that takes an absent uuid for the zero uuid, and an id with it
 no-uuid-21 : ours .answers none (tag-offer noUuid) ≡ Refused 21 0
-unfolding eventOf named seen bodyLimit tagged byteAt bytesAt varlenAt trailingOnes itemValue leAt leOf fieldsFrom fieldAt tagAt naturalAt signedAt meantBy isTag allTagBytes padded lentSet previous saysTagged saysCount many limits judged maxEntries maxIntervals maxOfEntry bodyBytes anyTag headerBytes entriesBytes leBytes
+unfolding eventOf named seen bodyLimit tagged byteAt bytesAt varlenAt trailingOnes itemValue leAt leOf fieldsFrom fieldAt tagAt naturalAt signedAt meantBy
+    isTag allTagBytes padded lentSet previous saysTagged saysCount many limits judged maxEntries maxIntervals maxOfEntry bodyBytes anyTag headerBytes
+    entriesBytes leBytes
 no-uuid-21 = refl
 
 takes-zero-uuid : takesAbsentForZero .answers none (tag-offer noUuid) ≡ Taken 50
-unfolding gtid seen bodyLimit tagged byteAt bytesAt varlenAt trailingOnes itemValue leAt leOf fieldsFrom fieldAt tagAt naturalAt signedAt meantBy isTag allTagBytes padded gnoTop lentSet previous saysTagged saysCount many limits judged maxEntries maxIntervals maxOfEntry bodyBytes anyTag headerBytes entriesBytes entryBytes intervalsBytes uuidOf tagOf varlenBytes varlenSize sizeFrom itemOf leBytes
+unfolding gtid seen bodyLimit tagged byteAt bytesAt varlenAt trailingOnes itemValue leAt leOf fieldsFrom fieldAt tagAt naturalAt signedAt meantBy isTag
+    allTagBytes padded gnoTop lentSet previous saysTagged saysCount many limits judged maxEntries maxIntervals maxOfEntry bodyBytes anyTag headerBytes
+    entriesBytes entryBytes intervalsBytes uuidOf tagOf varlenBytes varlenSize sizeFrom itemOf leBytes
 takes-zero-uuid = refl
 
 pub takes-absent-for-zero-out : OffersExactly takesAbsentForZero → ⊥
@@ -118,7 +126,8 @@ abbrev zeroSeen : Seen
 zeroSeen = seenIn (the-uuid (replicate 16 0) ∷ number 2 0 ∷ the-tag (97 ∷ []) ∷ [])
 
 read-zero : seen 42 zeroGno ≡ parsed zeroSeen 25
-unfolding seen bodyLimit tagged byteAt bytesAt varlenAt trailingOnes itemValue leOf many fieldsFrom fieldAt limitedAt uuidAt tagAt naturalAt signedAt meantBy isTag allTagBytes padded
+unfolding seen bodyLimit tagged byteAt bytesAt varlenAt trailingOnes itemValue leOf many fieldsFrom fieldAt limitedAt uuidAt tagAt naturalAt signedAt meantBy
+    isTag allTagBytes padded
 read-zero = refl
 
 pub tells-by-value-unlike : RecordsMean tellsByValue → ⊥

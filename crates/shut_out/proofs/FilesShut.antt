@@ -48,14 +48,16 @@ abbrev one : List Entry
 one = entry (replicate 16 0) (interval 1 2 ∷ []) ∷ []
 
 none-lent : lentSet none ≡ form []
-unfolding many bytesAt byteAt bodyLimit leOf leBytes leAt saysTagged saysCount previous entriesBytes anyTag headerBytes bodyBytes maxEntries maxIntervals limit.judged limits lentSet
+unfolding many bytesAt byteAt bodyLimit leOf leBytes leAt saysTagged saysCount previous entriesBytes anyTag headerBytes bodyBytes maxEntries maxIntervals
+    limit.judged limits lentSet
 none-lent = refl
 
 none-laid : SetLaid none []
 none-laid = lent-is none [] none-lent
 
 one-lent : lentSet (alone 1) ≡ form one
-unfolding many bytesAt byteAt bodyLimit leOf leBytes leAt gnoTop uuidOf tagOf tagAt keyAt headAt intervalAt entryAt saysTagged saysCount previous intervalsBytes entryBytes entriesBytes anyTag headerBytes bodyBytes maxEntries maxIntervals maxOfEntry limit.judged limits lentSet
+unfolding many bytesAt byteAt bodyLimit leOf leBytes leAt gnoTop uuidOf tagOf tagAt keyAt headAt intervalAt entryAt saysTagged saysCount previous
+    intervalsBytes entryBytes entriesBytes anyTag headerBytes bodyBytes maxEntries maxIntervals maxOfEntry limit.judged limits lentSet
 one-lent = refl
 
 one-laid : SetLaid (alone 1) one
@@ -100,7 +102,10 @@ record Computed : Type 0 where
   are-bytes : below filePrevious ≡ true
 
 computed : Computed
-unfolding many bytesAt byteAt bodyLimit leOf leBytes leAt gnoTop uuidOf tagOf tagAt keyAt headAt intervalAt entryAt saysTagged saysCount previous intervalsBytes entryBytes entriesBytes anyTag headerBytes bodyBytes openingAt untagged trailingOnes itemValue varlenAt varlenSize sizeFrom varlenBytes itemOf meantBy signedAt naturalAt padded isTag allTagBytes fields.tagAt uuidAt limitedAt fieldAt fieldsFrom tagged read-specs.named seen maxEntries maxIntervals maxOfEntry longestSet limit.judged limits lentSet eventOf theOpening typeIn sizeIn isRead headed judged acts
+unfolding many bytesAt byteAt bodyLimit leOf leBytes leAt gnoTop uuidOf tagOf tagAt keyAt headAt intervalAt entryAt saysTagged saysCount previous
+    intervalsBytes entryBytes entriesBytes anyTag headerBytes bodyBytes openingAt untagged trailingOnes itemValue varlenAt varlenSize sizeFrom varlenBytes
+    itemOf meantBy signedAt naturalAt padded isTag allTagBytes fields.tagAt uuidAt limitedAt fieldAt fieldsFrom tagged read-specs.named seen maxEntries
+    maxIntervals maxOfEntry longestSet limit.judged limits lentSet eventOf theOpening typeIn sizeIn isRead headed judged acts
 computed = record {
   wrong-second = λ room. refl;
   first-alone = λ room. refl;

@@ -44,7 +44,8 @@ record Computed : Type 0 where
   none-common : wantsCommon (alone 1) empty ≡ Refused 22
 
 computed : Computed
-unfolding outputOf answerOf many bytesAt byteAt bodyLimit leOf leBytes leAt gnoTop uuidOf tagOf tagAt keyAt headAt intervalAt entryAt saysTagged saysCount previous intervalsBytes entryBytes entriesBytes anyTag headerBytes bodyBytes maxEntries maxIntervals maxOfEntry judged limits lentSet
+unfolding outputOf answerOf many bytesAt byteAt bodyLimit leOf leBytes leAt gnoTop uuidOf tagOf tagAt keyAt headAt intervalAt entryAt saysTagged saysCount
+    previous intervalsBytes entryBytes entriesBytes anyTag headerBytes bodyBytes maxEntries maxIntervals maxOfEntry judged limits lentSet
 computed = record {
   only-second = refl;
   first-said = refl;

@@ -40,7 +40,8 @@ record Computed : Type 0 where
   read : readsOn .answers (replicate 64 []) [] .refusal ≡ 14
 
 computed : Computed
-unfolding many bytesAt byteAt bodyLimit leOf leBytes leAt gnoTop uuidOf tagOf tagAt keyAt headAt intervalAt entryAt saysTagged saysCount previous intervalsBytes entryBytes entriesBytes anyTag headerBytes bodyBytes maxEntries maxIntervals maxOfEntry judged limits lentSet highWord lowWord maxSets
+unfolding many bytesAt byteAt bodyLimit leOf leBytes leAt gnoTop uuidOf tagOf tagAt keyAt headAt intervalAt entryAt saysTagged saysCount previous
+    intervalsBytes entryBytes entriesBytes anyTag headerBytes bodyBytes maxEntries maxIntervals maxOfEntry judged limits lentSet highWord lowWord maxSets
 computed = record {
   thrice = refl;
   carry-lost = refl;
@@ -86,11 +87,13 @@ abbrev nothing : Turn
 nothing = record { type = 0; body = []; out = replicate 8 0 }
 
 empty-lent : lentSet (bodyBytes []) ≡ form []
-unfolding many bytesAt byteAt bodyLimit leOf leBytes leAt saysTagged saysCount previous entriesBytes anyTag headerBytes bodyBytes maxEntries maxIntervals judged limits lentSet
+unfolding many bytesAt byteAt bodyLimit leOf leBytes leAt saysTagged saysCount previous entriesBytes anyTag headerBytes bodyBytes maxEntries maxIntervals
+    judged limits lentSet
 empty-lent = refl
 
 copied : lentNumber total (lentSet (keptAll (comesTo copiesItsSet) (bodyBytes []) (nothing ∷ []))) ≡ 0
-unfolding many bytesAt byteAt bodyLimit leOf leBytes leAt saysTagged saysCount previous entriesBytes anyTag headerBytes bodyBytes maxEntries maxIntervals judged limits lentSet outputOf
+unfolding many bytesAt byteAt bodyLimit leOf leBytes leAt saysTagged saysCount previous entriesBytes anyTag headerBytes bodyBytes maxEntries maxIntervals
+    judged limits lentSet outputOf
 copied = refl
 
 pub copies-uncounted-out : CountsTaken copiesItsSet → ⊥

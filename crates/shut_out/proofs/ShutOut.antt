@@ -57,7 +57,9 @@ use Rattle.promises.specs.UntaggedLayout.{NoTypecode, untaggedRecord, ShortLaid
 use Rattle.promises.specs.TaggedLayout.{number, the-tag, seenIn}
 use Rattle.promises.proofs.Demand2.{records-mean, one-record, entries-mean}
 use Rattle.promises.specs.Building.{Unversioned, NewVersions, KeepsVersions}
-use Rattle.shut_out.specs.WrongOnes.{claimsZero, forgetsVersions, refusesBodies, topByteTwo, tagsByOne, refusesAll, constantRecord, countedUp, madeUpCount, swappedClock, swapsClock, equalId, ignoresEqual, writesNothing, sizesByTwo, copiesItsSet, addsOnlyTheFirst, alwaysNoId, noIdForZero, takesTop, asksTaggedOnly}
+use Rattle.shut_out.specs.WrongOnes.{claimsZero, forgetsVersions, refusesBodies, topByteTwo, tagsByOne, refusesAll, constantRecord, countedUp}
+use Rattle.shut_out.specs.WrongOnes.{madeUpCount, swappedClock, swapsClock, equalId, ignoresEqual, writesNothing, sizesByTwo, copiesItsSet}
+use Rattle.shut_out.specs.WrongOnes.{addsOnlyTheFirst, alwaysNoId, noIdForZero, takesTop, asksTaggedOnly}
 use Rattle.promises.specs.Exact.{OffersExactly, AsksExactly}
 use Rattle.promises.proofs.SetsExact.{offers-exactly}
 use Rattle.promises.proofs.BuildingHolds.{fresh-fits}
@@ -283,7 +285,8 @@ abbrev pub none : List ℕ
 none = replicate 8 0
 
 none-taken-in : TakesIn none [] none
-unfolding outputOf answerOf previous bodyLimit leAt leOf bytesAt saysTagged saysCount many limits judged maxEntries maxIntervals maxOfEntry bodyBytes anyTag headerBytes entriesBytes leBytes
+unfolding outputOf answerOf previous bodyLimit leAt leOf bytesAt saysTagged saysCount many limits judged maxEntries maxIntervals maxOfEntry bodyBytes anyTag
+    headerBytes entriesBytes leBytes
 none-taken-in = record {
   are-bytes = zeros-bytes 8;
   used = 8;
@@ -307,7 +310,8 @@ offer gno room = record { type = 33; body = bodyOf gno; out = replicate room 0 }
 
 -- one that copies its set
 pub copies-its-set-out : TellsHistory copiesItsSet → ⊥
-unfolding eventOf read-specs.named seen bodyLimit untagged openingAt byteAt bytesAt leAt leOf outputOf lentSet previous saysTagged saysCount many limits judged maxEntries maxIntervals maxOfEntry bodyBytes anyTag headerBytes entriesBytes leBytes
+unfolding eventOf read-specs.named seen bodyLimit untagged openingAt byteAt bytesAt leAt leOf outputOf lentSet previous saysTagged saysCount many limits
+    judged maxEntries maxIntervals maxOfEntry bodyBytes anyTag headerBytes entriesBytes leBytes
 copies-its-set-out history =
     let (_, members) = history none [] none (offer 1 8 ∷ []) none-taken-in (body-bytes 1 small-1, tt) in
     let clash : false ≡ true = members (replicate 16 0) 1 in
@@ -315,7 +319,9 @@ copies-its-set-out history =
 
 -- one that adds an id to the empty set only
 pub adds-only-the-first-out : TellsHistory addsOnlyTheFirst → ⊥
-unfolding eventOf read-specs.named seen bodyLimit untagged openingAt byteAt bytesAt leAt leOf outputOf lentSet previous saysTagged saysCount many limits judged maxEntries maxIntervals maxOfEntry bodyBytes anyTag headerBytes entriesBytes leBytes entryBytes intervalsBytes uuidOf tagOf entryAt headAt keyAt previous-specs.tagAt intervalAt gnoTop
+unfolding eventOf read-specs.named seen bodyLimit untagged openingAt byteAt bytesAt leAt leOf outputOf lentSet previous saysTagged saysCount many limits
+    judged maxEntries maxIntervals maxOfEntry bodyBytes anyTag headerBytes entriesBytes leBytes entryBytes intervalsBytes uuidOf tagOf entryAt headAt keyAt
+    previous-specs.tagAt intervalAt gnoTop
 adds-only-the-first-out history =
     let (_, members) = history none [] none (offer 1 48 ∷ offer 3 48 ∷ []) none-taken-in (body-bytes 1 small-1, (body-bytes 3 small-3, tt)) in
     let clash : false ≡ true = members (replicate 16 0) 3 in
@@ -326,7 +332,9 @@ abbrev top : Turn
 top = record { type = 33; body = replicate 17 0 ++ leBytes 8 gnoTop; out = replicate 48 0 }
 
 pub takes-top-out : TellsHistory takesTop → ⊥
-unfolding eventOf read-specs.named seen bodyLimit untagged openingAt byteAt bytesAt leAt leOf outputOf lentSet previous saysTagged saysCount many limits judged maxEntries maxIntervals maxOfEntry bodyBytes anyTag headerBytes entriesBytes leBytes entryBytes intervalsBytes uuidOf tagOf entryAt headAt keyAt previous-specs.tagAt intervalAt gnoTop
+unfolding eventOf read-specs.named seen bodyLimit untagged openingAt byteAt bytesAt leAt leOf outputOf lentSet previous saysTagged saysCount many limits
+    judged maxEntries maxIntervals maxOfEntry bodyBytes anyTag headerBytes entriesBytes leBytes entryBytes intervalsBytes uuidOf tagOf entryAt headAt keyAt
+    previous-specs.tagAt intervalAt gnoTop
 takes-top-out history =
     let ((s, lent), _) = history none [] none (top ∷ []) none-taken-in (below-bytes (top .body) refl, tt) in
     let same : unfit ≡ form s = lent in
@@ -345,7 +353,8 @@ same-answer : (f : Offering) → OffersExactly f → (gno : ℕ) → Bytes (gno 
 same-answer f exactly gno small room = same-offers offers-exactly exactly none (offer gno room) (body-bytes gno small) .0
 
 takes-1 : ours .answers none (offer 1 48) ≡ Taken 48
-unfolding eventOf read-specs.named seen bodyLimit untagged openingAt byteAt bytesAt leAt leOf lentSet previous saysTagged saysCount many limits judged maxEntries maxIntervals maxOfEntry bodyBytes anyTag headerBytes entriesBytes leBytes entryBytes intervalsBytes uuidOf tagOf gnoTop
+unfolding eventOf read-specs.named seen bodyLimit untagged openingAt byteAt bytesAt leAt leOf lentSet previous saysTagged saysCount many limits judged
+    maxEntries maxIntervals maxOfEntry bodyBytes anyTag headerBytes entriesBytes leBytes entryBytes intervalsBytes uuidOf tagOf gnoTop
 takes-1 = refl
 
 -- one that says "no id" to all
@@ -356,7 +365,8 @@ always-no-id-out exactly =
     omega arith
 
 pub refuses-0 : ours .answers none (offer 0 48) ≡ Refused 15 0
-unfolding eventOf read-specs.named seen bodyLimit untagged openingAt byteAt bytesAt leAt leOf lentSet previous saysTagged saysCount many limits judged maxEntries maxIntervals maxOfEntry bodyBytes anyTag headerBytes entriesBytes leBytes
+unfolding eventOf read-specs.named seen bodyLimit untagged openingAt byteAt bytesAt leAt leOf lentSet previous saysTagged saysCount many limits judged
+    maxEntries maxIntervals maxOfEntry bodyBytes anyTag headerBytes entriesBytes leBytes
 refuses-0 = refl
 
 names-zero : noIdForZero .answers none (offer 0 48) ≡ NoId 8
@@ -372,7 +382,8 @@ no-id-for-zero-out exactly =
 
 -- one that asks only for ids with a tag: the set holds gno 1 of the zero uuid
 one-member : member (bodyBytes (entry (replicate 16 0) (interval 1 2 ∷ []) ∷ [])) (replicate 16 0) 1 ≡ true
-unfolding bodyLimit byteAt bytesAt leAt leOf lentSet previous saysTagged saysCount many limits judged maxEntries maxIntervals maxOfEntry bodyBytes anyTag headerBytes entriesBytes leBytes entryBytes intervalsBytes uuidOf tagOf entryAt headAt keyAt previous-specs.tagAt intervalAt gnoTop
+unfolding bodyLimit byteAt bytesAt leAt leOf lentSet previous saysTagged saysCount many limits judged maxEntries maxIntervals maxOfEntry bodyBytes anyTag
+    headerBytes entriesBytes leBytes entryBytes intervalsBytes uuidOf tagOf entryAt headAt keyAt previous-specs.tagAt intervalAt gnoTop
 one-member = refl
 
 pub asks-tagged-only-out : AsksExactly asksTaggedOnly → ⊥

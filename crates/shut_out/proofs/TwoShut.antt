@@ -29,7 +29,8 @@ use Rattle.two_sets.specs.Answers.{combineAnswers, combineLeaves, withinAnswers
 use Rattle.two_sets.specs.declared.AllWithin.{AllWithin}
 use Rattle.promises.specs.PlainFaults.{WriteFault}
 use Rattle.promises.specs.TwoSets.{CombineAnswer, Combiner, CombinesExactly, ourCalls, ComparesExactly, Exceeding}
-use Rattle.shut_out.specs.WrongOnes.{alone, aloneTagged, onlyOf, staysApart, keepsEmpty, ignoresTag, swapsSets, countsInputs, unjudged, takesNoSet, comparesLengths, wantsSame}
+use Rattle.shut_out.specs.WrongOnes.{alone, aloneTagged, onlyOf, staysApart, keepsEmpty, ignoresTag, swapsSets, countsInputs, unjudged, takesNoSet}
+use Rattle.shut_out.specs.WrongOnes.{comparesLengths, wantsSame}
 use Rattle.promises.proofs.TwoSetsHold.{results-exactly, compares-exactly, two-sets}
 use Rattle.promises.proofs.AtLimits.{spread, entryFull, entry-full}
 
@@ -86,7 +87,9 @@ record Computed : Type 0 where
   not-same : wantsSame (bodyBytes []) (alone 1) .all ≡ false
 
 computed : Computed
-unfolding outputOf answerOf many bytesAt byteAt bodyLimit leOf leBytes leAt gnoTop uuidOf tagOf tagAt keyAt headAt intervalAt entryAt saysTagged saysCount previous intervalsBytes entryBytes entriesBytes anyTag headerBytes bodyBytes maxEntries maxIntervals maxOfEntry judged limits lentSet varlenAt trailingOnes itemValue isTag allTagBytes varlenBytes varlenSize sizeFrom itemOf
+unfolding outputOf answerOf many bytesAt byteAt bodyLimit leOf leBytes leAt gnoTop uuidOf tagOf tagAt keyAt headAt intervalAt entryAt saysTagged saysCount
+    previous intervalsBytes entryBytes entriesBytes anyTag headerBytes bodyBytes maxEntries maxIntervals maxOfEntry judged limits lentSet varlenAt trailingOnes
+    itemValue isTag allTagBytes varlenBytes varlenSize sizeFrom itemOf
 computed = record {
   touching = refl;
   apart = refl;

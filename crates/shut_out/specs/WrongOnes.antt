@@ -368,7 +368,13 @@ countsOnce = summedBy (λ sets. ourReport .sums (unlike sets))
 -- counts what is no set as an entry
 abbrev pub countsRefused : Reporting
 countsRefused = summedBy (λ sets. let c = ourReport .sums sets in
-    record { entries = c .entries + summed (λ l. pick (eqb (l .refusal) 0) 0 1) (linesOf (reportOver sets)); intervals = c .intervals; high = c .high; low = c .low })
+    record {
+      entries = c .entries + summed (λ l. pick (eqb (l .refusal) 0) 0 1) (linesOf (reportOver sets));
+      intervals = c .intervals;
+      high = c .high;
+      low =
+          c .low;
+    })
 
 -- doesn't count what is no set to the 64
 abbrev pub onlySets : List (List ℕ) → List (List ℕ)
