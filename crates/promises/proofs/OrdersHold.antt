@@ -2,13 +2,13 @@
 use Prim.Native.Nat.{ℕ, _+_, _≤_, _<_}
 use mathlib.Core.Path.{_≡_, refl, _∙_}
 use mathlib.Core.Bool.{false, and-false}
-use mathlib.Core.List.{List, _∷_, _++_}
+use mathlib.Core.List.{List, _∷_, _++_, []}
 use mathlib.Core.Logic.{_⊎_, inl, inr}
 use native.Mathlib.Omega.{arith}
 use lib.Dec.{leb}
 use lib.ListN.{length, replicate, length-append, length-replicate}
 use borrow.Author.Tests.{le-leb, lt-leb, le-ltb}
-use Rattle.misc.specs.Refusal.{Refusal, smallPayload, tooLong}
+use Rattle.misc.specs.Refusal.{Refusal, smallPayload, tooLong, number}
 use Rattle.misc.specs.Parse.{Bytes, refuse}
 use Rattle.misc.specs.Body.{bodyLimit}
 use Rattle.misc.specs.Le.{leBytes}
@@ -26,7 +26,7 @@ use Rattle.gtid_event_read.proofs.TaggedLaws.{payload-small}
 use Rattle.gtid_event_write.specs.Writable.{writable}
 use Rattle.gtid_event_write.specs.Write.{eventOutput, lengthOf}
 use Rattle.gtid_sets.specs.Set.{add}
-use Rattle.gtid_sets.specs.Lent.{unfit, lentSet, SetLaid}
+use Rattle.gtid_sets.specs.Lent.{unfit, lentSet, SetLaid, Lent, form}
 use Rattle.gtid_sets.proofs.LentLaws.{is-lent}
 use Rattle.resume_set.specs.Answers.{eventOf, offered}
 use Rattle.resume_set.specs.declared.Offered.{Offered}
@@ -43,6 +43,9 @@ use Rattle.promises.proofs.TaggedRefused.{read-envelope, payload}
 use Rattle.promises.proofs.Naming.{naming-refused, event-named}
 use Rattle.promises.proofs.LimitsExact.{entry-limit}
 use Rattle.promises.proofs.SetsExact.{apart, fault-unfit, body-read, offers-exactly}
+use Rattle.abi.specs.Answers.{headNumbers}
+use Rattle.two_sets.specs.declared.Choice.the-variants as choice
+use Rattle.two_sets.specs.Answers.{withinRead, headRead, partOf}
 
 -- ---- which of several faults counts
 
@@ -188,6 +191,17 @@ orders =
     }
 
 -- ---- what else a refusal answers, and what is left in an output
+
+-- over two sets, whatever is lent: what a refusal answers besides its number
+pub first-of-two : (second : Lent) → (withinRead unfit second ≡ record { refusal = 14; all = false }) × (headRead unfit second ≡ choice.Refused 14)
+first-of-two second = (refl, refl)
+
+pub second-of-two : (s : List Entry) → (withinRead (form s) unfit ≡ record { refusal = 14; all = false }) × (headRead (form s) unfit ≡ choice.Refused 14)
+second-of-two s = (refl, refl)
+
+pub no-head : (r : Refusal) (first second : List ℕ)
+    → (partOf (choice.Refused (number r)) first second ≡ []) × (headNumbers (choice.Refused (number r)) ≡ record { refusal = number r; head = 0 })
+no-head r first second = (refl, refl)
 
 pub zeros : (r : Refusal) → Zeros r
 unfolding outputOf answerOf withTag newTagged lengthOf leBytes flatIdentity flatClock flatRest flat

@@ -31,7 +31,8 @@ pub mod Answers
 pub mod Presence
 -- What do the calls over a set say of its members?
 pub mod Told
--- ---- Demand 3, of any offer, is `History` of resume_set_laws, and of any way of reading files `Files` of binlog_laws.
+-- ---- Demand 3, of any offer, is `History` of resume_set_laws (`Ours` is the offer that is promised), and of any way of reading files `Files` of binlog_laws
+-- (`Loop` is how a caller reads one).
 -- What do the order, the limits and the ranges come to, and how many bytes has a tagged record (CR 4, CR 8, CR 11)?
 pub mod Rules
 -- What is done with the first number too great for a gno (CR 4)?
