@@ -60,17 +60,12 @@ join-interval-requires c κs =
     let room = joining-room _ _ _ _ _ _ _ j (omega arith) (l .spare) (omega (arith, l .inv .0, l .inv .1, p .1 .1 .alike))
     (omega (arith, l .inv .0, p .1 .1 .small)) in (
       j .held-is,
-      (
-        (e .uuid, omega (arith, e .short, slice-aggregate-join-interval-2 c), e .rule),
-        (joining-next _ _ _ _ _ _ _ j (omega arith) _ _ start end, room),
-      ),
+      ((e .uuid, omega (arith, e .short, slice-aggregate-join-interval-2 c), e .rule), (joining-next _ _ _ _ _ _ _ j (omega arith) _ _ start end, room)),
     )
 
 add-at : tie.Need-add-at Inv-loop μ-loop
-add-at c = record {
-  fits =
-      omega (arith, c .before .before .before .before .before .before .before .before .before .before .before .before .loop .inv .2 .inside);
-}
+add-at c =
+    record { fits = omega (arith, c .before .before .before .before .before .before .before .before .before .before .before .before .loop .inv .2 .inside) }
 
 sub-left : tie.Need-sub-left Inv-loop μ-loop
 sub-left c = omega arith
@@ -80,11 +75,10 @@ loop-less c = omega arith
 
 loop-again : tie.Need-loop-again Inv-loop μ-loop
 loop-again c =
-    let turn = c .before .before .before .before .before .before .before .before .before .before .before .before in
-    let start = turn .before .before .before .before .before .before in
-    let a = start .args in
-    let e = start .pre .1 .0 in
-    let l = turn .loop in
+    let d = c .before .before .before .before .before .before .before .before .before .before in
+    let a = d .before .before .before .before .before .before .before .before .args in
+    let e = d .before .before .before .before .before .before .before .before .pre .1 .0 in
+    let l = c .before .before .before .before .before .before .before .before .before .before .before .before .loop in
     let call = c .before .before .before .before .join-interval in (
       call .kept .0 ∙ l .inv .0,
       call .kept .1 .0 ∙ l .inv .1,
