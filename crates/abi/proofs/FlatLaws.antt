@@ -1,11 +1,11 @@
 -- Laws of the record as bytes (`specs/Flat.antt`): its length, what is read from it, and what the calls over it answer.
 use mathlib.Core.Path.{_≡_, refl, sym, ap, _∙_}
-use mathlib.Core.List.{List, append-nil}
+use mathlib.Core.List.{List}
 use Prim.Native.Nat.{ℕ, _+_, _-_, _≤_, _<_}
-use native.Mathlib.Nat.{sub-self}
 use native.Mathlib.Omega.{arith}
 use lib.ListN.{length, getD, drop, length-append, length-drop}
 use lib.Seq.{take-all}
+use Rattle.packets.proofs.KeptLaws.{kept-full}
 use borrow.Author.Tests.{eq-eqb, ne-eqb, le-leb, lt-leb}
 use Rattle.misc.specs.Refusal.{number, noRoom, notWritable}
 use Rattle.misc.specs.Parse.{Bytes, Parse, refuse, parsed, part}
@@ -14,7 +14,7 @@ use Rattle.misc.specs.declared.Wrote.{Wrote}
 use Rattle.misc.proofs.LeLaws.{length-leBytes}
 use Rattle.misc.proofs.ParseLaws.{part-length}
 use Rattle.misc.proofs.OutputLaws.{fromOn, output-fits, output-short, output-refused}
-use Rattle.packets.specs.Kept.{padded, kept}
+use Rattle.packets.specs.Kept.{kept}
 use Rattle.gtid_event.specs.declared.GtidEvent.{GtidEvent}
 use Rattle.gtid_event_read.specs.Seen.{Seen}
 use Rattle.gtid_event_read.specs.Read.{seen, gtid, gtidRead}
@@ -35,10 +35,9 @@ length-flat e uuid tag = simp (length-append, length-leBytes, uuid, tag)
 
 -- a field of bytes that are all there
 kept-there : (s : List ℕ) (at width : ℕ) → at + width ≤ length s → kept width (fromOn s at) ≡ part s at width
-unfolding padded
 kept-there s at width h =
     let rest : fromOn s at ≡ drop at s = take-all (length s - at) (drop at s) (rw length-drop (omega arith)) in
-    rw (rest, part-length width s at h, sub-self) (append-nil (part s at width))
+    rw rest (kept-full width (drop at s) (part-length width s at h))
 
 pub record-is : (s sid tag : List ℕ) (gno typecode last sequence immediate original len version originally ticket : ℕ)
     → length s ≡ 116

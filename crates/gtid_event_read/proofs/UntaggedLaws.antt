@@ -1,11 +1,11 @@
 -- Laws of the untagged layout (`specs/Untagged.antt`): what its parts give where they are there, and where they are not.
 use mathlib.Core.Path.{_≡_, refl, ap, _∙_}
 use mathlib.Core.Bool.{true, false}
-use mathlib.Core.List.{List, append-nil}
+use mathlib.Core.List.{List}
 use Prim.Native.Nat.{ℕ, _+_, _-_, _*_, _≤_, _<_}
 use native.Mathlib.Omega.{arith}
 use lib.ListN.{length, getD}
-use lib.Seq.{take-all}
+use Rattle.packets.proofs.KeptLaws.{kept-whole}
 use borrow.Author.Tests.{le-leb, lt-leb, lt-ltb, le-ltb, eq-eqb, ne-eqb}
 use Rattle.misc.specs.Refusal.{ended}
 use Rattle.misc.specs.Parse.{Parse, refuse, parsed, part, byteAt, bytesAt, uintRead}
@@ -14,7 +14,7 @@ use Rattle.misc.specs.Le.{leOf, leAt}
 use Rattle.misc.specs.Mark.{hasBit, clearBit}
 use Rattle.misc.proofs.ParseLaws.{split, then-parsed, mapped-parsed, part-length, byte-here, byte-gone, bytes-here, bytes-gone}
 use Rattle.misc.proofs.LeLaws.{le-here, le-gone}
-use Rattle.packets.specs.Kept.{padded, kept}
+use Rattle.packets.specs.Kept.{kept}
 use Rattle.gtid_event.specs.declared.GtidEvent.{GtidEvent}
 use Rattle.gtid_event_read.specs.Untagged.{Pair, pair, originalAfter, pairAt, ifLeft, timestampsAt, lengthAt, versionsAt, opened, openingAt, clocked}
 use Rattle.gtid_event_read.specs.Untagged.{clockAt, untagged}
@@ -33,10 +33,7 @@ module _ (s : List ℕ) where
 
   -- the uuid's sixteen bytes are kept as they are
   pub uuid-here : 25 ≤ length s → kept 16 (part s 1 16) ≡ part s 1 16
-  unfolding padded
-  uuid-here h =
-      let whole : length (part s 1 16) ≡ 16 = part-length 16 s 1 (omega arith) in
-      rw (take-all 16 (part s 1 16) (omega arith), whole, append-nil)
+  uuid-here h = kept-whole 16 (part s 1 16) (part-length 16 s 1 (omega arith))
 
   pub opening-gone : length s < 25 → openingAt s 0 ≡ refuse ended
   unfolding openingAt

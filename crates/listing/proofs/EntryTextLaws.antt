@@ -1,15 +1,15 @@
 -- The line of an entry, and those of the entries from a cursor on.
 use Prim.Native.Nat.{ℕ, _+_, _-_, _*_, _≤_, _<_}
 use mathlib.Core.Path.{_≡_, ap, _∙_}
-use mathlib.Core.List.{List, [], _∷_, _++_, append-nil}
+use mathlib.Core.List.{List, [], _∷_, _++_}
 use native.Mathlib.Omega.{arith}
 use lib.ListN.{length, length-append}
-use lib.Seq.{take-all}
+use Rattle.packets.proofs.KeptLaws.{kept-whole}
 use Rattle.misc.specs.Parse.{part}
 use Rattle.misc.specs.Output.{WhereFits}
 use Rattle.misc.proofs.ParseLaws.{part-length}
 use Rattle.misc.proofs.OutputLaws.{_also_}
-use Rattle.packets.specs.Kept.{padded, kept}
+use Rattle.packets.specs.Kept.{kept}
 use Rattle.previous_gtids_event.proofs.Reading.{uuid-of, tag-of}
 use Rattle.set_check.specs.Places.{placeIn}
 use Rattle.set_check.specs.Cursor.{beyondOf, entriesLeft, CursorIs}
@@ -36,8 +36,7 @@ module _ (set : List ℕ) (at : ℕ) (e : EntryPlace) (there : at + 16 ≤ lengt
 
   -- a uuid has no zeros after it in its field
   pub uuid-kept : kept 16 uuid ≡ uuid
-  unfolding padded
-  uuid-kept = let none : 16 - length uuid ≡ 0 = omega (arith, whole) in rw (take-all 16 uuid (omega (arith, whole)), none) (append-nil uuid)
+  uuid-kept = kept-whole 16 uuid whole
 
   entry-text : entryText (entryIn set at e) ≡ keyText uuid (tagIn set e) ++ intervalsText (intervalsIn set e) ++ (newline ∷ [])
   unfolding entryText

@@ -1,10 +1,11 @@
 -- Laws of bytes as records keep them (`specs/Kept.antt`).
-use mathlib.Core.Path.{_≡_}
-use mathlib.Core.List.{List}
+use mathlib.Core.Path.{_≡_, ap, _∙_}
+use mathlib.Core.List.{List, append-nil}
 use Prim.Native.Nat.{ℕ, zero, suc, _-_, _≤_}
 use native.Mathlib.Nat.{suc-sub-suc}
 use native.Mathlib.Omega.{arith}
 use lib.ListN.{length, take, drop, replicate, length-take, length-replicate}
+use lib.Seq.{take-all}
 use borrow.Author.Tests.{le-leb}
 use Rattle.misc.specs.Output.{bytes, outputOf}
 use Rattle.packets.specs.Kept.{padded, kept}
@@ -20,3 +21,13 @@ unfolding outputOf padded
 kept-written w s =
     let fits : length (take w s) ≤ length (replicate {A = ℕ} w 0) = rw (length-take, length-replicate) (omega arith) in
     rw (le-leb _ _ fits, drop-replicate)
+
+-- as many bytes as are kept are kept as they are
+pub kept-full : (w : ℕ) (s : List ℕ) → length (take w s) ≡ w → kept w s ≡ take w s
+unfolding padded
+kept-full w s h = let none : w - length (take w s) ≡ 0 = omega arith in rw none (append-nil (take w s))
+
+pub kept-whole : (w : ℕ) (s : List ℕ) → length s ≡ w → kept w s ≡ s
+kept-whole w s h =
+    let all : take w s ≡ s = take-all w s (omega arith) in
+    kept-full w s (ap length all ∙ h) ∙ all

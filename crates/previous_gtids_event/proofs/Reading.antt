@@ -2,11 +2,11 @@
 -- answer back to what was read.
 use mathlib.Core.Path.{_≡_, refl, sym, ap, _∙_}
 use mathlib.Core.Bool.{Bool, true, false}
-use mathlib.Core.List.{List, [], _∷_, _++_, append-nil}
+use mathlib.Core.List.{List, [], _∷_, _++_}
 use Prim.Native.Nat.{ℕ, zero, suc, _+_, _-_, _*_, _≤_, _<_}
 use native.Mathlib.Omega.{arith}
 use lib.Dec.{leb}
-use lib.ListN.{length, take, drop, take-append-drop}
+use lib.ListN.{length, drop, take-append-drop}
 use lib.Seq.{take-at, drop-at, take-all}
 use borrow.Author.Tests.{leb-true}
 use Rattle.misc.specs.Refusal.{Refusal, ended, badTag, tooLong, number}
@@ -23,6 +23,7 @@ use Rattle.misc.proofs.Forward.{le-forward, varlen-forward}
 use Rattle.packets.specs.Gno.{Interval, interval}
 use Rattle.packets.specs.Kept.{padded, kept}
 use Rattle.packets.specs.Key.{Key}
+use Rattle.packets.proofs.KeptLaws.{kept-full}
 use Rattle.packets.proofs.TagLaws.{none-or-tag-short}
 use Rattle.previous_gtids_event.specs.Entry.{Entry, entry, uuidOf, tagOf}
 use Rattle.packets.specs.Tag.{noneOrTag}
@@ -466,10 +467,6 @@ whole-order told =
     )
 
 -- a uuid and a tag as records keep them
-kept-full : (w : ℕ) (bs : List ℕ) → length (take w bs) ≡ w → kept w bs ≡ take w bs
-unfolding padded
-kept-full w bs h = let none : w - length (take w bs) ≡ 0 = omega arith in rw none (append-nil (take w bs))
-
 kept-short : (w : ℕ) (bs : List ℕ) → length bs ≤ w → kept w bs ≡ padded w bs
 kept-short w bs h = rw (take-all w bs h)
 

@@ -103,6 +103,15 @@ fn left_behind_tag(tag: &[u8], tags: bool, room: usize) -> usize
     room
 }
 
+// The head of an entry, part by part: nothing is promised where there is no room for all of it.
+fn put_parts(uuid: &[u8], tag: &[u8], tags: bool, count: u64, out: &mut [u8], at: usize) -> usize
+    ensures { λ r. ⌜ WhereFits (now (out .entry)) at (headRun (now (uuid .entry)) tags (now (tag .entry)) count) (now (out .exit)) r ⌝ }
+{
+    let after_uuid = put_bytes(uuid, out, at);
+    let after_tag = put_tag(tag, tags, out, after_uuid);
+    put_u64_le(count, out, after_tag)
+}
+
 // The head of an entry: its uuid, its tag, and how many intervals follow.
 pub fn put_head(uuid: &[u8], tag: &[u8], tags: bool, count: u64, out: &mut [u8], at: usize) -> usize
     ensures { λ r. ⌜ r ≡ putEnd (now (out .entry)) at (headRun (now (uuid .entry)) tags (now (tag .entry)) count) ⌝ }
@@ -112,9 +121,7 @@ pub fn put_head(uuid: &[u8], tag: &[u8], tags: bool, count: u64, out: &mut [u8],
     if left_behind_tag(tag, tags, room) < 8 {
         return at;
     }
-    let after_uuid = put_bytes(uuid, out, at);
-    let after_tag = put_tag(tag, tags, out, after_uuid);
-    put_u64_le(count, out, after_tag)
+    put_parts(uuid, tag, tags, count, out, at)
 }
 
 // The entry at a place of the body, which has been read before: its head, and then the intervals as they stand there.
@@ -129,7 +136,7 @@ fn put_entry(body: &[u8], from: usize, tagged: bool, tags: bool, out: &mut [u8],
     let tag_end = first - 8;
     let tag = tag_end - whole.tag_len;
     let uuid_end = from + 16;
-    let head = put_head(
+    let head = put_parts(
         &body[from..uuid_end],
         &body[tag..tag_end],
         tags,

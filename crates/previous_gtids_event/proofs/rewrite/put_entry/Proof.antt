@@ -31,26 +31,26 @@ sub-tag c = omega (arith, whole-order (told (c .before)))
 add-uuid-end : tie.Need-add-uuid-end
 add-uuid-end c = omega (arith, whole-order (told (c .before)))
 
-sub-put-head : tie.Need-sub-put-head
-sub-put-head c = search needs
+sub-put-parts : tie.Need-sub-put-parts
+sub-put-parts c = search needs
 
-part-put-head-start : tie.Need-part-put-head-start
-part-put-head-start c = search needs
+part-put-parts-start : tie.Need-part-put-parts-start
+part-put-parts-start c = search needs
 
-part-put-head-end : tie.Need-part-put-head-end
-part-put-head-end c = omega (arith, whole-order (told (c .before)))
+part-put-parts-end : tie.Need-part-put-parts-end
+part-put-parts-end c = omega (arith, whole-order (told (c .before)))
 
-sub-put-head-2 : tie.Need-sub-put-head-2
-sub-put-head-2 c = search needs
+sub-put-parts-2 : tie.Need-sub-put-parts-2
+sub-put-parts-2 c = search needs
 
-part-put-head-start-2 : tie.Need-part-put-head-start-2
-part-put-head-start-2 c = search needs
+part-put-parts-start-2 : tie.Need-part-put-parts-start-2
+part-put-parts-start-2 c = search needs
 
-part-put-head-end-2 : tie.Need-part-put-head-end-2
-part-put-head-end-2 c = omega (arith, whole-order (told (c .before .before)))
+part-put-parts-end-2 : tie.Need-part-put-parts-end-2
+part-put-parts-end-2 c = omega (arith, whole-order (told (c .before .before)))
 
-put-head-requires : tie.Need-put-head-requires
-put-head-requires c κs = search needs
+put-parts-requires : tie.Need-put-parts-requires
+put-parts-requires c κs = search needs
 
 sub-put-bytes : tie.Need-sub-put-bytes
 sub-put-bytes c = omega (arith, whole-order (told (c .before .before .before .before .before .before .before)))
@@ -75,7 +75,7 @@ returns c =
     let known = place .before .before in
     let a = known .before .args in
     entry-put (a .tagged) (now (a .body)) (a .from) _ (told place) (a .tags) (λ i. known .shared-slice-known .given i .fits)
-    (put-placed (head .put-head .ensures)) (put-placed (intervals .put-bytes .ensures))
+    (head .put-parts .ensures) (put-placed (intervals .put-bytes .ensures))
 
 pub put-entry-spec : {M : Type 1} → statement M
 put-entry-spec =
@@ -85,13 +85,13 @@ put-entry-spec =
     sub-tag-end
     sub-tag
     add-uuid-end
-    sub-put-head
-    part-put-head-start
-    part-put-head-end
-    sub-put-head-2
-    part-put-head-start-2
-    part-put-head-end-2
-    put-head-requires
+    sub-put-parts
+    part-put-parts-start
+    part-put-parts-end
+    sub-put-parts-2
+    part-put-parts-start-2
+    part-put-parts-end-2
+    put-parts-requires
     sub-put-bytes
     part-put-bytes-start
     part-put-bytes-end

@@ -1,0 +1,27 @@
+-- `previous_gtids_event::rewrite::put_parts` meets its contract.
+use borrow.Author.Needs.{needs}
+use Rattle.misc.proofs.OutputLaws.{_also_, put-placed}
+use Rattle.previous_gtids_event.proofs.rewrite.put_parts.Statement.{statement}
+use Rattle.previous_gtids_event.proofs.rewrite.put_parts.Tie as tie
+
+put-bytes-requires : tie.Need-put-bytes-requires
+put-bytes-requires c κs = search needs
+
+put-tag-requires : tie.Need-put-tag-requires
+put-tag-requires c κs = search needs
+
+put-u64-le-requires : tie.Need-put-u64-le-requires
+put-u64-le-requires c κs = search needs
+
+same-length : tie.Need-same-length
+same-length c = search needs
+
+returns : tie.Need-returns
+returns c =
+    let count = c .before .before in
+    let tag = count .before .before .before .before in
+    let uuid = tag .before .before .before .before in
+    put-placed (uuid .put-bytes .ensures) also put-placed (tag .put-tag .ensures) also put-placed (count .put-u64-le .ensures)
+
+pub put-parts-spec : {M : Type 1} → statement M
+put-parts-spec = tie.close (tie.spec put-bytes-requires put-tag-requires put-u64-le-requires same-length returns)
