@@ -57,6 +57,15 @@ pub struct Walked {
     pub used: usize,
 }
 
+// ---- inside
+
+// An event that is read: its type, how many of its bytes are still to come, and how many came.
+pub(crate) struct Arriving {
+    pub(crate) event_type: u8,
+    pub(crate) left: usize,
+    pub(crate) have: usize,
+}
+
 fn trailer_len(checksums: bool) -> usize
     ensures { λ r. ⌜ (r ≡ trailer checksums) × (r ≤ 4) ⌝ }
 {
@@ -209,18 +218,13 @@ fn head_on(have: usize, checksums: bool, chunk: &[u8], at: usize, work: &mut [u8
 }
 
 // Bytes of an event that is read.
-fn read_on(
-    event_type: u8,
-    left: usize,
-    have: usize,
-    checksums: bool,
-    chunk: &[u8],
-    at: usize,
-    work: &mut [u8],
-) -> Walked
-    requires { ⌜ (0 < left) × (have + left ≤ workLen) × (at < length (now chunk)) × (workLen ≤ length (now work)) ⌝ }
-    ensures { λ r. ⌜ Moves (trailer checksums) (now (chunk .entry)) (now (work .entry)) (Phase.Body «event_type» left have) at (now (work .exit)) (r .phase) (r .used) ⌝ }
+fn read_on(event: Arriving, checksums: bool, chunk: &[u8], at: usize, work: &mut [u8]) -> Walked
+    requires { ⌜ (0 < event .left) × (event .have + event .left ≤ workLen) × (at < length (now chunk)) × (workLen ≤ length (now work)) ⌝ }
+    ensures { λ r. ⌜ Moves (trailer checksums) (now (chunk .entry)) (now (work .entry)) (Phase.Body (event .«event_type») (event .left) (event .have)) at (now (work .exit)) (r .phase) (r .used) ⌝ }
 {
+    let event_type = event.event_type;
+    let left = event.left;
+    let have = event.have;
     let n = smaller(left, chunk.len() - at);
     fill(chunk, at, n, work, have);
     if n < left {
@@ -245,7 +249,12 @@ fn move_on(phase: Phase, checksums: bool, chunk: &[u8], at: usize, work: &mut [u
         Phase::Opening(n) => open_on(n, chunk, at),
         Phase::Header(have) => head_on(have, checksums, chunk, at, work),
         Phase::Body(event_type, left, have) => {
-            read_on(event_type, left, have, checksums, chunk, at, work)
+            let event = Arriving {
+                event_type,
+                left,
+                have,
+            };
+            read_on(event, checksums, chunk, at, work)
         }
         Phase::Skip(left) => skip_on(left, chunk, at),
         Phase::Ended => Walked {

@@ -122,7 +122,8 @@ module _ (s : List ℕ) (at : ℕ) where
       (λ n. lenenc-forced (drop at s) n refl)
     where
       cut : Ends lenenc s at → LenencFault (drop at s) 1
-      cut ends = split (length s) at (λ past. rw (drop-of-length-le s {i = at} past) LenencFault.nothing) (λ inside. LenencFault.cut (cut-lenenc s are at inside ends))
+      cut ends = split (length s) at (λ past. rw (drop-of-length-le s {i = at} past) LenencFault.nothing)
+          (λ inside. LenencFault.cut (cut-lenenc s are at inside ends))
 
 pub integers-exact : IntegersExact
 integers-exact = record {

@@ -42,8 +42,8 @@ skip-on-requires c κs =
 enum-told : tie.Need-enum-told
 enum-told c = search needs
 
-add-t22 : tie.Need-add-t22
-add-t22 c = search needs
+add-t23 : tie.Need-add-t23
+add-t23 c = search needs
 
 enum-known-phase-5 : tie.Need-enum-known-phase-5
 enum-known-phase-5 c = search needs
@@ -95,7 +95,7 @@ move-on-spec =
     enum-known-phase-4
     skip-on-requires
     enum-told
-    add-t22
+    add-t23
     enum-known-phase-5
     enum-known-phase-6
     returns

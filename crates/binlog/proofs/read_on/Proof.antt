@@ -14,14 +14,14 @@ smaller-requires c κs = search needs
 fill-requires : tie.Need-fill-requires
 fill-requires c κs = search needs
 
-sub-t16 : tie.Need-sub-t16
-sub-t16 c = search needs
+sub-t17 : tie.Need-sub-t17
+sub-t17 c = search needs
 
-add-t17 : tie.Need-add-t17
-add-t17 c = search needs
+add-t18 : tie.Need-add-t18
+add-t18 c = search needs
 
-add-t19 : tie.Need-add-t19
-add-t19 c = search needs
+add-t20 : tie.Need-add-t20
+add-t20 c = search needs
 
 same-length : tie.Need-same-length
 same-length c = search needs
@@ -40,8 +40,8 @@ trailer-len-requires c κs = search needs
 less-requires : tie.Need-less-requires
 less-requires c κs = search needs
 
-add-t10 : tie.Need-add-t10
-add-t10 c = search needs
+add-t11 : tie.Need-add-t11
+add-t11 c = search needs
 
 same-length-2 : tie.Need-same-length-2
 same-length-2 c = search needs
@@ -59,14 +59,14 @@ read-on-spec =
     sub-smaller
     smaller-requires
     fill-requires
-    sub-t16
-    add-t17
-    add-t19
+    sub-t17
+    add-t18
+    add-t20
     same-length
     returns
     add-less
     trailer-len-requires
     less-requires
-    add-t10
+    add-t11
     same-length-2
     returns-2)
