@@ -1,8 +1,8 @@
 // The check of a lent set: whether its bytes are a Previous-GTIDs body in set form and within the set limits, and if so, how many
-use packets::MAX_TAG;
-
 // entries and intervals it has. It promises `checkedOf (lentSet ..)`. Beside it stands the one walk over a
 // set's entries, with a cursor. `limits` judges the counts of a set that is to be written.
+use packets::MAX_TAG;
+
 pub mod check;
 mod heads;
 pub mod limits;
