@@ -20,9 +20,6 @@ use Rattle.binlog.proofs.WalkRun.{either}
 
 -- ---- what the functions answer
 
-pub header-none : (n : ℕ) → n ≡ 0 → phase.Ended ≡ endIn (phase.Header n)
-header-none n z = rw z
-
 pub header-some : (n : ℕ) → (n ≡ 0 → ⊥) → phase.Stopped 1 0 ≡ endIn (phase.Header n)
 header-some zero z = absurd (z refl)
 header-some (suc n) z = refl
@@ -56,10 +53,6 @@ end-place-in (phase.Stopped r n) w w′ s h = refl
 
 answers-in : (p : Phase) (w : List ℕ) → sound p (length w) ≡ true → endAnswers p ≡ endIn p
 answers-in p w s = sym (end-made p (endIn p) (both _ _ s .0) refl)
-
-pub end-place-any : (p : Phase) (w w′ : List ℕ) → sound p (length w) ≡ true → isWhole (placeIn p w) ≡ false
-    → placeIn (endAnswers p) w′ ≡ endOf (placeIn p w)
-end-place-any p w w′ s h = rw (answers-in p w s) (end-place-in p w w′ s h)
 
 -- with the same work bytes, wherever the reader is
 end-place-same : (p : Phase) (w : List ℕ) → sound p (length w) ≡ true → placeIn (endIn p) w ≡ endOf (placeIn p w)

@@ -95,9 +95,6 @@ module _ (chunk : List ℕ) (at : ℕ) (there : at < length chunk) where
       (λ t w. (refl, rw (eq-eqb (getD chunk at 0) (getD theOpening n 0) right, le-ltb (n + 1) 4 (omega arith))))
       (λ room h. sound-header 0 room (omega arith) h)
 
-  pub end-over : Steps chunk phase.Ended at (phase.Stopped 18 0) (at + 1)
-  end-over = byte-moves phase.Ended (phase.Stopped 18 0) (λ t w. (refl, refl)) (λ room h. sound-stopped 18 0 room (omega arith))
-
 module _ (chunk : List ℕ) (at m : ℕ) (some : 0 < m) (fits : at + m ≤ length chunk) where
   enough : m ≤ length (drop at chunk)
   enough = rw length-drop (omega arith)

@@ -90,10 +90,7 @@ fit-end (whole type body) f = f
 fit-end ended f = refl
 fit-end (stopped r n) f = f
 
--- where a file begins, and where any phase stands
-pub fit-begin : FitPlace (opening 0)
-fit-begin = refl
-
+-- where any phase stands
 pub fit-place : (p : Phase) (w : List ℕ) → FitPlace (placeOf p w)
 unfolding placeOf
 fit-place p w =

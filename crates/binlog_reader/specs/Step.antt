@@ -36,9 +36,6 @@ steps room t p set chunk = settledAt room t set (walked t p 0 chunk)
 abbrev pub runIn : Stepped → SetRun
 runIn (stepped run used) = run
 
-abbrev pub usedIn : Stepped → ℕ
-usedIn (stepped run used) = used
-
 -- ---- a reader, its work bytes, the buffer that has its set at the front, and the length of the room for the set after an event
 
 abbrev pub stepOf : Reader → List ℕ → List ℕ → ℕ → List ℕ → Stepped

@@ -1,11 +1,10 @@
 -- The bytes of entries: how many there are at most and at least, and those of two parts.
 use Prim.Native.Nat.{ℕ, _+_, _*_, _≤_}
-use mathlib.Core.Path.{_≡_, refl, sym, ap, _∙_}
+use mathlib.Core.Path.{_≡_, refl}
 use mathlib.Core.Bool.{Bool, true, false}
 use mathlib.Core.List.{List, [], _∷_, _++_, append-assoc}
 use native.Mathlib.Omega.{arith}
-use lib.ListN.{length, take, drop, length-append}
-use lib.Seq.{take-at, drop-at}
+use lib.ListN.{length, length-append}
 use Rattle.misc.proofs.VarlenLaws.{length-small}
 use Rattle.packets.specs.Gno.{Interval, interval}
 use Rattle.previous_gtids_event.specs.Entry.{Entry, entry, tagOf}
@@ -54,10 +53,3 @@ pub entriesBytes-append : (w : Bool) (s t : List Entry) → entriesBytes w (s ++
 unfolding entriesBytes
 entriesBytes-append w [] t = refl
 entriesBytes-append w (e ∷ s) t = simp (entriesBytes-append w s t, append-assoc)
-
--- two lists that begin with parts of one length are equal only if both parts are
-pub append-parts : (u v s t : List ℕ) → length u ≡ length v → u ++ s ≡ v ++ t → (u ≡ v) × (s ≡ t)
-append-parts u v s t l e = (
-  sym (take-at u s (length v) l) ∙ ap (take (length v)) e ∙ take-at v t (length v) refl,
-  sym (drop-at u s (length v) l) ∙ ap (drop (length v)) e ∙ drop-at v t (length v) refl,
-)

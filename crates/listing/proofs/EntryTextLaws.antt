@@ -20,7 +20,7 @@ use Rattle.text.specs.Keys.{tagText, keyText}
 use Rattle.text.specs.Lines.{newline}
 use Rattle.text.proofs.KeyTextLaws.{key-long, tag-most}
 use Rattle.listing.specs.SetText.{intervalsText, entryText, entriesText}
-use Rattle.listing.specs.Inside.{EntryThere, tagIn, intervalsIn, entryIn, lineLength}
+use Rattle.listing.specs.Inside.{EntryThere, tagIn, intervalsThere, entryIn, lineLength}
 
 -- ---- one entry
 
@@ -38,7 +38,7 @@ module _ (set : List ℕ) (at : ℕ) (e : EntryPlace) (there : at + 16 ≤ lengt
   pub uuid-kept : kept 16 uuid ≡ uuid
   uuid-kept = kept-whole 16 uuid whole
 
-  entry-text : entryText (entryIn set at e) ≡ keyText uuid (tagIn set e) ++ intervalsText (intervalsIn set e) ++ (newline ∷ [])
+  entry-text : entryText (entryIn set at e) ≡ keyText uuid (tagIn set e) ++ intervalsText (intervalsThere set e) ++ (newline ∷ [])
   unfolding entryText
   entry-text = rw (uuid-of uuid (tagIn set e) whole, tag-of uuid (tagIn set e) whole)
 
@@ -48,7 +48,7 @@ module _ (set : List ℕ) (at : ℕ) (e : EntryPlace) (there : at + 16 ≤ lengt
       rw entry-text (simp length-append (omega arith))
 
   pub entry-put : {l l₁ l₂ l₃ : List ℕ} {at₀ at₁ at₂ at₃ : ℕ} → WhereFits l at₀ (keyText uuid (tagIn set e)) l₁ at₁
-      → WhereFits l₁ at₁ (intervalsText (intervalsIn set e)) l₂ at₂ → WhereFits l₂ at₂ (newline ∷ []) l₃ at₃
+      → WhereFits l₁ at₁ (intervalsText (intervalsThere set e)) l₂ at₂ → WhereFits l₂ at₂ (newline ∷ []) l₃ at₃
       → WhereFits l at₀ (entryText (entryIn set at e)) l₃ at₃
   entry-put p q r = rw entry-text (p also q also r)
 

@@ -22,16 +22,16 @@ pub record EntryThere (set : List ℕ) (e : EntryPlace) : Type 0 where
 abbrev pub tagIn : List ℕ → EntryPlace → List ℕ
 tagIn set e = part set (e .«tag_at») (e .«tag_len»)
 
-abbrev pub intervalsIn : List ℕ → EntryPlace → List Interval
-intervalsIn set e = intervalsAt (e .count) set (e .first)
+abbrev pub intervalsThere : List ℕ → EntryPlace → List Interval
+intervalsThere set e = intervalsAt (e .count) set (e .first)
 
 -- the entry whose uuid stands at a place, and the others of its parts where they are found
 abbrev pub entryIn : List ℕ → ℕ → EntryPlace → Entry
-entryIn set at e = entry (part set at 16 ++ tagIn set e) (intervalsIn set e)
+entryIn set at e = entry (part set at 16 ++ tagIn set e) (intervalsThere set e)
 
 -- how long its line is: 36 bytes for the uuid and one for the newline
 abbrev pub lineLength : List ℕ → EntryPlace → ℕ
-lineLength set e = 36 + length (tagText (tagIn set e)) + length (intervalsText (intervalsIn set e)) + 1
+lineLength set e = 36 + length (tagText (tagIn set e)) + length (intervalsText (intervalsThere set e)) + 1
 
 -- the line of counts
 abbrev pub headText : List ℕ → ℕ → ℕ → List ℕ

@@ -1,35 +1,45 @@
-// The 116 bytes of a GTID record, as the protocol lays them out.
+// The 116 bytes of a GTID record, as the protocol lays them out, by code of the test program's own.
 use gtid_event::GtidEvent;
-use misc::put::put_byte;
-use misc::put::put_bytes;
-use misc::put::put_u32_le;
-use misc::put::put_u64_le;
+use probe_lines::line::push_byte;
+use probe_lines::line::push_text;
+
+fn push_u32_le(dump: &mut [u8], at: usize, n: u32) -> usize {
+    let at1 = push_byte(dump, at, (n % 256) as u8);
+    let at2 = push_byte(dump, at1, ((n / 256) % 256) as u8);
+    let at3 = push_byte(dump, at2, ((n / 65_536) % 256) as u8);
+    push_byte(dump, at3, (n / 16_777_216) as u8)
+}
+
+fn push_u64_le(dump: &mut [u8], at: usize, n: u64) -> usize {
+    let at4 = push_u32_le(dump, at, (n % 4_294_967_296) as u32);
+    push_u32_le(dump, at4, (n / 4_294_967_296) as u32)
+}
 
 fn dump_identity(event: GtidEvent, dump: &mut [u8], at: usize) -> usize {
     let sid = event.sid;
     let tag = event.tag;
-    let flags_end = put_byte(event.flags, dump, at);
-    let sid_end = put_bytes(&sid, dump, flags_end);
-    let gno_end = put_u64_le(event.gno, dump, sid_end);
-    let len_end = put_byte(event.tag_len, dump, gno_end);
-    put_bytes(&tag, dump, len_end)
+    let flags_end = push_byte(dump, at, event.flags);
+    let sid_end = push_text(dump, flags_end, &sid);
+    let gno_end = push_u64_le(dump, sid_end, event.gno);
+    let len_end = push_byte(dump, gno_end, event.tag_len);
+    push_text(dump, len_end, &tag)
 }
 
 fn dump_clock(event: GtidEvent, dump: &mut [u8], at: usize) -> usize {
     let has_typecode = (event.lc_typecode != 0) as u8;
-    let has_end = put_byte(has_typecode, dump, at);
-    let typecode_end = put_byte(event.lc_typecode, dump, has_end);
-    let last_end = put_u64_le(event.last_committed, dump, typecode_end);
-    let sequence_end = put_u64_le(event.sequence_number, dump, last_end);
-    let immediate_end = put_u64_le(event.immediate_commit_timestamp, dump, sequence_end);
-    put_u64_le(event.original_commit_timestamp, dump, immediate_end)
+    let has_end = push_byte(dump, at, has_typecode);
+    let typecode_end = push_byte(dump, has_end, event.lc_typecode);
+    let last_end = push_u64_le(dump, typecode_end, event.last_committed);
+    let sequence_end = push_u64_le(dump, last_end, event.sequence_number);
+    let immediate_end = push_u64_le(dump, sequence_end, event.immediate_commit_timestamp);
+    push_u64_le(dump, immediate_end, event.original_commit_timestamp)
 }
 
 fn dump_rest(event: GtidEvent, dump: &mut [u8], at: usize) -> usize {
-    let length_end = put_u64_le(event.tx_length, dump, at);
-    let immediate_end = put_u32_le(event.immediate_server_version, dump, length_end);
-    let original_end = put_u32_le(event.original_server_version, dump, immediate_end);
-    put_u64_le(event.commit_group_ticket, dump, original_end)
+    let length_end = push_u64_le(dump, at, event.tx_length);
+    let immediate_end = push_u32_le(dump, length_end, event.immediate_server_version);
+    let original_end = push_u32_le(dump, immediate_end, event.original_server_version);
+    push_u64_le(dump, original_end, event.commit_group_ticket)
 }
 
 // Puts the bytes at the front of `dump`.

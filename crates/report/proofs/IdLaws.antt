@@ -20,7 +20,7 @@ use Rattle.gtid_sets.specs.Limits.{maxEntries}
 use Rattle.gtid_sets.proofs.LimitLaws.{maxEntries-is}
 use Rattle.set_check.specs.declared.EntryPlace.{EntryPlace}
 use Rattle.set_intervals.proofs.Standing.{intervals-more}
-use Rattle.set_check.proofs.CursorLaws.{Ahead, ahead, none-ahead, left-count}
+use Rattle.set_check.proofs.CursorLaws.{Ahead, ahead, none-ahead, cursor-count}
 use Rattle.report.specs.Inside.{wideOf, valueOf}
 use Rattle.report.specs.declared.Wide.{Wide}
 use Rattle.report.proofs.WideLaws.{words, low-small, wide-is}
@@ -91,7 +91,7 @@ totalling-none bs from is few =
     record {
       cursor = is;
       to-do = omega arith;
-      most = omega (arith, total-most (entriesLeft bs from) (is .formed), left-count bs from, maxEntries-is);
+      most = omega (arith, total-most (entriesLeft bs from) (is .formed), cursor-count bs from, maxEntries-is);
       fits = omega arith;
     }
 

@@ -32,7 +32,7 @@ use Rattle.set_intervals.proofs.Standing.{intervals-count, intervals-lent}
 use Rattle.set_intervals.proofs.Walks.{held-covers}
 use Rattle.set_check.specs.declared.EntryPlace.{EntryPlace}
 use Rattle.set_check.specs.SetOf.{setOf, IsSet}
-use Rattle.set_check.specs.Cursor.{beyondOf, entriesLeft, keyAt, CursorIs}
+use Rattle.set_check.specs.Cursor.{beyondOf, entriesLeft, keyHere, CursorIs}
 use Rattle.set_check.specs.declared.Cursor.{Cursor}
 use Rattle.set_check.proofs.SetOfLaws.{set-bytes}
 use Rattle.set_check.proofs.CursorLaws.{cursor-starts, Ahead, none-ahead}
@@ -152,7 +152,7 @@ module _ (bs : List ℕ) (w : Bool) (n : ℕ) (k : Key) (done : ℕ) (c : Cursor
 
   module _ (p : EntryPlace) (h : Ahead bs c p) where
     abbrev key : Key
-    key = keyAt bs c p
+    key = keyHere bs c p
 
     abbrev is : List Interval
     is = intervalsAt (p .count) bs (p .first)

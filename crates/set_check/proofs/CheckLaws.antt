@@ -19,7 +19,7 @@ use Rattle.gtid_sets.proofs.LimitLaws.{limits-fair, limits-says, limits-from}
 use Rattle.previous_gtids_event.proofs.Writing.{length-header}
 use Rattle.gtid_sets.proofs.LentLaws.{is-lent, lent-none}
 use Rattle.set_check.specs.Check.{checkedOf, HeaderIs, NoHeader, EntryIs, NoEntry, Rest, Whole}
-use Rattle.set_check.specs.Cursor.{beyondOf, keyAt}
+use Rattle.set_check.specs.Cursor.{beyondOf, keyHere}
 use Rattle.set_check.specs.declared.Cursor.{Cursor}
 use Rattle.set_check.specs.declared.EntryPlace.{EntryPlace}
 use Rattle.set_check.specs.declared.Header.{Header}
@@ -45,7 +45,7 @@ module _ (bs : List ℕ) (from c : Cursor) (low : Key) (used : ℕ) (any : Bool)
     walked-not none p = rest-not bs c low used any left none (v .on p)
 
     pub walked-next : Bytes bs → (p : EntryPlace) (h : EntryIs bs c low p) (next : Cursor) → next ≡ beyondOf c p
-        → Walked bs from next (keyAt bs c p) (used + p .count) (any || ltb 0 (p .«tag_len»))
+        → Walked bs from next (keyHere bs c p) (used + p .count) (any || ltb 0 (p .«tag_len»))
     walked-next ok p h next after =
         rw after (record {
           on = λ r. rest-after bs c low used any left p h (v .on r);

@@ -17,7 +17,7 @@ use Rattle.gtid_sets.specs.Interval.{Some, Gapped}
 use Rattle.gtid_sets.specs.Lent.{form, lentSet}
 use Rattle.set_intervals.specs.Intervals.{intervalsAt}
 use Rattle.set_check.specs.Places.{placeAt, placeIn, keyThere, entriesAt}
-use Rattle.set_check.specs.Cursor.{begun, beyondOf, entriesLeft, keyAt, CursorIs}
+use Rattle.set_check.specs.Cursor.{begun, beyondOf, entriesLeft, keyHere, CursorIs}
 use Rattle.set_check.specs.SetOf.{setOf, IsSet, Fits}
 use Rattle.set_check.specs.declared.Checked.{Checked}
 use Rattle.set_check.specs.declared.Cursor.{Cursor}
@@ -54,11 +54,11 @@ cursor-begins bs c f =
 
 -- the next entry, as it stands there, and the others
 pub record Ahead (bs : List ℕ) (c : Cursor) (p : EntryPlace) : Type 0 where
-  pub is : entriesLeft bs c ≡ entry (keyAt bs c p) (intervalsAt (p .count) bs (p .first)) ∷ entriesLeft bs (beyondOf c p)
+  pub is : entriesLeft bs c ≡ entry (keyHere bs c p) (intervalsAt (p .count) bs (p .first)) ∷ entriesLeft bs (beyondOf c p)
   pub next : CursorIs bs (beyondOf c p)
   pub some : Some (intervalsAt (p .count) bs (p .first))
   pub gapped : Gapped 0 (intervalsAt (p .count) bs (p .first))
-  pub good : GoodKey (keyAt bs c p)
+  pub good : GoodKey (keyHere bs c p)
   pub uuid : length (part bs (c .at) 16) ≡ 16
   pub uuid-inside : c .at + 16 ≤ length bs
   pub tag-inside : p .«tag_at» + p .«tag_len» ≤ length bs
@@ -119,8 +119,8 @@ pub none-ahead : (bs : List ℕ) (c : Cursor) → c .left ≡ 0 → entriesLeft 
 none-ahead bs c e = rw e
 
 -- as many are left as the cursor counts
-pub left-count : (bs : List ℕ) (c : Cursor) → length (entriesLeft bs c) ≡ c .left
-left-count bs c = go (c .left) (c .at)
+pub cursor-count : (bs : List ℕ) (c : Cursor) → length (entriesLeft bs c) ≡ c .left
+cursor-count bs c = go (c .left) (c .at)
   where
     go : (n at : ℕ) → length (entriesAt n (c .tagged) bs at) ≡ n
     go zero at = refl

@@ -31,7 +31,7 @@ use Rattle.gtid_sets.proofs.LentLaws.{gapped-wide}
 use Rattle.misc.proofs.Places.{after-there}
 use Rattle.set_intervals.specs.Intervals.{intervalsAt}
 use Rattle.set_check.specs.Places.{placeIn}
-use Rattle.set_check.specs.Cursor.{beyondOf, keyAt}
+use Rattle.set_check.specs.Cursor.{beyondOf, keyHere}
 use Rattle.set_check.specs.Head.{headBytes, KeyOk, HeadIs, NoHead}
 use Rattle.set_check.specs.Check.{keyIn, LowKey, EntryIs, NoEntry, Rest}
 use Rattle.set_check.specs.declared.Cursor.{Cursor}
@@ -70,14 +70,14 @@ low-order bs low l v x h = go v (l .shape) h
 pub order-found : (bs : List ℕ) (c : Cursor) (p : EntryPlace) → c .at + 16 ≤ length bs → (low : KeyPlace) → LowKey bs low → (told : KeyOrder)
     → told ≡ orderRead (orElse (order (part bs (low .at) (low .len)) (part bs (c .at) 16))
     (order (part bs (low .«tag_at») (low .«tag_len»)) (part bs (p .«tag_at») (p .«tag_len»))))
-    → orderRead (order (keyIn bs low) (keyAt bs c p)) ≡ told
+    → orderRead (order (keyIn bs low) (keyHere bs c p)) ≡ told
 order-found bs c p there low l told is =
     ap orderRead (low-order bs low l (part bs (c .at) 16) (part bs (p .«tag_at») (p .«tag_len»)) (part-length 16 bs (c .at) there)) ∙ sym is
 
 -- ---- the tests of `entry_above`
 
 -- the key of an entry that stands there
-here-key : (bs : List ℕ) (c : Cursor) (p : EntryPlace) (k : Key) (is : List Interval) (rest : List ℕ) → EntryHere bs (c .at) k is rest p → keyAt bs c p ≡ k
+here-key : (bs : List ℕ) (c : Cursor) (p : EntryPlace) (k : Key) (is : List Interval) (rest : List ℕ) → EntryHere bs (c .at) k is rest p → keyHere bs c p ≡ k
 here-key bs c p k is rest h = rw (h .uuid-there, h .tag-there) (sym (key-whole k))
 
 here-intervals : (bs : List ℕ) (at : ℕ) (p : EntryPlace) (k : Key) (is : List Interval) (rest : List ℕ) → EntryHere bs at k is rest p
@@ -95,12 +95,12 @@ module _ (bs : List ℕ) (c : Cursor) (low : Key) where
         let same = here-intervals bs (c .at) p k is x (written-found bs c p told k is x o f e) g in
         clash (gapped-tests 0 is g) (sym (ap (gapped 0) same) ∙ u)
 
-    pub entry-low : (low ≺ keyAt bs c p → ⊥) → NoEntry bs c low
+    pub entry-low : (low ≺ keyHere bs c p → ⊥) → NoEntry bs c low
     entry-low u k is x o s g f r e =
         let same = here-key bs c p k is x (written-found bs c p told k is x o f e) in
         u (ap (order low) same ∙ r)
 
-  pub entry-is : (p : EntryPlace) → HeadIs bs c p → gapped 0 (intervalsAt (p .count) bs (p .first)) ≡ true → low ≺ keyAt bs c p → EntryIs bs c low p
+  pub entry-is : (p : EntryPlace) → HeadIs bs c p → gapped 0 (intervalsAt (p .count) bs (p .first)) ≡ true → low ≺ keyHere bs c p → EntryIs bs c low p
   entry-is p h g r = record { head = h; gapped = gapped-holds 0 (intervalsAt (p .count) bs (p .first)) g; rises = r }
 
 -- how the parts of an entry that is there lie
@@ -121,9 +121,9 @@ more-some (i ∷ is) h = tt
 
 module _ (bs : List ℕ) (c : Cursor) (low : Key) (used : ℕ) (any : Bool) (left : 0 < c .left) (p : EntryPlace) (h : EntryIs bs c low p) where
   abbrev Next : Type 0
-  Next = Rest bs (beyondOf c p) (keyAt bs c p) (used + p .count) (any || ltb 0 (p .«tag_len»))
+  Next = Rest bs (beyondOf c p) (keyHere bs c p) (used + p .count) (any || ltb 0 (p .«tag_len»))
 
-  len-is : p .«tag_len» ≡ length (tagOf (keyAt bs c p))
+  len-is : p .«tag_len» ≡ length (tagOf (keyHere bs c p))
   len-is =
       let l = head-lies bs c p (h .head) in
       let end = h .head .inside in
@@ -136,7 +136,7 @@ module _ (bs : List ℕ) (c : Cursor) (low : Key) (used : ℕ) (any : Bool) (lef
   rest-before ok q =
       let w : Bool = c .tagged in
       let is : List Interval = intervalsAt (p .count) bs (p .first) in
-      let k : Key = keyAt bs c p in
+      let k : Key = keyHere bs c p in
       let l = head-lies bs c p (h .head) in
       let n : length is ≡ p .count = intervals-count (p .count) bs (p .first) in
       let inside : p .first + 16 * p .count ≤ length bs = omega (arith, l .next-is, h .head .inside) in
@@ -175,7 +175,7 @@ module _ (bs : List ℕ) (c : Cursor) (low : Key) (used : ℕ) (any : Bool) (lef
           let o : KeyOk w k = key-ok w any k is s (g .0) t in
           let small : length is < 2 ^ 64 = omega (arith, maxIntervals-is) in
           let found = rw (← h .head .stands) at (entry-here bs (c .at) k is (entriesBytes w s) small w o (e ∙ entries-head w k is s)) in
-          let same : keyAt bs c p ≡ k = here-key bs c p k is (entriesBytes w s) found in
+          let same : keyHere bs c p ≡ k = here-key bs c p k is (entriesBytes w s) found in
           let len : p .«tag_len» ≡ length (tagOf k) = len-is ∙ ap (λ (j : Key). length (tagOf j)) same in
           record {
             set = s;

@@ -17,7 +17,7 @@ use Rattle.gtid_sets.specs.Limits.{maxEntries, maxIntervals, maxOfEntry, interv
 use Rattle.gtid_sets.specs.Lent.{Lent, form, unfit, GoodKeys}
 use Rattle.set_intervals.specs.Intervals.{intervalsAt}
 use Rattle.set_check.specs.Head.{headBytes, KeyOk, HeadIs}
-use Rattle.set_check.specs.Cursor.{keyAt}
+use Rattle.set_check.specs.Cursor.{keyHere}
 use Rattle.set_check.specs.declared.Cursor.{Cursor}
 use Rattle.set_check.specs.declared.EntryPlace.{EntryPlace}
 use Rattle.set_check.specs.declared.KeyPlace.{KeyPlace}
@@ -55,7 +55,7 @@ pub record LowKey (bs : List ℕ) (k : KeyPlace) : Type 0 where
 pub record EntryIs (bs : List ℕ) (c : Cursor) (low : Key) (p : EntryPlace) : Type 0 where
   pub head : HeadIs bs c p
   pub gapped : Gapped 0 (intervalsAt (p .count) bs (p .first))
-  pub rises : low ≺ keyAt bs c p
+  pub rises : low ≺ keyHere bs c p
 
 abbrev pub NoEntry : List ℕ → Cursor → Key → Type 0
 NoEntry bs c low =

@@ -29,8 +29,8 @@ abbrev pub entriesLeft : List ℕ → Cursor → List Entry
 entriesLeft bs c = entriesAt (c .left) (c .tagged) bs (c .at)
 
 -- the key of the entry at a cursor that stands there
-abbrev pub keyAt : List ℕ → Cursor → EntryPlace → Key
-keyAt bs c p = part bs (c .at) 16 ++ part bs (p .«tag_at») (p .«tag_len»)
+abbrev pub keyHere : List ℕ → Cursor → EntryPlace → Key
+keyHere bs c p = part bs (c .at) 16 ++ part bs (p .«tag_at») (p .«tag_len»)
 
 -- they are all there, in set form, and nothing behind them
 pub record CursorIs (bs : List ℕ) (c : Cursor) : Type 0 where

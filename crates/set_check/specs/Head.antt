@@ -13,7 +13,7 @@ use Rattle.previous_gtids_event.specs.Rewrite.{intervalsBytes, tagBytes}
 use Rattle.gtid_sets.specs.Interval.{Some}
 use Rattle.gtid_sets.specs.Limits.{maxOfEntry}
 use Rattle.set_check.specs.Places.{placeAt}
-use Rattle.set_check.specs.Cursor.{keyAt}
+use Rattle.set_check.specs.Cursor.{keyHere}
 use Rattle.set_check.specs.declared.Cursor.{Cursor}
 use Rattle.set_check.specs.declared.EntryPlace.{EntryPlace}
 
@@ -35,8 +35,8 @@ pub record KeyOk (w : Bool) (k : Key) : Type 0 where
 pub record HeadIs (bs : List ℕ) (c : Cursor) (p : EntryPlace) : Type 0 where
   pub stands : p ≡ placeAt (c .tagged) bs (c .at)
   pub inside : p .next ≤ length bs
-  pub is : drop (c .at) bs ≡ headBytes (c .tagged) (keyAt bs c p) (p .count) (drop (p .first) bs)
-  pub ok : KeyOk (c .tagged) (keyAt bs c p)
+  pub is : drop (c .at) bs ≡ headBytes (c .tagged) (keyHere bs c p) (p .count) (drop (p .first) bs)
+  pub ok : KeyOk (c .tagged) (keyHere bs c p)
   pub some : 0 < p .count
   pub few : p .count ≤ maxOfEntry
 

@@ -11,7 +11,7 @@ use Rattle.packets.specs.Key.{order, orderRead}
 use Rattle.packets.proofs.OrderLaws.{says-before}
 use Rattle.gtid_sets.specs.Interval.{gapped}
 use Rattle.set_intervals.specs.Intervals.{intervalsAt}
-use Rattle.set_check.specs.Cursor.{keyAt}
+use Rattle.set_check.specs.Cursor.{keyHere}
 use Rattle.set_check.specs.Check.{keyIn}
 use Rattle.set_check.specs.Head.{HeadIs}
 use Rattle.set_check.proofs.PlaceLaws.{says-yes, says-no}
@@ -30,7 +30,7 @@ parts c = head-lies _ _ _ (head c)
 -- what the order of the keys told
 order-told : (c : tie.After-parts-order)
     → let a = c .before .before .before .before .before .before .before .before .before .before .before .before .before .before .args in
-    orderRead (order (keyIn (now (a .set)) (a .low)) (keyAt (now (a .set)) (a .from) (a .entry))) ≡ c .parts-order .result
+    orderRead (order (keyIn (now (a .set)) (a .low)) (keyHere (now (a .set)) (a .from) (a .entry))) ≡ c .parts-order .result
 order-told c =
     let h = c .before .before .before .before .before .before .before .before .before .before .before in
     let a = h .before .before .before .args in
@@ -150,7 +150,7 @@ returns-3 c =
     let k = keyIn (now (a .set)) (a .low) in
     let tested = told .before .before .before .before .before .before .before .before in
     let rising = sym (judged (tested .before)) ∙ not-false _ (tested .if2 .left) in
-    let above = says-before (order k (keyAt (now (a .set)) (a .from) (a .entry))) (order-told told ∙ c .enum-told .given .1) in
+    let above = says-before (order k (keyHere (now (a .set)) (a .from) (a .entry))) (order-told told ∙ c .enum-told .given .1) in
     says-yes (entry-is (now (a .set)) (a .from) k (a .entry) (head h) rising above)
 
 returns-4 : tie.Need-returns-4
