@@ -23,7 +23,7 @@ use Rattle.gtid_event_read.proofs.Telling.{refused-by}
 use Rattle.gtid_event_read.proofs.ReadLaws.{gtid-said, gtid-refused}
 use Rattle.gtid_event_write.specs.Write.{eventOutput}
 use Rattle.misc.specs.Le.{numberAt}
-use Rattle.resume_set.proofs.AnswerLaws.{key-parts}
+use Rattle.gtid_event_read.proofs.NamedLaws.{key-parts}
 use Rattle.abi.specs.Flat.{flat, flatIdentity, flatClock, flatRest, fourAt, typecodeIf, flatRead, readOutput, readUsed, readPresent, writeOutput}
 use Rattle.abi.proofs.NumberLaws.{wrote-parts}
 

@@ -7,7 +7,7 @@ use Rattle.misc.specs.declared.ReadUint.{ReadUint}
 use Rattle.previous_gtids_event.specs.declared.PreviousRead.{PreviousRead}
 use Rattle.previous_gtids_event.specs.declared.EntryRead.{EntryRead}
 use Rattle.resume_set.specs.declared.SetRead.{SetRead}
-use Rattle.resume_set.specs.declared.Contained.{Contained}
+use Rattle.set_join.specs.declared.Contained.{Contained}
 use Rattle.resume_set.specs.declared.Offered.{Offered}
 use Rattle.two_sets.specs.declared.AllWithin.{AllWithin}
 use Rattle.two_sets.specs.declared.Choice.{Choice}

@@ -14,7 +14,6 @@ ghost use mathlib.Core.Path.{_≡_};
 ghost use Prim.Native.Nat.{_<_};
 ghost use lib.ListN.{length};
 ghost use Rattle.misc.specs.Output.{WhereFits};
-ghost use Rattle.misc.specs.Le.{numberAt};
 ghost use Rattle.abi.specs.FlatReport.{lineSize, reportSize, flatLine, lineIn, reportIn, withLineIn, roomFor};
 
 // How many bytes a line has.
@@ -45,7 +44,7 @@ pub(crate) fn room_for(report: &[u8]) -> u8
 
 // Puts a line behind those that are there, and counts it.
 pub(crate) fn keep_line(line: Line, report: &mut [u8])
-    requires { ⌜ (length (now report) ≡ reportSize) × (numberAt (now report) 0 < 64) ⌝ }
+    requires { ⌜ 0 ≡ roomFor (now report) ⌝ }
     ensures { λ _. ⌜ now (report .exit) ≡ withLineIn (now (report .entry)) line ⌝ }
 {
     let sets = number_at(report, 0);

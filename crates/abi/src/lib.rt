@@ -29,7 +29,8 @@ ghost use Rattle.previous_gtids_event.specs.Answers.{previousRead, entryRead};
 ghost use Rattle.previous_gtids_event.specs.Rewrite.{rewritten};
 ghost use Rattle.gtid_event_read.specs.Read.{seen, gtid};
 ghost use Rattle.gtid_sets.specs.Lent.{lentSet};
-ghost use Rattle.resume_set.specs.Answers.{setRead, contained, takeInAnswers, takeInLeaves, offerAnswers, offerLeaves};
+ghost use Rattle.set_join.specs.Answers.{contained, takeInAnswers, takeInLeaves};
+ghost use Rattle.resume_set.specs.Answers.{setRead, offerAnswers, offerLeaves};
 ghost use Rattle.gtid_sets.specs.Combine.{either, both, without};
 ghost use Rattle.two_sets.specs.Answers.{combineAnswers, combineLeaves, withinAnswers, whichAnswers};
 ghost use Rattle.listing.specs.EventText.{listing};
@@ -91,7 +92,7 @@ pub extern "C" fn gtid_contains(
     ensures { λ r. ⌜ r ≡ contained (lentSet (now (set .entry))) (now (uuid .entry)) (now (tag .entry)) gno .refusal ⌝ }
     ensures { λ _. ⌜ now (present .exit) ≡ bit (contained (lentSet (now (set .entry))) (now (uuid .entry)) (now (tag .entry)) gno .present) ⌝ }
 {
-    let said = resume_set::contains(set, uuid, tag, gno);
+    let said = set_join::contains(set, uuid, tag, gno);
     *present = said.present as u8;
     said.refusal
 }
@@ -103,7 +104,7 @@ pub extern "C" fn gtid_take_in(body: &[u8], out: &mut [u8], len: &mut usize) -> 
     ensures { λ _. ⌜ now (len .exit) ≡ takeInAnswers (now (body .entry)) (now (out .entry)) .len ⌝ }
     ensures { λ _. ⌜ now (out .exit) ≡ takeInLeaves (now (body .entry)) (now (out .entry)) ⌝ }
 {
-    let wrote = resume_set::take_in::take_in(body, out);
+    let wrote = set_join::take_in::take_in(body, out);
     *len = wrote.len;
     wrote.refusal
 }

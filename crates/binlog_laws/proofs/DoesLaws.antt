@@ -14,7 +14,7 @@ use Rattle.previous_gtids_event.specs.Rewrite.{bodyBytes}
 use Rattle.gtid_sets.specs.Run.{Event, Answer, noId, already, taken, refused, answer, after}
 use Rattle.gtid_sets.specs.Lent.{Lent, form, unfit, lentSet}
 use Rattle.resume_set.specs.Answers.{eventOf}
-use Rattle.resume_set.specs.JoinIn.{joinedIn}
+use Rattle.set_join.specs.JoinIn.{joinedIn}
 use Rattle.binlog.specs.Run.{Done, did, fails}
 use Rattle.binlog_reader.specs.Does.{Judged, fitted, offeredAs, offers, joins, tells, acts, does}
 use Rattle.binlog_reader.specs.declared.Told.{Told}

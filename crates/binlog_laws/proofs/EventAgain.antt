@@ -25,8 +25,9 @@ use Rattle.gtid_sets.proofs.FormLaws.{lawful-holds}
 use Rattle.gtid_sets.proofs.TakeInLaws.{union-within}
 use Rattle.gtid_sets.proofs.LentLaws.{lent-is}
 use Rattle.gtid_sets.proofs.RunLaws.{answer-cases}
-use Rattle.resume_set.specs.Answers.{savedIf, eventOf}
-use Rattle.resume_set.specs.JoinIn.{joinedRead}
+use Rattle.set_join.specs.Answers.{savedIf}
+use Rattle.resume_set.specs.Answers.{eventOf}
+use Rattle.set_join.specs.JoinIn.{joinedRead}
 use Rattle.resume_set_laws.specs.History.{among}
 use Rattle.binlog.specs.Run.{did}
 use Rattle.binlog_reader.specs.Does.{Judged, fitted, offers, joins, acts, does}

@@ -22,8 +22,9 @@ use Rattle.gtid_sets.proofs.TakeInLaws.{has-union}
 use Rattle.gtid_sets.proofs.LentLaws.{lent-is, lent-back, lent-union}
 use Rattle.gtid_sets.proofs.RunLaws.{has-after, form-after, limits-after}
 use Rattle.gtid_sets.proofs.SavedLaws.{good-after}
-use Rattle.resume_set.specs.Answers.{savedIf, eventOf}
-use Rattle.resume_set.specs.JoinIn.{joinedRead}
+use Rattle.set_join.specs.Answers.{savedIf}
+use Rattle.resume_set.specs.Answers.{eventOf}
+use Rattle.set_join.specs.JoinIn.{joinedRead}
 use Rattle.resume_set_laws.specs.History.{Ids, among}
 use Rattle.resume_set_laws.proofs.OneOffer.{good-said, among-id}
 use Rattle.binlog.specs.Run.{did}

@@ -18,8 +18,10 @@ use Rattle.gtid_sets.specs.Run as run
 use Rattle.gtid_sets.specs.Run.{Event, Answer, noId, already, taken, answer, after}
 use Rattle.gtid_sets.specs.Lent.{Lent, form, unfit, lentSet}
 use Rattle.resume_set.specs.Answers as answers
-use Rattle.resume_set.specs.Answers.{eventOf, outputAs}
-use Rattle.resume_set.specs.JoinIn.{joinedIn}
+use Rattle.set_join.specs.Answers as joins
+use Rattle.set_join.specs.Answers.{outputAs}
+use Rattle.resume_set.specs.Answers.{eventOf}
+use Rattle.set_join.specs.JoinIn.{joinedIn}
 use Rattle.resume_set.specs.declared.Offered.{Offered}
 use Rattle.resume_set.specs.declared.Offered.the-variants as offered
 use Rattle.binlog.specs.Run.{fails}
@@ -72,7 +74,7 @@ module _ (out out′ : List ℕ) where
     as-offered (run.refused r) bs e = failed r NoId 0 e
 
     pub acted-offer : (l : Lent) (e : Event) (o : Offered) (r : Acted) → r ≡ actedAs o → o ≡ answers.offered l e (length out)
-        → out′ ≡ outputOf out (answers.output l e) → ActedIs (offers (length out) l e) out out′ r
+        → out′ ≡ outputOf out (joins.output l e) → ActedIs (offers (length out) l e) out out′ r
     unfolding outputOf
     acted-offer unfit e o r a is w = rw (a, is) (failed notASet NoId 0 w)
     acted-offer (form s) e o r a is w = rw (a, is) (as-offered (answer s e) (bodyBytes (after s e)) w)

@@ -4,11 +4,11 @@ use mathlib.Core.Path.{_≡_, sym, ap, _∙_}
 use mathlib.Core.List.{List, _++_, append-assoc}
 use native.Mathlib.Omega.{arith}
 use lib.ListN.{length, take, drop, length-append, take-append-drop}
-use lib.Seq.{take-all, take-append-le, drop-append-le, length-take-le}
+use lib.Seq.{take-append-le, drop-append-le, length-take-le}
 use borrow.Author.Tests.{le-leb, eq-eqb, ne-eqb}
 use Rattle.misc.specs.Refusal.{numbered}
 use Rattle.misc.specs.Output.{bytes, outputOf}
-use Rattle.misc.proofs.ParseLaws.{split}
+use Rattle.misc.proofs.ParseLaws.{split, take-min}
 use Rattle.binlog.proofs.PhaseLaws.{renumber}
 use Rattle.binlog.specs.Run.{did, fails}
 use Rattle.binlog.specs.declared.Phase.the-variants as phase
@@ -18,11 +18,6 @@ use Rattle.binlog_reader.specs.declared.Said.the-variants.{Event}
 use Rattle.binlog_reader.specs.declared.Reader.{Reader}
 use Rattle.binlog_reader.specs.declared.Answer.{Answer}
 use Rattle.binlog_reader.specs.declared.Acted.{Acted}
-
-take-min : (n : ℕ) (l : List ℕ) → take (min n (length l)) l ≡ take n l
-take-min n l = split n (length l)
-    (λ h. let m : min n (length l) ≡ n = omega arith in rw m)
-    (λ h. let m : min n (length l) ≡ length l = omega arith in rw (m, take-all (length l) l (omega arith), take-all n l (omega arith)))
 
 -- bytes at the front of a part that is the front of the whole
 front-of : (n : ℕ) (bs l : List ℕ) → n ≤ length l → length bs ≤ n → (bs ++ drop (length bs) (take n l)) ++ drop n l ≡ bs ++ drop (length bs) l

@@ -13,7 +13,7 @@ use Rattle.previous_gtids_event.specs.Rewrite.{bodyBytes}
 use Rattle.gtid_sets.specs.Run.{Event, Answer, noId, already, taken, refused, answer, after}
 use Rattle.gtid_sets.specs.Lent.{Lent, form, unfit, lentSet}
 use Rattle.resume_set.specs.Answers.{eventOf}
-use Rattle.resume_set.specs.JoinIn.{joinedIn}
+use Rattle.set_join.specs.JoinIn.{joinedIn}
 use Rattle.resume_set.specs.declared.Offered.{Offered}
 use Rattle.resume_set.specs.declared.Offered.the-variants as offered
 use Rattle.binlog.specs.Run.{Done, did, fails}

@@ -2,6 +2,7 @@
 // back; a tag that breaks its rule is refusal 6 and hands back none.
 ghost use mathlib.Core.Path.{_≡_};
 ghost use Rattle.gtid_event.specs.Event.{fresh, noEvent, newUntagged, newTagged, withTag, setNumber, setSid, setTypecode, tagged, typeOf};
+use misc::UUID_LEN;
 use misc::refusal::BAD_TAG;
 use packets::MAX_TAG;
 use packets::is_tag;
@@ -23,7 +24,7 @@ pub const GTID_TAGGED_LOG_EVENT: u8 = 42;
 pub const TAGGED_SERIALIZATION_VERSION_V2: u8 = 2;
 
 // How many bytes parts of an untagged event take.
-pub const ENCODED_SID_LENGTH: usize = 16;
+pub const ENCODED_SID_LENGTH: usize = UUID_LEN;
 
 pub const IMMEDIATE_COMMIT_TIMESTAMP_LENGTH: usize = 7;
 
@@ -37,7 +38,7 @@ pub const MOST_OF_VERSION: u64 = 0xffff_ffff;
 // A GTID event. The tag stands in the first tag_len bytes of its field; 0 is no tag. Typecode 0 is none.
 pub struct GtidEvent {
     pub flags: u8,
-    pub sid: [u8; 16],
+    pub sid: [u8; UUID_LEN],
     pub gno: u64,
     pub tag: [u8; MAX_TAG],
     pub tag_len: u8,
@@ -60,7 +61,7 @@ pub struct EventStep {
 
 impl GtidEvent {
     // All zero but for what is given.
-    fn fresh(sid: [u8; 16], gno: u64, lc_typecode: u8, version: u32) -> Self
+    fn fresh(sid: [u8; UUID_LEN], gno: u64, lc_typecode: u8, version: u32) -> Self
         ensures { λ r. ⌜ r ≡ fresh sid gno «lc_typecode» version ⌝ }
     {
         Self {
@@ -85,11 +86,11 @@ impl GtidEvent {
     pub fn none() -> Self
         ensures { λ r. ⌜ r ≡ noEvent ⌝ }
     {
-        Self::fresh([0u8; 16], 0, 0, 0)
+        Self::fresh([0u8; UUID_LEN], 0, 0, 0)
     }
 
     // A new untagged event.
-    pub fn new(sid: [u8; 16], gno: u64) -> Self
+    pub fn new(sid: [u8; UUID_LEN], gno: u64) -> Self
         ensures { λ r. ⌜ r ≡ newUntagged sid gno ⌝ }
     {
         Self::fresh(
@@ -101,7 +102,7 @@ impl GtidEvent {
     }
 
     // A new tagged event.
-    pub fn new_tagged(sid: [u8; 16], tag: &[u8], gno: u64) -> EventStep
+    pub fn new_tagged(sid: [u8; UUID_LEN], tag: &[u8], gno: u64) -> EventStep
         ensures { λ r. ⌜ r ≡ newTagged sid (now (tag .entry)) gno ⌝ }
     {
         let event = Self::fresh(sid, gno, 0, UNDEFINED_SERVER_VERSION);
@@ -157,7 +158,7 @@ impl GtidEvent {
         self
     }
 
-    pub fn with_sid(mut self, sid: [u8; 16]) -> Self
+    pub fn with_sid(mut self, sid: [u8; UUID_LEN]) -> Self
         ensures { λ r. ⌜ r ≡ setSid sid self ⌝ }
     {
         self.sid = sid;

@@ -8,3 +8,4 @@ pub mod TaggedLaws
 pub mod ReadLaws
 pub mod PresentLaws
 pub mod Ranges
+pub mod NamedLaws

@@ -15,6 +15,7 @@ use gtid_event::MOST_OF_VERSION;
 use gtid_event::UNDEFINED_SERVER_VERSION;
 use gtid_event::field_id;
 use misc::ReadUint;
+use misc::UUID_LEN;
 use misc::bytes::left_at;
 use misc::refusal::BAD_TAG;
 use misc::refusal::ENDED;
@@ -35,7 +36,7 @@ pub(crate) struct FieldsRead {
 
 pub(crate) struct UuidRead {
     pub refusal: u8,
-    pub uuid: [u8; 16],
+    pub uuid: [u8; UUID_LEN],
     pub next: usize,
 }
 
@@ -66,7 +67,7 @@ fn read_limited(s: &[u8], at: usize, limit: u64) -> ReadUint
 fn read_serialized_uuid(s: &[u8], at: usize) -> UuidRead
     ensures { λ r. ⌜ Told (uuidAt (now (s .entry)) at) (r .refusal) (r .uuid) (r .next) ⌝ }
 {
-    let mut uuid = [0u8; 16];
+    let mut uuid = [0u8; UUID_LEN];
     let mut next = at;
     let mut i = 0;
     while i < ENCODED_SID_LENGTH {
@@ -125,7 +126,7 @@ impl Fields {
         numbers[field_id::IMMEDIATE_SERVER_VERSION] = UNDEFINED_SERVER_VERSION as u64;
         Self {
             numbers,
-            sid: [0u8; 16],
+            sid: [0u8; UUID_LEN],
             tag: [0u8; MAX_TAG],
             tag_len: 0,
             present: [false; field_id::FIELDS],

@@ -9,6 +9,7 @@ use gtid_event::GTID_TAGGED_LOG_EVENT;
 use gtid_event::GtidEvent;
 use gtid_event::field_id;
 use misc::MAX_BODY;
+use misc::UUID_LEN;
 use misc::refusal::ABSENT_ID;
 use misc::refusal::TOO_LONG;
 use misc::refusal::WRONG_TYPE;
@@ -31,7 +32,7 @@ pub struct GtidRead {
 // of the twelve fields were there.
 pub struct Fields {
     pub numbers: [u64; field_id::FIELDS],
-    pub sid: [u8; 16],
+    pub sid: [u8; UUID_LEN],
     pub tag: [u8; MAX_TAG],
     pub tag_len: u8,
     pub present: [bool; field_id::FIELDS],

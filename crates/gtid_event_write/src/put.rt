@@ -5,6 +5,7 @@ ghost use Rattle.misc.specs.Output.{WhereFits};
 ghost use Rattle.misc.specs.Varlen.{varlenBytes};
 ghost use Rattle.gtid_event_write.specs.Layout.{numberBytes, unlessBytes, itemsBytes};
 use gtid_event::ENCODED_SID_LENGTH;
+use misc::UUID_LEN;
 use misc::put::put_byte;
 use misc::put::put_varlen_uint;
 
@@ -56,7 +57,7 @@ pub(crate) fn put_unless(id: usize, value: u64, assumed: u64, out: &mut [u8], at
 }
 
 // Each byte as an integer.
-pub(crate) fn put_serialized_uuid(sid: [u8; 16], out: &mut [u8], at: usize) -> usize
+pub(crate) fn put_serialized_uuid(sid: [u8; UUID_LEN], out: &mut [u8], at: usize) -> usize
     ensures { λ r. ⌜ WhereFits (now (out .entry)) at (itemsBytes sid) (now (out .exit)) r ⌝ }
 {
     let mut next = at;

@@ -23,13 +23,16 @@ pub(crate) const VERSION_FLAG: u32 = 1 << 31;
 // The first number that is too great for a timestamp's seven bytes.
 const TIMESTAMP_TOP: u64 = 1 << 56;
 
+// The place of the last eight bytes of a tag's field.
+const LAST_WORD: usize = MAX_TAG - 8;
+
 // The place behind all whole words of eight bytes, from a place on, that are zero.
 fn past_zero_words(tag: &[u8], from: usize) -> usize
     requires { ⌜ length (now tag) ≡ 32 ⌝ }
     ensures { λ r. ⌜ allZero (drop from (now (tag .entry))) ≡ allZero (drop r (now (tag .entry))) ⌝ }
 {
     let mut at = from;
-    while at <= 24 {
+    while at <= LAST_WORD {
         if read_u64_le(tag, at).value != 0 {
             return at;
         }

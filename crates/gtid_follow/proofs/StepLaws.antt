@@ -18,7 +18,7 @@ use Rattle.gtid_sets.specs.Run as run
 use Rattle.gtid_sets.specs.Run.{Event, Answer, noId, already, taken, answer, after}
 use Rattle.gtid_sets.specs.Lent.{Lent, form, unfit, lentSet}
 use Rattle.resume_set.specs.Answers.{eventOf}
-use Rattle.resume_set.specs.JoinIn.{joinedIn}
+use Rattle.set_join.specs.JoinIn.{joinedIn}
 use Rattle.binlog.specs.Format.{trailer}
 use Rattle.binlog.specs.Place.{Place, opening, heading, inside, passing, whole, ended, stopped}
 use Rattle.binlog.specs.Run.{Done, did, fails, at, answered}

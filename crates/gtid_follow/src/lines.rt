@@ -9,6 +9,7 @@ ghost use mathlib.Core.List.{_++_};
 ghost use Prim.Native.Nat.{_+_, _≤_};
 ghost use lib.ListN.{length};
 ghost use Rattle.misc.specs.Output.{WhereFits};
+ghost use Rattle.binlog_reader.specs.declared.Told.the-variants.{Taken};
 ghost use Rattle.gtid_follow.specs.Program.{lineRoom, idLine, answerLine, Names, Added, StaysUnheard};
 
 // No line is longer.
@@ -63,7 +64,7 @@ fn with_room(lines: Lines, text: &[u8]) -> Lines
 
 // Puts a word and the id of an event, as the listing has it.
 fn put_id(word: &[u8], event_type: u8, body: &[u8], text: &mut [u8], at: usize) -> usize
-    requires { ⌜ («event_type» ≡ 35 → ⊥) ⌝ }
+    requires { ⌜ Names Taken «event_type» ⌝ }
     ensures { λ r. ⌜ WhereFits (now (text .entry)) at (now (word .entry) ++ idLine «event_type» (now (body .entry))) (now (text .exit)) r ⌝ }
 {
     let mut line = [0u8; LINE_ROOM];

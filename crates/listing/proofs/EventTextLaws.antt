@@ -17,8 +17,9 @@ use Rattle.gtid_event.specs.declared.GtidEvent.{GtidEvent}
 use Rattle.gtid_event_read.specs.Read.{named, gtidRead}
 use Rattle.gtid_event_read.specs.declared.GtidRead.{GtidRead}
 use Rattle.gtid_sets.specs.Run.{names}
-use Rattle.resume_set.specs.Answers.{takenIn, says, eventOf}
-use Rattle.resume_set.proofs.AnswerLaws.{named-stopped, named-told, named-parts}
+use Rattle.set_join.specs.Answers.{takenIn}
+use Rattle.resume_set.specs.Answers.{says, eventOf}
+use Rattle.gtid_event_read.proofs.NamedLaws.{named-stopped, named-told, named-parts}
 use Rattle.text.specs.Digits.{decimal}
 use Rattle.text.specs.Keys.{colon, keyText}
 use Rattle.text.specs.Lines.{newline, refusedText}

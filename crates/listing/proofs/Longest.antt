@@ -25,8 +25,9 @@ use Rattle.gtid_sets.specs.Run.{names}
 use Rattle.gtid_sets.specs.Lent.{GoodKeys}
 use Rattle.gtid_sets.proofs.LimitLaws.{maxEntries-is, maxIntervals-is, limits-says}
 use Rattle.gtid_sets.proofs.LentLaws.{lent-is}
-use Rattle.resume_set.specs.Answers.{takenIn, says, eventOf}
-use Rattle.resume_set.proofs.AnswerLaws.{KeyParts, key-parts}
+use Rattle.set_join.specs.Answers.{takenIn}
+use Rattle.resume_set.specs.Answers.{says, eventOf}
+use Rattle.gtid_event_read.proofs.NamedLaws.{KeyParts, key-parts}
 use Rattle.text.specs.Intervals.{lastText}
 use Rattle.text.proofs.DigitLaws.{decimal-most, decimal-short}
 use Rattle.text.proofs.KeyTextLaws.{key-most}

@@ -22,7 +22,7 @@ use Rattle.gtid_sets.specs.Lent.{form, lentSet}
 use Rattle.gtid_sets.proofs.FormLaws.{lawful-holds}
 use Rattle.gtid_sets.proofs.LimitLaws.{limits-cases}
 use Rattle.gtid_sets.proofs.LentLaws.{lent-takeIn, lent-short}
-use Rattle.resume_set.specs.Answers.{takenIn}
+use Rattle.set_join.specs.Answers.{takenIn}
 use Rattle.text.specs.Lines.{refusedText}
 use Rattle.listing.specs.SetText.{setText, listedSet}
 use Rattle.listing.specs.EventText.{previousWord, lentText, takenText}

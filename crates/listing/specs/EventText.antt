@@ -13,7 +13,8 @@ use Rattle.gtid_event.specs.declared.GtidEvent.{GtidEvent}
 use Rattle.gtid_sets.specs.Limits.{maxEntries, maxIntervals}
 use Rattle.gtid_sets.specs.Run.{Event, anonymous, broken, names}
 use Rattle.gtid_sets.specs.Lent.{Lent, form, unfit, lentSet}
-use Rattle.resume_set.specs.Answers.{takenIn, eventOf}
+use Rattle.set_join.specs.Answers.{takenIn}
+use Rattle.resume_set.specs.Answers.{eventOf}
 use Rattle.text.specs.Digits.{decimal}
 use Rattle.text.specs.Keys.{colon, keyText}
 use Rattle.text.specs.Lines.{newline, refusedText}

@@ -1,4 +1,5 @@
 // The intervals of an entry as text.
+use misc::INTERVAL_LEN;
 use misc::le::number_at;
 use text::intervals::interval_len;
 use text::intervals::put_interval;
@@ -21,7 +22,7 @@ pub(crate) fn intervals_len(set: &[u8], first: usize, count: usize) -> usize
     let mut left = count;
     while 0 < left {
         len += interval_len(number_at(set, at), number_at(set, at + 8));
-        at += 16;
+        at += INTERVAL_LEN;
         left -= 1;
     }
     len
@@ -43,7 +44,7 @@ pub(crate) fn put_intervals(
     let mut left = count;
     while 0 < left {
         end = put_interval(number_at(set, from), number_at(set, from + 8), out, end);
-        from += 16;
+        from += INTERVAL_LEN;
         left -= 1;
     }
     end

@@ -1,6 +1,7 @@
 // The text of a set: a line of its counts, and then its entries, one a line.
 use crate::intervals::intervals_len;
 use crate::intervals::put_intervals;
+use misc::UUID_LEN;
 use misc::Wrote;
 use misc::put::put_bytes;
 use misc::refusal::NO_ROOM;
@@ -42,7 +43,7 @@ fn put_entry(set: &[u8], uuid_at: usize, entry: EntryPlace, out: &mut [u8], at: 
 {
     let tag_at = entry.tag_at;
     let tag_end = tag_at + entry.tag_len;
-    let uuid = uuid_bytes(&set[uuid_at..uuid_at + 16]);
+    let uuid = uuid_bytes(&set[uuid_at..uuid_at + UUID_LEN]);
     let at1 = put_key(uuid, &set[tag_at..tag_end], out, at);
     let at2 = put_intervals(set, entry.first, entry.count, out, at1);
     put_bytes(b"\n", out, at2)

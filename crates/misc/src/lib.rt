@@ -17,6 +17,11 @@ pub mod varlen;
 // The longest body that the calls over bodies take.
 pub const MAX_BODY: usize = 65_536;
 
+// The bytes of a uuid, and those of an interval: its start and its end.
+pub const UUID_LEN: usize = 16;
+
+pub const INTERVAL_LEN: usize = 16;
+
 // What reading a number finds: its value and the place after it, both 0 on a refusal.
 pub struct ReadUint {
     pub refusal: u8,

@@ -9,6 +9,7 @@ ghost use Rattle.packets.specs.Word.{bigEndian};
 ghost use Rattle.misc.specs.Parse.{part};
 ghost use lib.ListN.{length, take, drop};
 ghost use Rattle.packets.specs.Kept.{kept};
+use misc::UUID_LEN;
 use misc::bytes::write_bytes;
 
 // A tag has so many bytes at most.
@@ -177,11 +178,11 @@ fn front(s: &[u8], most: usize) -> &[u8]
 }
 
 // A uuid as records keep it: the first 16 bytes, zeros where there are fewer.
-pub fn uuid_bytes(uuid: &[u8]) -> [u8; 16]
+pub fn uuid_bytes(uuid: &[u8]) -> [u8; UUID_LEN]
     ensures { λ r. ⌜ r ≡ kept 16 (now (uuid .entry)) ⌝ }
 {
-    let mut field = [0u8; 16];
-    write_bytes(front(uuid, 16), &mut field);
+    let mut field = [0u8; UUID_LEN];
+    write_bytes(front(uuid, UUID_LEN), &mut field);
     field
 }
 

@@ -1,5 +1,6 @@
 // The body of a Previous-GTIDs event (type 35): read from left to right, handed out entry by entry, written anew.
 // Every answer begins with the number of its refusal, 0 for none, and is zero in every other part then (13 tells the length needed).
+use misc::UUID_LEN;
 use packets::MAX_TAG;
 
 pub mod read;
@@ -7,6 +8,11 @@ pub mod rewrite;
 
 // Its type.
 pub const PREVIOUS_GTIDS_EVENT: u8 = 35;
+
+// Before its intervals an entry has the uuid and their number; in a body with tags also the tag behind its length, which takes one byte.
+pub const ENTRY_HEAD: usize = UUID_LEN + 8;
+
+pub const TAGGED_HEAD: usize = ENTRY_HEAD + 1;
 
 // A header with 1 in its top byte: what lies below it counts the entries of an untagged body.
 pub(crate) const TOP_ONE: u64 = 0x100_0000_0000_0000;
@@ -32,7 +38,7 @@ pub struct HeaderRead {
 // and behind the last.
 pub struct EntryRead {
     pub refusal: u8,
-    pub uuid: [u8; 16],
+    pub uuid: [u8; UUID_LEN],
     pub tag: [u8; MAX_TAG],
     pub tag_len: usize,
     pub intervals: u64,

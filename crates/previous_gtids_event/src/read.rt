@@ -8,7 +8,9 @@ use crate::PreviousRead;
 use crate::TOP_ONE;
 use crate::TagRead;
 use crate::WholeRead;
+use misc::INTERVAL_LEN;
 use misc::MAX_BODY;
+use misc::UUID_LEN;
 use misc::bytes::left_at;
 use misc::le::read_u64_le;
 use misc::refusal::BAD_TAG;
@@ -94,10 +96,10 @@ fn refused_head(refusal: u8) -> HeadRead
 fn head_at(body: &[u8], at: usize, tagged: bool) -> HeadRead
     ensures { λ r. ⌜ r ≡ headRead (headAt tagged (now (body .entry)) at) ⌝ }
 {
-    if left_at(body, at) < 16 {
+    if left_at(body, at) < UUID_LEN {
         return refused_head(ENDED);
     }
-    let tag = tag_if(tagged, body, at + 16);
+    let tag = tag_if(tagged, body, at + UUID_LEN);
     let refusal = tag.refusal;
     if refusal != 0 {
         return refused_head(refusal);
@@ -138,7 +140,7 @@ pub(crate) fn whole_at(body: &[u8], at: usize, tagged: bool) -> WholeRead
     }
     let intervals = head.intervals;
     let first = head.first;
-    let room = left_at(body, first) / 16;
+    let room = left_at(body, first) / INTERVAL_LEN;
     if (room as u64) < intervals {
         return refused_whole(ENDED);
     }
@@ -147,7 +149,7 @@ pub(crate) fn whole_at(body: &[u8], at: usize, tagged: bool) -> WholeRead
         tag_len: head.tag_len,
         intervals,
         first,
-        next: first + 16 * (intervals as usize),
+        next: first + INTERVAL_LEN * (intervals as usize),
     }
 }
 
@@ -156,7 +158,7 @@ fn refused_entry(refusal: u8) -> EntryRead
 {
     EntryRead {
         refusal,
-        uuid: [0u8; 16],
+        uuid: [0u8; UUID_LEN],
         tag: [0u8; MAX_TAG],
         tag_len: 0,
         intervals: 0,
@@ -209,11 +211,11 @@ pub fn interval_at(body: &[u8], first: usize, index: u64) -> IntervalRead
     if MAX_BODY < body.len() {
         return refused_interval(TOO_LONG);
     }
-    let whole = left_at(body, first) / 16;
+    let whole = left_at(body, first) / INTERVAL_LEN;
     if (whole as u64) <= index {
         return refused_interval(ENDED);
     }
-    let at = first + 16 * (index as usize);
+    let at = first + INTERVAL_LEN * (index as usize);
     let start = read_u64_le(body, at);
     let end = read_u64_le(body, at + 8);
     IntervalRead {

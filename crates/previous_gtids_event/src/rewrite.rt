@@ -1,10 +1,13 @@
 // Writing the entries of a body anew: tagged only if one of them has a tag, and every length in its shortest form.
 use crate::COUNT_TOP;
+use crate::ENTRY_HEAD;
 use crate::Put;
 use crate::Sizes;
 use crate::TOP_ONE;
 use crate::read::header_of;
 use crate::read::whole_at;
+use misc::INTERVAL_LEN;
+use misc::UUID_LEN;
 use misc::Wrote;
 use misc::bytes::left_at;
 use misc::put::put_bytes;
@@ -53,7 +56,7 @@ fn sizes_at(body: &[u8], from: usize, tagged: bool, count: u64) -> Sizes
             return refused_sizes(refusal);
         }
         let tag_len = whole.tag_len;
-        let size = 24 + 16 * (whole.intervals as usize);
+        let size = ENTRY_HEAD + INTERVAL_LEN * (whole.intervals as usize);
         any = any | (0 < tag_len);
         plain += size;
         full += size + varlen_uint_size(tag_len as u64) + tag_len;
@@ -135,7 +138,7 @@ fn put_entry(body: &[u8], from: usize, tagged: bool, tags: bool, out: &mut [u8],
     let next = whole.next;
     let tag_end = first - 8;
     let tag = tag_end - whole.tag_len;
-    let uuid_end = from + 16;
+    let uuid_end = from + UUID_LEN;
     let head = put_parts(
         &body[from..uuid_end],
         &body[tag..tag_end],

@@ -1,5 +1,6 @@
 // Hands out the entries of a Previous-GTIDs body (type 35) one after another. Every answer has the number of its refusal, 0
 // for none. A refused answer is all zero but for its number and leaves the reader where it was, so asking again repeats it.
+use misc::UUID_LEN;
 use packets::MAX_TAG;
 use previous_gtids_event::EntryRead;
 use previous_gtids_event::read::entry_at;
@@ -33,7 +34,7 @@ fn empty_step(refusal: u8, cursor: Cursor) -> Step
         more: false,
         entry: EntryRead {
             refusal,
-            uuid: [0u8; 16],
+            uuid: [0u8; UUID_LEN],
             tag: [0u8; MAX_TAG],
             tag_len: 0,
             intervals: 0,

@@ -60,7 +60,7 @@ pub(crate) fn check_set(set: &[u8]) -> bool {
 }
 
 pub(crate) fn contains(set: &[u8], uuid: &[u8], tag: &[u8], gno: u64) -> bool {
-    let said = resume_set::contains(set, uuid, tag, gno);
+    let said = set_join::contains(set, uuid, tag, gno);
     let mut present: u8 = MARK;
     let refusal = abi::gtid_contains(set, uuid, tag, gno, &mut present);
     (said.refusal != refusal) | (said.present as u8 != present)

@@ -8,7 +8,7 @@ fn by_library(call: u8, a: &[u8], b: &[u8], out: &mut [u8]) -> Wrote {
     match call {
         19 => gtid_event_write::write::write(from_dump(a), out),
         33 => previous_gtids_event::rewrite::rewrite(a, out),
-        48 => resume_set::take_in::take_in(a, out),
+        48 => set_join::take_in::take_in(a, out),
         52 => two_sets::either(a, b, out),
         53 => two_sets::both(a, b, out),
         54 => two_sets::without(a, b, out),

@@ -6,7 +6,7 @@ use probe_lines::line::push_decimal;
 use probe_lines::line::push_text;
 use probe_lines::request::Request;
 use resume_set::Offered;
-use resume_set::take_in::take_in;
+use set_join::take_in::take_in;
 
 // `ok WORD LEN HEX`: the word ends in a space.
 fn accepted(line: &mut [u8], word: &[u8], out: &[u8], len: usize) -> usize {
@@ -48,7 +48,7 @@ fn isset(set: &[u8], line: &mut [u8]) -> usize {
 }
 
 fn contains(set: &[u8], uuid: &[u8], tag: &[u8], gno: u64, line: &mut [u8]) -> usize {
-    let said = resume_set::contains(set, uuid, tag, gno);
+    let said = set_join::contains(set, uuid, tag, gno);
     let refusal = said.refusal;
     let present = said.present;
     if refusal != 0 {

@@ -22,8 +22,8 @@ use Rattle.gtid_sets.specs.Combine as ops
 use Rattle.gtid_sets.proofs.FormLaws.{lawful-holds}
 use Rattle.gtid_sets.proofs.TakeInLaws.{has-union, form-union, is-union}
 use Rattle.gtid_sets.proofs.LentLaws.{lent-is, is-lent}
-use Rattle.resume_set.specs.Answers.{savedIf}
-use Rattle.resume_set.specs.JoinIn.{joinedIn, joinAnswers}
+use Rattle.set_join.specs.Answers.{savedIf}
+use Rattle.set_join.specs.JoinIn.{joinedIn, joinAnswers}
 use Rattle.binlog.specs.Run.{did, fails}
 use Rattle.binlog_reader.specs.Does.{fitted, joins}
 use Rattle.binlog_reader.specs.declared.Told.{Told}

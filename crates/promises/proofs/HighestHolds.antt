@@ -27,7 +27,7 @@ use Rattle.gtid_sets.proofs.FormLaws.{lawful-holds}
 use Rattle.gtid_sets.proofs.SetLaws.{has-gno}
 use Rattle.gtid_sets.proofs.TakeInLaws.{form-lawful}
 use Rattle.gtid_sets.proofs.LentLaws.{lent-is, is-lent, read-back}
-use Rattle.resume_set.specs.Answers.{takeInAnswers}
+use Rattle.set_join.specs.Answers.{takeInAnswers}
 use Rattle.text.specs.Lines.{refusedText}
 use Rattle.listing.specs.EventText.{gtidText, eventText}
 use Rattle.listing.proofs.EventTextLaws.{id-named, event-gtid}

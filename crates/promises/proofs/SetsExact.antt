@@ -31,7 +31,8 @@ use Rattle.gtid_sets.proofs.LentLaws.{lent-is, is-lent, lent-none}
 use Rattle.gtid_sets.proofs.SetLaws.{has-gno}
 use Rattle.gtid_sets.proofs.RunLaws.{answer-cases}
 use Rattle.set_check.specs.Check.{checkedOf}
-use Rattle.resume_set.specs.Answers.{setRead, contained, savedIf, takenIn, says, eventOf, fitting, offeredOf, outputFor, offered, output}
+use Rattle.set_join.specs.Answers.{contained, savedIf, takenIn, outputFor, output}
+use Rattle.resume_set.specs.Answers.{setRead, says, eventOf, fitting, offeredOf, offered}
 use Rattle.resume_set.specs.declared.Offered.{Offered}
 use Rattle.listing.specs.SetText.{setText, listedSet}
 use Rattle.resume_set.specs.declared.Offered.the-variants.{Refused}

@@ -30,7 +30,7 @@ use Rattle.gtid_sets.proofs.LimitLaws.{limits-from}
 use Rattle.gtid_sets.proofs.LentLaws.{lent-is, is-lent, lent-back}
 use Rattle.gtid_sets.proofs.CombineLaws.{combined-good, combined-form, combined-has, is-combined, not-first, in-second, subset-says, subset-from}
 use Rattle.gtid_sets.proofs.CombineLaws.{join-is-either}
-use Rattle.resume_set.specs.Answers.{savedIf, saved}
+use Rattle.set_join.specs.Answers.{savedIf, saved}
 use Rattle.two_sets.specs.Answers.{combinedOutput, combineAnswers, combineLeaves, withinRead, withinAnswers}
 use Rattle.two_sets.specs.declared.AllWithin.{AllWithin}
 use Rattle.abi.specs.Answers.{bit}

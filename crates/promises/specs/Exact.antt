@@ -29,7 +29,8 @@ use Rattle.gtid_event_write.specs.Writable.{writable}
 use Rattle.gtid_event_write.specs.Write.{eventBytes, eventOutput, lengthOf}
 use Rattle.gtid_sets.specs.Lent.{lentSet, SetLaid}
 use Rattle.set_check.specs.Check.{checkedOf}
-use Rattle.resume_set.specs.Answers.{setRead, contained, takeInAnswers, offerAnswers, offerLeaves}
+use Rattle.set_join.specs.Answers.{contained, takeInAnswers}
+use Rattle.resume_set.specs.Answers.{setRead, offerAnswers, offerLeaves}
 use Rattle.resume_set.specs.declared.Offered.{Offered}
 use Rattle.listing.specs.SetText.{setText, listedSet}
 use Rattle.abi.specs.Answers.{numbersOf, entryIn}

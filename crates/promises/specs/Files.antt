@@ -14,7 +14,7 @@ use Rattle.gtid_sets.specs.TakeIn.{lawful}
 use Rattle.gtid_sets.specs.Limits.{fine, breaks, limits, longestSet, EntryOver}
 use Rattle.gtid_sets.specs.Lent.{SetLaid}
 use Rattle.gtid_sets.specs.Combine as ops
-use Rattle.resume_set.specs.JoinIn.{joinAnswers}
+use Rattle.set_join.specs.JoinIn.{joinAnswers}
 use Rattle.resume_set.specs.declared.Offered.{Offered}
 use Rattle.resume_set.specs.declared.Offered.the-variants as offered
 use Rattle.resume_set_laws.specs.History.{Tells}

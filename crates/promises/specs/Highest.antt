@@ -17,7 +17,8 @@ use Rattle.gtid_event_write.specs.Writable.{writable}
 use Rattle.gtid_event_write.specs.Write.{eventOutput}
 use Rattle.gtid_event.specs.Fits.{Fits}
 use Rattle.gtid_sets.specs.Lent.{SetLaid}
-use Rattle.resume_set.specs.Answers.{takeInAnswers, offerAnswers}
+use Rattle.set_join.specs.Answers.{takeInAnswers}
+use Rattle.resume_set.specs.Answers.{offerAnswers}
 use Rattle.resume_set.specs.declared.Offered.the-variants.{Refused}
 use Rattle.text.specs.Lines.{refusedText}
 use Rattle.listing.specs.EventText.{recordText, eventText}

@@ -33,7 +33,8 @@ use Rattle.gtid_sets.specs.TakeIn.{lawful, takeIn}
 use Rattle.gtid_sets.specs.Limits.{EntryOver}
 use Rattle.gtid_sets.specs.Lent.{unfit, lentSet, SetLaid}
 use Rattle.set_check.specs.Check.{checkedOf}
-use Rattle.resume_set.specs.Answers.{setRead, contained, saved, takenIn, eventOf, offered, output}
+use Rattle.set_join.specs.Answers.{contained, saved, takenIn, output}
+use Rattle.resume_set.specs.Answers.{setRead, eventOf, offered}
 use Rattle.resume_set.specs.declared.Offered.the-variants.{Refused}
 use Rattle.two_sets.specs.declared.Choice.the-variants.{Refused}
 use Rattle.abi.specs.Flat.{flat}

@@ -14,7 +14,8 @@ use Rattle.gtid_sets.specs.Set.{has}
 use Rattle.gtid_sets.specs.TakeIn.{lawful, takeIn}
 use Rattle.gtid_sets.specs.Limits.{fine, limits, intervals}
 use Rattle.gtid_sets.specs.Lent.{lentSet, SetLaid}
-use Rattle.resume_set.specs.Answers.{setRead, contained}
+use Rattle.set_join.specs.Answers.{contained}
+use Rattle.resume_set.specs.Answers.{setRead}
 use Rattle.resume_set.specs.declared.Offered.the-variants.{NoId, AlreadyThere, Taken, Refused}
 use Rattle.listing.specs.SetText.{setText}
 use Rattle.listing.specs.EventText.{previousWord, eventText}

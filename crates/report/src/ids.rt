@@ -1,5 +1,6 @@
 // How many ids a set has, in two words. An entry has fewer than 2^63 of them, so that 384 entries have fewer than 192 times 2^64.
 use crate::Wide;
+use misc::INTERVAL_LEN;
 use misc::le::number_at;
 use set_check::Cursor;
 use set_check::walk::beyond;
@@ -45,7 +46,7 @@ fn size_at(set: &[u8], first: usize, count: usize) -> u64
     let mut left = count;
     while 0 < left {
         ids += number_at(set, at + 8) - number_at(set, at);
-        at += 16;
+        at += INTERVAL_LEN;
         left -= 1;
     }
     ids

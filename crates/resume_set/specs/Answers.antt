@@ -1,29 +1,23 @@
--- What the calls over a set answer, and what they write.
+-- What the calls over a set and an event answer, and what they write.
 use Prim.Native.Nat.{ℕ}
-use mathlib.Core.Bool.{Bool, false, _&&_}
 use mathlib.Core.List.{List, _++_}
 use lib.ListN.{length, take}
 use lib.Dec.{leb, eqb}
 use Rattle.misc.specs.Pick.{pick}
-use Rattle.misc.specs.Refusal.{number, noRoom, notASet, badGno}
+use Rattle.misc.specs.Refusal.{number, noRoom, notASet}
 use Rattle.misc.specs.Parse.{Parse, refuse, parsed}
-use Rattle.misc.specs.Output.{Output, refused, bytes, outputOf, answerOf}
+use Rattle.misc.specs.Output.{outputOf}
 use Rattle.misc.specs.declared.Wrote.{Wrote}
-use Rattle.packets.specs.Gno.{isGno}
 use Rattle.previous_gtids_event.specs.Entry.{Entry}
-use Rattle.packets.specs.Tag.{noneOrTag}
-use Rattle.previous_gtids_event.specs.Previous.{previous}
 use Rattle.previous_gtids_event.specs.Rewrite.{bodyBytes}
 use Rattle.gtid_event.specs.declared.GtidEvent.{GtidEvent}
 use Rattle.gtid_event_read.specs.Read.{recordIn, named}
-use Rattle.gtid_sets.specs.Set.{has}
-use Rattle.gtid_sets.specs.TakeIn.{lawful, takeIn}
-use Rattle.gtid_sets.specs.Limits.{Judged, fine, breaks, limits, intervals}
+use Rattle.gtid_sets.specs.Limits.{intervals}
 use Rattle.gtid_sets.specs.Run as run
 use Rattle.gtid_sets.specs.Run.{Event, anonymous, broken, names, Answer, noId, already, taken, answer, after}
 use Rattle.gtid_sets.specs.Lent.{Lent, form, unfit, lentSet}
+use Rattle.set_join.specs.Answers.{output}
 use Rattle.resume_set.specs.declared.SetRead.{SetRead}
-use Rattle.resume_set.specs.declared.Contained.{Contained}
 use Rattle.resume_set.specs.declared.Offered.{Offered}
 use Rattle.resume_set.specs.declared.Offered.the-variants as offered-as
 use Rattle.resume_set.specs.declared.Kind.{Kind}
@@ -34,38 +28,6 @@ use Rattle.resume_set.specs.declared.Kind.the-variants as kind
 abbrev pub setRead : Lent → SetRead
 setRead unfit = record { refusal = number notASet; entries = 0; intervals = 0 }
 setRead (form s) = record { refusal = 0; entries = length s; intervals = intervals s }
-
--- ---- `contains`
-
--- whether these are the parts of an id, and the set has it
-abbrev pub asked : List Entry → List ℕ → List ℕ → ℕ → Bool
-asked s uuid tag gno = eqb (length uuid) 16 && ((noneOrTag tag && isGno gno) && has s (uuid ++ tag) gno)
-
-abbrev pub contained : Lent → List ℕ → List ℕ → ℕ → Contained
-contained unfit uuid tag gno = record { refusal = number notASet; present = false }
-contained (form s) uuid tag gno = record { refusal = 0; present = asked s uuid tag gno }
-
--- ---- `take_in`
-
--- a set as it is saved, if it is within the limits
-abbrev pub savedIf : Judged → List ℕ → Output
-savedIf fine bs = bytes bs
-savedIf (breaks r) bs = refused r
-
-abbrev pub saved : List Entry → Output
-saved s = savedIf (limits s) (bodyBytes s)
-
--- what is taken in from what was read: the gno rule is judged before the limits, and these on the result
-abbrev pub takenIn : Parse (List Entry) → Output
-takenIn (refuse r) = refused r
-takenIn (parsed es next) = pick (lawful es) (saved (takeIn es)) (refused badGno)
-
--- what it answers, lent a body and an output, and what it leaves in the output
-abbrev pub takeInAnswers : List ℕ → List ℕ → Wrote
-takeInAnswers body out = answerOf out (takenIn (previous body))
-
-abbrev pub takeInLeaves : List ℕ → List ℕ → List ℕ
-takeInLeaves body out = outputOf out (takenIn (previous body))
 
 -- ---- `offer`
 
@@ -89,27 +51,14 @@ offeredAs already size room = fitting offered-as.AlreadyThere size room
 offeredAs taken size room = fitting offered-as.Taken size room
 offeredAs (run.refused r) size room = offered-as.Refused (number r) 0
 
-abbrev pub outputAs : Answer → List ℕ → Output
-outputAs noId bs = bytes bs
-outputAs already bs = bytes bs
-outputAs taken bs = bytes bs
-outputAs (run.refused r) bs = refused r
-
--- the answer to an event, and what is written: the set after it, in all three cases that are no refusal
+-- the answer to an event; what is written is `output` of set_join
 abbrev pub offeredOf : List Entry → Event → ℕ → Offered
 offeredOf s e room = offeredAs (answer s e) (length (bodyBytes (after s e))) room
-
-abbrev pub outputFor : List Entry → Event → Output
-outputFor s e = outputAs (answer s e) (bodyBytes (after s e))
 
 -- the same for bytes that may be no set
 abbrev pub offered : Lent → Event → ℕ → Offered
 offered unfit e room = offered-as.Refused (number notASet) 0
 offered (form s) e room = offeredOf s e room
-
-abbrev pub output : Lent → Event → Output
-output unfit e = refused notASet
-output (form s) e = outputFor s e
 
 -- what it answers, lent a set, a type with its body and an output, and what it leaves in the output
 abbrev pub offerAnswers : List ℕ → ℕ → List ℕ → List ℕ → Offered

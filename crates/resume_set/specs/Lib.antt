@@ -1,8 +1,2 @@
--- What `resume_set` promises is said by the definitions of `Answers` and `JoinIn`, on `lentSet`, `answer`, `after` and `union` of gtid_sets. The
--- others are what functions inside promise.
+-- What `resume_set` promises is said by the definitions of `Answers`, on `lentSet`, `answer` and `after` of gtid_sets, and `output` of set_join.
 pub mod Answers
-pub mod JoinIn
-pub mod Find
-pub mod Put
-pub mod Join
-pub mod TakeIn

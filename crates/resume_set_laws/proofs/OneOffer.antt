@@ -33,7 +33,8 @@ use Rattle.gtid_sets.proofs.LentLaws.{lent-is, lent-back}
 use Rattle.gtid_sets.proofs.RunLaws.{has-after, form-after, limits-after}
 use Rattle.gtid_sets.proofs.SavedLaws.{good-after}
 use Rattle.gtid_sets.proofs.TotalLaws.{bit, after-total}
-use Rattle.resume_set.specs.Answers.{says, eventOf, fitting, offeredAs, outputAs}
+use Rattle.set_join.specs.Answers.{outputAs}
+use Rattle.resume_set.specs.Answers.{says, eventOf, fitting, offeredAs}
 use Rattle.resume_set.specs.declared.Offered.{Offered}
 use Rattle.resume_set.specs.declared.Offered.the-variants.{NoId, AlreadyThere, Taken, Refused}
 use Rattle.resume_set_laws.specs.History.{Ids, none, among, Outcome, accepted, keptIn, idsIn, Turn, idOf, offeredIn, comesTo, takes, RefusalsKeep}

@@ -26,7 +26,8 @@ use Rattle.gtid_sets.proofs.LimitLaws.{isFull-is}
 use Rattle.gtid_sets.proofs.LentLaws.{lent-is, longest}
 use Rattle.gtid_sets.proofs.RunLaws.{answer-cases, limits-after}
 use Rattle.gtid_sets.proofs.SavedLaws.{good-after, saved-after, saved-refused}
-use Rattle.resume_set.specs.Answers.{offeredAs, outputAs}
+use Rattle.set_join.specs.Answers.{outputAs}
+use Rattle.resume_set.specs.Answers.{offeredAs}
 use Rattle.resume_set_laws.specs.History as history
 use Rattle.resume_set_laws.specs.History.{among, keptIn, idsIn, kept, forRoom, Turn, offeredIn, comesTo, OfBytes, Roomy, SameEvent, Replays}
 use Rattle.resume_set_laws.specs.Ours.{ours}

@@ -24,7 +24,7 @@ use Rattle.gtid_sets.specs.Limits.{Judged, fine, breaks, limits}
 use Rattle.gtid_sets.specs.Lent.{form, lentSet}
 use Rattle.gtid_sets.proofs.FormLaws.{lawful-holds}
 use Rattle.gtid_sets.proofs.LentLaws.{lent-takeIn}
-use Rattle.resume_set.specs.Answers.{savedIf, takenIn}
+use Rattle.set_join.specs.Answers.{savedIf, takenIn}
 use Rattle.resume_set_laws.specs.History.{TakesIn}
 
 -- the front of an output that has room

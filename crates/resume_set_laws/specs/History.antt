@@ -16,7 +16,8 @@ use Rattle.gtid_sets.specs.Limits.{longestSet}
 use Rattle.gtid_sets.specs.Run.{Event, anonymous, broken, names}
 use Rattle.gtid_sets.specs.Lent.{Lent, form, unfit, lentSet, SetLaid}
 use Rattle.gtid_sets.specs.Total.{total}
-use Rattle.resume_set.specs.Answers.{takeInAnswers, takeInLeaves, eventOf}
+use Rattle.set_join.specs.Answers.{takeInAnswers, takeInLeaves}
+use Rattle.resume_set.specs.Answers.{eventOf}
 use Rattle.resume_set.specs.declared.Offered.{Offered}
 use Rattle.resume_set.specs.declared.Offered.the-variants.{NoId, AlreadyThere, Taken, Refused}
 

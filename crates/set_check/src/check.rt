@@ -11,6 +11,7 @@ use crate::SET_HEADER;
 use crate::heads::right_head;
 use crate::walk::beyond;
 use crate::walk::entry_here;
+use misc::UUID_LEN;
 use misc::le::number_at;
 use misc::refusal::NOT_A_SET;
 use packets::KeyOrder;
@@ -93,7 +94,12 @@ fn entry_above(set: &[u8], from: Cursor, entry: EntryPlace, low: KeyPlace) -> bo
     let tag_end = tag_at + entry.tag_len;
     let low_uuid = &set[low_at..low_end];
     let low_name = &set[low_tag..low_tag_end];
-    let order = parts_order(low_uuid, low_name, &set[at..at + 16], &set[tag_at..tag_end]);
+    let order = parts_order(
+        low_uuid,
+        low_name,
+        &set[at..at + UUID_LEN],
+        &set[tag_at..tag_end],
+    );
     match order {
         KeyOrder::Before => true,
         KeyOrder::Same => false,
@@ -126,7 +132,7 @@ fn check_entries(set: &[u8], from: Cursor) -> Entries
         }
         low = KeyPlace {
             at: rest.at,
-            len: 16,
+            len: UUID_LEN,
             tag_at: entry.tag_at,
             tag_len: entry.tag_len,
         };

@@ -3,6 +3,7 @@ use crate::Cursor;
 use crate::EntryPlace;
 use crate::MAX_OF_ENTRY;
 use crate::walk::wide;
+use misc::UUID_LEN;
 use packets::none_or_tag;
 ghost use mathlib.Core.Path.{_≡_};
 ghost use Rattle.set_check.specs.Places.{placeIn};
@@ -22,7 +23,7 @@ pub(crate) fn right_head(set: &[u8], from: Cursor, entry: EntryPlace) -> bool
         return false;
     }
     let at = from.at;
-    let odd = from.tagged & (wide(set[at + 16]) % 2 == 1);
+    let odd = from.tagged & (wide(set[at + UUID_LEN]) % 2 == 1);
     if odd {
         return false;
     }

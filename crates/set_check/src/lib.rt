@@ -1,7 +1,9 @@
 // The check of a lent set: whether its bytes are a Previous-GTIDs body in set form and within the set limits, and if so, how many
 // entries and intervals it has. It promises `checkedOf (lentSet ..)`. Beside it stands the one walk over a
 // set's entries, with a cursor. `limits` judges the counts of a set that is to be written.
+use misc::INTERVAL_LEN;
 use packets::MAX_TAG;
+use previous_gtids_event::TAGGED_HEAD;
 
 pub mod check;
 mod heads;
@@ -22,8 +24,8 @@ pub const MAX_OF_ENTRY: usize = 1024;
 
 // So the longest has 62,856 bytes (`longestSet`).
 pub const LONGEST_SET: usize = SET_HEADER
-    + MAX_ENTRIES * (16 + 1 + MAX_TAG + 8)
-    + MAX_INTERVALS * 16;
+    + MAX_ENTRIES * (TAGGED_HEAD + MAX_TAG)
+    + MAX_INTERVALS * INTERVAL_LEN;
 
 // What a lent set is: refused with 14, or in set form and within the limits.
 pub struct Checked {

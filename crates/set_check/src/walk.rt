@@ -3,13 +3,20 @@ use crate::Checked;
 use crate::Cursor;
 use crate::EntryPlace;
 use crate::SET_HEADER;
+use misc::INTERVAL_LEN;
+use misc::UUID_LEN;
 use misc::bytes::left_at;
 use misc::le::number_at;
+use previous_gtids_event::ENTRY_HEAD;
+use previous_gtids_event::TAGGED_HEAD;
 ghost use mathlib.Core.Path.{_≡_};
 ghost use Prim.Native.Nat.{_+_, _≤_};
 ghost use lib.ListN.{length};
 ghost use Rattle.set_check.specs.Places.{placeFrom, nowhere, orNowhere, placeIn};
 ghost use Rattle.set_check.specs.Cursor.{begun, beyondOf};
+
+// Behind the uuid stands the byte of a tag's length, and then the tag.
+const TAG_AT: usize = UUID_LEN + 1;
 
 pub(crate) fn wide(b: u8) -> usize
     ensures { λ r. ⌜ r ≡ b ⌝ }
@@ -37,7 +44,7 @@ fn place_from(set: &[u8], tag_at: usize, tag_len: usize) -> EntryPlace
     let counted = tag_at + tag_len;
     let count = number_at(set, counted) as usize;
     let first = counted + 8;
-    if (set.len() - first) / 16 < count {
+    if (set.len() - first) / INTERVAL_LEN < count {
         return nowhere();
     }
     EntryPlace {
@@ -45,7 +52,7 @@ fn place_from(set: &[u8], tag_at: usize, tag_len: usize) -> EntryPlace
         tag_len,
         count,
         first,
-        next: first + 16 * count,
+        next: first + INTERVAL_LEN * count,
     }
 }
 
@@ -65,17 +72,17 @@ fn place_at(set: &[u8], at: usize, tagged: bool) -> EntryPlace
     ensures { λ r. ⌜ r ≡ placeIn tagged (now (set .entry)) at ⌝ }
 {
     let left = left_at(set, at);
-    if left < 24 {
+    if left < ENTRY_HEAD {
         return nowhere();
     }
     if tagged {
-        let tag_len = wide(set[at + 16]) / 2;
-        if left < 25 + tag_len {
+        let tag_len = wide(set[at + UUID_LEN]) / 2;
+        if left < TAGGED_HEAD + tag_len {
             return nowhere();
         }
-        return place_from(set, at + 17, tag_len);
+        return place_from(set, at + TAG_AT, tag_len);
     }
-    place_from(set, at + 16, 0)
+    place_from(set, at + UUID_LEN, 0)
 }
 
 // Where the entry at a cursor stands: its tag, how many intervals it has, where they begin and where they end. All zero where not all of it

@@ -1,5 +1,6 @@
 // The intervals of an entry, in the bytes that they are: sixteen to each, the start and then the end. Whether they are in written form,
 // whether they hold a number, and where a new one goes. The functions take any bytes; fewer than sixteen at the end are no interval.
+use misc::INTERVAL_LEN;
 use misc::le::number_at;
 use packets::is_interval;
 ghost use mathlib.Core.Path.{_≡_};
@@ -31,14 +32,14 @@ pub fn proper_in(intervals: &[u8]) -> bool
     ensures { λ r. ⌜ r ≡ proper (intervalsIn (now (intervals .entry))) ⌝ }
 {
     let mut at: usize = 0;
-    while 16 <= intervals.len() - at {
+    while INTERVAL_LEN <= intervals.len() - at {
         let start = number_at(intervals, at);
         let end = number_at(intervals, at + 8);
         let fine = is_interval(start, end);
         if !fine {
             return false;
         }
-        at += 16;
+        at += INTERVAL_LEN;
     }
     true
 }
@@ -49,7 +50,7 @@ pub fn gapped_in(intervals: &[u8]) -> bool
 {
     let mut low: u64 = 0;
     let mut at: usize = 0;
-    while 16 <= intervals.len() - at {
+    while INTERVAL_LEN <= intervals.len() - at {
         let start = number_at(intervals, at);
         let end = number_at(intervals, at + 8);
         let fine = (low < start) & is_interval(start, end);
@@ -57,7 +58,7 @@ pub fn gapped_in(intervals: &[u8]) -> bool
             return false;
         }
         low = end;
-        at += 16;
+        at += INTERVAL_LEN;
     }
     true
 }
@@ -69,24 +70,24 @@ pub fn earlier_in(intervals: &[u8], a: u64) -> usize
     ensures { λ r. ⌜ r ≡ earlier a (intervalsIn (now (intervals .entry))) ⌝ }
 {
     let mut at: usize = 0;
-    while 16 <= intervals.len() - at {
+    while INTERVAL_LEN <= intervals.len() - at {
         let end = number_at(intervals, at + 8);
         if a <= end {
-            return at / 16;
+            return at / INTERVAL_LEN;
         }
-        at += 16;
+        at += INTERVAL_LEN;
     }
-    at / 16
+    at / INTERVAL_LEN
 }
 
 // Whether the interval behind so many first ones holds a number.
 pub fn held_behind(intervals: &[u8], before: usize, n: u64) -> bool
     ensures { λ r. ⌜ r ≡ firstHolds n (drop before (intervalsIn (now (intervals .entry)))) ⌝ }
 {
-    if intervals.len() / 16 <= before {
+    if intervals.len() / INTERVAL_LEN <= before {
         return false;
     }
-    let at = 16 * before;
+    let at = INTERVAL_LEN * before;
     let start = number_at(intervals, at);
     let end = number_at(intervals, at + 8);
     (start <= n) & (n < end)
@@ -107,7 +108,7 @@ fn start_from(intervals: &[u8], at: usize, a: u64, b: u64) -> u64
     requires { ⌜ at ≤ length (now intervals) ⌝ }
     ensures { λ r. ⌜ r ≡ from a b (intervalsFrom (now (intervals .entry)) at) ⌝ }
 {
-    if intervals.len() - at < 16 {
+    if intervals.len() - at < INTERVAL_LEN {
         return a;
     }
     let start = number_at(intervals, at);
@@ -133,19 +134,19 @@ fn reach_from(intervals: &[u8], first: usize, b: u64) -> Reach
 {
     let mut at = first;
     let mut end = b;
-    while 16 <= intervals.len() - at {
+    while INTERVAL_LEN <= intervals.len() - at {
         let start = number_at(intervals, at);
         if end < start {
             return Reach {
-                taken: (at - first) / 16,
+                taken: (at - first) / INTERVAL_LEN,
                 end,
             };
         }
         end = greater(end, number_at(intervals, at + 8));
-        at += 16;
+        at += INTERVAL_LEN;
     }
     Reach {
-        taken: (at - first) / 16,
+        taken: (at - first) / INTERVAL_LEN,
         end,
     }
 }
@@ -155,7 +156,7 @@ pub fn splice_in(intervals: &[u8], a: u64, b: u64) -> Splice
     ensures { λ r. ⌜ r ≡ spliceOf a b (intervalsIn (now (intervals .entry))) ⌝ }
 {
     let before = earlier_in(intervals, a);
-    let rest = 16 * before;
+    let rest = INTERVAL_LEN * before;
     let start = start_from(intervals, rest, a, b);
     let reach = reach_from(intervals, rest, b);
     Splice {

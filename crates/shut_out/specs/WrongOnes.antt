@@ -24,7 +24,8 @@ use Rattle.gtid_event_write.specs.Write.{eventOutput}
 use Rattle.gtid_sets.specs.Run.{Event, anonymous, broken, names}
 use Rattle.gtid_sets.specs.Lent.{lentSet}
 use Rattle.gtid_sets.specs.Combine.{either, both, without}
-use Rattle.resume_set.specs.Answers.{setRead, takenIn, says, eventOf, offered, output}
+use Rattle.set_join.specs.Answers.{takenIn, output}
+use Rattle.resume_set.specs.Answers.{setRead, says, eventOf, offered}
 use Rattle.two_sets.specs.Answers.{combineAnswers, withinAnswers}
 use Rattle.two_sets.specs.declared.AllWithin.{AllWithin}
 use Rattle.two_sets.specs.declared.Choice.{Choice}

@@ -1,5 +1,6 @@
 // Keys as text: a uuid with its dashes, and the tag after a colon if there is one.
 use crate::digits::put_hex;
+use misc::UUID_LEN;
 use misc::bytes::left_at;
 use misc::put::put_bytes;
 ghost use mathlib.Core.Path.{_≡_};
@@ -9,14 +10,14 @@ ghost use Rattle.misc.specs.Output.{putAt, putEnd, WhereFits};
 ghost use Rattle.text.specs.Keys.{uuidText, tagText, keyText};
 
 // How long the text of a uuid is.
-const UUID_LEN: usize = 36;
+pub const UUID_TEXT: usize = 36;
 
 // Puts a uuid with its dashes.
-pub fn put_uuid(uuid: [u8; 16], out: &mut [u8], at: usize) -> usize
+pub fn put_uuid(uuid: [u8; UUID_LEN], out: &mut [u8], at: usize) -> usize
     ensures { λ r. ⌜ r ≡ putEnd (now (out .entry)) at (uuidText uuid) ⌝ }
     ensures { λ _. ⌜ now (out .exit) ≡ putAt (now (out .entry)) at (uuidText uuid) ⌝ }
 {
-    if left_at(out, at) < UUID_LEN {
+    if left_at(out, at) < UUID_TEXT {
         return at;
     }
     let at1 = put_hex(&uuid[0..4], out, at);
@@ -27,7 +28,7 @@ pub fn put_uuid(uuid: [u8; 16], out: &mut [u8], at: usize) -> usize
     let at6 = put_bytes(b"-", out, at5);
     let at7 = put_hex(&uuid[8..10], out, at6);
     let at8 = put_bytes(b"-", out, at7);
-    put_hex(&uuid[10..16], out, at8)
+    put_hex(&uuid[10..UUID_LEN], out, at8)
 }
 
 // How long the text of a key with this tag is.
@@ -35,9 +36,9 @@ pub fn key_len(tag: &[u8]) -> usize
     ensures { λ r. ⌜ r ≡ 36 + length (tagText (now (tag .entry))) ⌝ }
 {
     if tag.len() == 0 {
-        return UUID_LEN;
+        return UUID_TEXT;
     }
-    UUID_LEN + 1 + tag.len()
+    UUID_TEXT + 1 + tag.len()
 }
 
 fn put_tag(tag: &[u8], out: &mut [u8], at: usize) -> usize
@@ -51,7 +52,7 @@ fn put_tag(tag: &[u8], out: &mut [u8], at: usize) -> usize
 }
 
 // Puts a key.
-pub fn put_key(uuid: [u8; 16], tag: &[u8], out: &mut [u8], at: usize) -> usize
+pub fn put_key(uuid: [u8; UUID_LEN], tag: &[u8], out: &mut [u8], at: usize) -> usize
     ensures { λ r. ⌜ r ≡ putEnd (now (out .entry)) at (keyText uuid (now (tag .entry))) ⌝ }
     ensures { λ _. ⌜ now (out .exit) ≡ putAt (now (out .entry)) at (keyText uuid (now (tag .entry))) ⌝ }
 {

@@ -27,10 +27,10 @@ use Rattle.gtid_sets.proofs.CombineLaws.{combined-good, combined-swap}
 use Rattle.set_check.specs.Check.{checkedOf}
 use Rattle.set_check.specs.declared.Checked.{Checked}
 use Rattle.misc.proofs.VarlenLaws.{one-byte}
-use Rattle.resume_set.specs.Answers.{saved}
+use Rattle.set_join.specs.Answers.{saved}
 use Rattle.set_check.proofs.CursorLaws.{cursor-begins}
 use Rattle.set_check.proofs.SetOfLaws.{check-told, check-unfit}
-use Rattle.resume_set.proofs.AnswerLaws.{saved-refused, joined-short, joined-fits}
+use Rattle.set_join.proofs.AnswerLaws.{saved-refused, joined-short, joined-fits}
 use Rattle.two_sets.specs.Answers.{
   combinedOutput,
   combineAnswers,

@@ -20,8 +20,8 @@ use Rattle.gtid_sets.proofs.FormLaws.{lawful-tests}
 use Rattle.gtid_sets.proofs.TakeInLaws.{form-lawful}
 use Rattle.gtid_sets.proofs.LentLaws.{lent-is}
 use Rattle.gtid_sets.proofs.CombineLaws.{union-either}
-use Rattle.resume_set.specs.JoinIn.{joinedIn, joinAnswers, joinLeaves}
-use Rattle.resume_set.proofs.TakenLaws.{set-read, entries-read}
+use Rattle.set_join.specs.JoinIn.{joinedIn, joinAnswers, joinLeaves}
+use Rattle.set_join.proofs.TakenLaws.{set-read, entries-read}
 use Rattle.two_sets.specs.Answers.{combinedOutput, combineAnswers, combineLeaves}
 
 -- what is refused writes nothing

@@ -11,7 +11,7 @@ use Rattle.misc.specs.declared.Wrote.{Wrote}
 use Rattle.previous_gtids_event.specs.Entry.{Entry}
 use Rattle.gtid_sets.specs.Combine.{combined, subset}
 use Rattle.gtid_sets.specs.Lent.{Lent, form, unfit, lentSet}
-use Rattle.resume_set.specs.Answers.{saved}
+use Rattle.set_join.specs.Answers.{saved}
 use Rattle.two_sets.specs.declared.AllWithin.{AllWithin}
 use Rattle.two_sets.specs.declared.Choice.{Choice}
 use Rattle.two_sets.specs.declared.Choice.the-variants.{First, Second, Refused}

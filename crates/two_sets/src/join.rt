@@ -4,9 +4,9 @@ use crate::either;
 use misc::Wrote;
 use misc::refusal::NOT_A_SET;
 use previous_gtids_event::read::read;
-use resume_set::join_in::join_in;
+use set_join::join_in::join_in;
 ghost use mathlib.Core.Path.{_≡_};
-ghost use Rattle.resume_set.specs.JoinIn.{joinAnswers, joinLeaves};
+ghost use Rattle.set_join.specs.JoinIn.{joinAnswers, joinLeaves};
 
 // Joins all ids of a Previous-GTIDs body to a set, and writes the set with them, in set form. Refused are, in this order, bytes that are no
 // set (14), bodies that can't be read (11, 1, 6), an interval outside the gno rule (15), more than an entry (17) or a set may hold (16),

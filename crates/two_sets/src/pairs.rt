@@ -4,6 +4,7 @@ use crate::KeyPlace;
 use crate::Pair;
 use crate::Side;
 use crate::Sides;
+use misc::UUID_LEN;
 use packets::KeyOrder;
 use packets::key_order;
 use set_check::Cursor;
@@ -120,7 +121,7 @@ fn uuid_order(first: &[u8], second: &[u8], from: Cursors) -> KeyOrder
     }
     let at = from.first.at;
     let other = from.second.at;
-    key_order(&first[at..at + 16], &second[other..other + 16])
+    key_order(&first[at..at + UUID_LEN], &second[other..other + UUID_LEN])
 }
 
 // The order of the tags of two entries.

@@ -8,8 +8,11 @@ use crate::Pair;
 use crate::Work;
 use crate::marks::put_marks;
 use crate::pairs::next_pair;
+use misc::UUID_LEN;
 use misc::Wrote;
 use misc::refusal::NO_ROOM;
+use previous_gtids_event::ENTRY_HEAD;
+use previous_gtids_event::TAGGED_HEAD;
 use previous_gtids_event::rewrite::put_head;
 use previous_gtids_event::rewrite::put_header;
 use set_check::limits::judge;
@@ -20,7 +23,7 @@ ghost use lib.ListN.{length};
 ghost use Rattle.misc.specs.Parse.{part};
 ghost use Rattle.misc.specs.Output.{outputOf, answerOf, WhereFits};
 ghost use Rattle.previous_gtids_event.specs.Rewrite.{headRun, entriesBytes};
-ghost use Rattle.resume_set.specs.Answers.{saved};
+ghost use Rattle.set_join.specs.Answers.{saved};
 ghost use Rattle.two_sets.specs.Marks.{saidBy, leftOf, going, SidesAre};
 ghost use Rattle.two_sets.specs.Pairs.{CursorsAre, placesOfBoth, combining, KeyIs};
 ghost use Rattle.two_sets.specs.Write.{headLength, entryRun, grownBy, Below, MadeIs, madeLength};
@@ -31,9 +34,9 @@ fn head_len(tags: bool, tag_len: usize) -> usize
     ensures { λ r. ⌜ r ≡ headLength tags «tag_len» ⌝ }
 {
     if tags {
-        return 25 + tag_len;
+        return TAGGED_HEAD + tag_len;
     }
-    24
+    ENTRY_HEAD
 }
 
 // The head of an entry, with a key that stands in one of the sets, and so many intervals.
@@ -46,7 +49,7 @@ fn put_key(set: &[u8], key: KeyPlace, tags: bool, count: usize, out: &mut [u8], 
     let tag = key.tag_at;
     let tag_end = tag + key.tag_len;
     put_head(
-        &set[uuid..uuid + 16],
+        &set[uuid..uuid + UUID_LEN],
         &set[tag..tag_end],
         tags,
         count as u64,

@@ -2,7 +2,7 @@
 use mathlib.Core.Path.{sym, _∙_}
 use denote.Ref.{now}
 use borrow.Author.Needs.{needs}
-use Rattle.abi.proofs.FlatReportLaws.{place-there, refused-told, kept-told}
+use Rattle.abi.proofs.FlatReportLaws.{refused-told, kept-told}
 use Rattle.abi.proofs.gtid_report_add.Statement.{statement}
 use Rattle.abi.proofs.gtid_report_add.Tie as tie
 
@@ -21,9 +21,7 @@ line-of-requires : tie.Need-line-of-requires
 line-of-requires c κs = search needs
 
 keep-line-requires : tie.Need-keep-line-requires
-keep-line-requires c κs =
-    let a = c .before .before .before .before .before .before .before .args in
-    place-there (now (a .report)) (sym (c .before .before .if1 .left) ∙ c .before .before .before .room-for .ensures)
+keep-line-requires c κs = sym (c .before .before .if1 .left) ∙ c .before .before .before .room-for .ensures
 
 cast-entries : tie.Need-cast-entries
 cast-entries c = search needs

@@ -1,7 +1,7 @@
 -- `listing::event_text::list_gtid` meets its contract.
 use denote.Ref.{now}
 use borrow.Author.Needs.{needs}
-use Rattle.resume_set.proofs.AnswerLaws.{named-parts}
+use Rattle.gtid_event_read.proofs.NamedLaws.{named-parts}
 use Rattle.listing.proofs.EventTextLaws.{same-text, text-refused, text-anonymous, text-id}
 use Rattle.listing.proofs.event_text.list_gtid.Statement.{statement}
 use Rattle.listing.proofs.event_text.list_gtid.Tie as tie

@@ -3,7 +3,7 @@ use mathlib.Core.Path.{sym}
 use denote.Ref.{now}
 use borrow.Author.Needs.{needs}
 use lib.Seq.{length-take-le}
-use Rattle.resume_set.proofs.TakenLaws.{used-inside}
+use Rattle.set_join.proofs.TakenLaws.{used-inside}
 use Rattle.two_sets.proofs.JoinLaws.{join-either, join-otherwise}
 use Rattle.two_sets.proofs.join.join.Statement.{statement}
 use Rattle.two_sets.proofs.join.join.Tie as tie
