@@ -42,7 +42,7 @@ fn place_from(set: &[u8], tag_at: usize, tag_len: usize) -> EntryPlace
     ensures { λ r. ⌜ r ≡ orNowhere (now (set .entry)) (placeFrom (now (set .entry)) «tag_at» «tag_len») ⌝ }
 {
     let counted = tag_at + tag_len;
-    let count = number_at(set, counted) as usize;
+    let count = number_at(&set[counted..], 0) as usize;
     let first = counted + 8;
     if (set.len() - first) / INTERVAL_LEN < count {
         return nowhere();

@@ -98,7 +98,7 @@ in-part k (suc at) zero l h = absurd (omega arith)
 in-part k (suc at) (suc m) [] h = refl
 in-part k (suc at) (suc m) (x ∷ l) h = in-part k at m l (omega arith)
 
-number-in : (bs : List ℕ) (first m at : ℕ) → first + m ≤ length bs → at + 8 ≤ m → numberAt (part bs first m) at ≡ numberAt bs (first + at)
+pub number-in : (bs : List ℕ) (first m at : ℕ) → first + m ≤ length bs → at + 8 ≤ m → numberAt (part bs first m) at ≡ numberAt bs (first + at)
 number-in bs first m at inside h =
     number-here (part bs first m) at (omega (arith, part-length m bs first inside))
     ∙ ap leOf (in-part 8 at m (drop first bs) h ∙ ap (take 8) (drop-drop at first bs))

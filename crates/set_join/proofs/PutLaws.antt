@@ -1,14 +1,16 @@
 -- Laws of runs that are written one after another.
 use Prim.Native.Nat.{ℕ, zero, suc, _+_, _-_, _<_, _≤_}
-use mathlib.Core.Path.{_≡_, refl, sym, ap, _∙_}
+use mathlib.Core.Path.{_≡_, sym, ap, _∙_}
 use mathlib.Core.Bool.{Bool, true, false}
 use mathlib.Core.List.{List, [], _++_, append-nil}
 use native.Mathlib.Omega.{arith}
-use lib.ListN.{length, drop, length-drop}
+use lib.ListN.{length, take, drop, length-drop}
+use lib.Seq.{take-all}
 use Rattle.misc.specs.Parse.{part}
 use Rattle.misc.specs.Output.{WhereFits}
 use Rattle.misc.proofs.Places.{part-there}
 use Rattle.misc.proofs.OutputLaws.{_also_, nothing-placed}
+use Rattle.previous_gtids_event.specs.Rewrite.{headRun}
 use Rattle.set_check.specs.Places.{placeIn, EntriesIn}
 use Rattle.set_check.specs.Cursor.{beyondOf}
 use Rattle.set_check.specs.declared.Cursor.{Cursor}
@@ -24,6 +26,11 @@ put-part s from n m e p = rw e at p
 -- all from a place on
 pub put-rest : {l l′ : List ℕ} {at r : ℕ} (s : List ℕ) (from : ℕ) → WhereFits l at (part s from (length s - from)) l′ r → WhereFits l at (drop from s) l′ r
 put-rest s from p = rw (part-there s from (length s - from) (drop from s) [] (sym (append-nil (drop from s))) (length-drop from s)) at p
+
+-- a head, with all of its uuid
+pub put-whole : {l l′ : List ℕ} {at r : ℕ} (u : List ℕ) (tags : Bool) (t : List ℕ) (n : ℕ) → length u ≡ 16
+    → WhereFits l at (headRun (take 16 u) tags t n) l′ r → WhereFits l at (headRun u tags t n) l′ r
+put-whole u tags t n e p = rw (take-all 16 u (omega arith)) at p
 
 -- no bytes
 pub put-none : (l : List ℕ) (at : ℕ) → WhereFits l at [] l at

@@ -7,6 +7,7 @@ use crate::find::find;
 use crate::put::put_entries;
 use crate::put::put_spliced;
 use misc::INTERVAL_LEN;
+use misc::UUID_LEN;
 use misc::Wrote;
 use misc::bytes::write_bytes;
 use misc::refusal::NO_ROOM;
@@ -96,7 +97,7 @@ pub(crate) fn plan_join(set: &[u8], is: Held, uuid: &[u8], tag: &[u8], span: Spa
 
 // Writes the set as planned, where there is room.
 pub(crate) fn put_joined(set: &[u8], uuid: &[u8], tag: &[u8], plan: Plan, out: &mut [u8]) -> usize
-    requires { ⌜ Runs (now set) plan ⌝ }
+    requires { ⌜ Runs (now set) plan × (length (now uuid) ≡ 16) ⌝ }
     ensures { λ r. ⌜ WhereFits (now (out .entry)) 0 (planRuns (now (set .entry)) (now (uuid .entry)) (now (tag .entry)) plan) (now (out .exit)) r ⌝ }
 {
     let found = plan.found;
@@ -115,7 +116,15 @@ pub(crate) fn put_joined(set: &[u8], uuid: &[u8], tag: &[u8], plan: Plan, out: &
     };
     let at0 = put_header(plan.entries as u64, plan.tags, out, 0);
     let at1 = put_entries(set, front, plan.widen, out, at0);
-    let at2 = put_head(uuid, tag, plan.tags, plan.held as u64, out, at1);
+    // all of the uuid, as a slice whose length the compiler knows
+    let at2 = put_head(
+        &uuid[..UUID_LEN],
+        tag,
+        plan.tags,
+        plan.held as u64,
+        out,
+        at1,
+    );
     let at3 = put_spliced(&set[first..next], splice, out, at2);
     put_entries(set, back, plan.widen, out, at3)
 }
@@ -142,7 +151,7 @@ pub(crate) fn write_joined(
     plan: Plan,
     out: &mut [u8],
 ) -> Wrote
-    requires { ⌜ PlanIs (now set) (now uuid) (now tag) (span .start) (span .end) plan × (crowds (setOf (now set)) ≡ 0) ⌝ }
+    requires { ⌜ PlanIs (now set) (now uuid) (now tag) (span .start) (span .end) plan × (crowds (setOf (now set)) ≡ 0) × (length (now uuid) ≡ 16) ⌝ }
     ensures { λ r. ⌜ r ≡ answerOf (now (out .entry)) (saved (join (now (uuid .entry) ++ now (tag .entry)) (span .start) (span .end) (setOf (now (set .entry))))) ⌝ }
     ensures { λ _. ⌜ now (out .exit) ≡ outputOf (now (out .entry)) (saved (join (now (uuid .entry) ++ now (tag .entry)) (span .start) (span .end) (setOf (now (set .entry))))) ⌝ }
 {

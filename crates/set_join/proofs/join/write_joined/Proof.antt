@@ -38,7 +38,7 @@ returns-2 c =
     joined-short s _ (judged (c .before .before)) (now (a .out)) (c .before .if1 .left) (a .plan .len) (p .len-is) (c .if2 .taken)
 
 put-joined-requires : tie.Need-put-joined-requires
-put-joined-requires c κs = c .before .before .before .before .before .before .before .before .before .pre .0 .runs
+put-joined-requires c κs = let p = c .before .before .before .before .before .before .before .before .before .pre in (p .0 .runs, p .2)
 
 same-length : tie.Need-same-length
 same-length c = search needs

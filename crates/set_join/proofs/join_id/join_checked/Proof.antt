@@ -59,7 +59,9 @@ returns-2 c =
     (now (a .set)) (c .before .before .before .before .if2 .taken) (sym (c .before .before .before .before .before .before .before .before .before .before .before .before .before .before .before .pre .0 .set .written)) (c .before .before .write-bytes .ensures .0) (c .before .before .write-bytes .ensures .1)
 
 write-joined-requires : tie.Need-write-joined-requires
-write-joined-requires c κs = (c .before .before .before .before .plan-join .ensures, fits-fair _ _ (c .before .before .before .before .before .before .before .before .before .before .before .before .pre .0))
+write-joined-requires c κs =
+    let p = c .before .before .before .before .before .before .before .before .before .before .before .before .pre in
+    (c .before .before .before .before .plan-join .ensures, fits-fair _ _ (p .0), p .1 .0)
 
 same-length-2 : tie.Need-same-length-2
 same-length-2 c = search needs
