@@ -120,8 +120,8 @@ not-35 type (RecordLaid.tagged _ is _) other = omega arith
 
 -- the uuid of a record that is laid out has 16 bytes
 plain-whole : {s : List ℕ} {e : GtidEvent} {used : ℕ} → UntaggedLaid s e used → length (e .sid) ≡ 16
-plain-whole (inl laid) = rw (laid .is) (laid .uuid-is)
-plain-whole (inr laid) = rw (laid .is) (laid .uuid-is)
+plain-whole (inl laid) = laid .uuid-is
+plain-whole (inr laid) = laid .uuid-is
 
 whole-uuid : {type : ℕ} {s : List ℕ} {x : Seen} {used : ℕ} → RecordLaid type s x used → length (x .event .sid) ≡ 16
 whole-uuid (RecordLaid.untagged few is laid none) = plain-whole laid

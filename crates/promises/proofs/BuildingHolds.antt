@@ -44,10 +44,10 @@ unsent id (the-uuid us ∷ told) absent none = unsent id told absent (or-false-p
 unsent id (the-tag t ∷ told) absent none = unsent id told absent (or-false-parts (eqb 3 id) (sends id told) none .1)
 
 absent-versions : {s : List ℕ} {e : GtidEvent} {used : ℕ} → Unversioned s e used → serverVersions e ≡ 999999 ∷ 999999 ∷ []
-absent-versions (Unversioned.short laid) = rw (laid .is)
+absent-versions (Unversioned.short laid) = ap serverVersions (laid .others)
 absent-versions (Unversioned.long laid none) =
     let (immediate, original) = none-left (laid .versions-are) none in
-    rw (laid .is, immediate, original)
+    rw (immediate, original)
 absent-versions (Unversioned.tagged laid is immediate original) =
     rw (is, laid .is, unsent 9 (laid .told) 999999 immediate, unsent 10 (laid .told) 999999 original)
 
