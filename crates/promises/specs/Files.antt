@@ -19,7 +19,7 @@ use Rattle.resume_set.specs.declared.Offered.{Offered}
 use Rattle.resume_set.specs.declared.Offered.the-variants as offered
 use Rattle.resume_set_laws.specs.History.{Tells}
 use Rattle.binlog.specs.Format.{trailer}
-use Rattle.binlog.specs.Run.{did, fails, walking, Word, chunk, end, spelled}
+use Rattle.binlog.specs.Run.{did, fails, Word, chunk, end, spelled}
 use Rattle.binlog.specs.Layout.{Says, EndSays}
 use Rattle.binlog.specs.Walk.{isWhole}
 use Rattle.binlog.specs.Held.{made, needs, placeOf, Front}
@@ -32,8 +32,8 @@ use Rattle.binlog_reader.specs.declared.Said.{Said}
 use Rattle.binlog_reader.specs.declared.Said.the-variants.{MoreWanted, Ended, Event, Refused}
 use Rattle.binlog_reader.specs.declared.Reader.{Reader}
 use Rattle.binlog_reader.specs.declared.Answer.{Answer}
-use Rattle.binlog_laws.specs.Files.{FileTurn, fileComes, FileReading, readIn, startOf, ourFiles, FilesTell, FilesAgain}
-use Rattle.binlog_laws.specs.Loop.{Lending, StepsTo, isRefusal, Stands, DrivesHears}
+use Rattle.binlog_laws.specs.Files.{FileTurn, fileComes, FileRead, readIn, startOf, ourFiles, FilesTell, FilesAgain}
+use Rattle.binlog_laws.specs.Loop.{Lending, StepsTo, Stands, DrivesHears}
 use Rattle.abi.specs.FlatBinlog.{phaseNumbers, readerIn, flatSays, flatKeeps, flatBuffer}
 use Rattle.promises.specs.BodyFaults.{BodyFault}
 use Rattle.promises.specs.PlainFaults.{ShortFault}
@@ -94,38 +94,27 @@ pub record EventsJudged : Type 0 where
 
 -- ---- what reading a file comes to
 
--- bytes, and word that the file has ended, if it has
-abbrev pub wordsOf : List ℕ → Bool → List Word
-wordsOf bs false = chunk bs ∷ []
-wordsOf bs true = chunk bs ∷ end ∷ []
-
-pub record ReadsFiles (room : ℕ) (f : FileReading) : Type 0 where
+-- by what arrives, from a set, and whether checksums end the events
+pub record ReadsFiles (room : ℕ) (set : List ℕ) (checksums : Bool) (f : List Word → FileRead) : Type 0 where
   -- 14: it was begun with what is no set
-  pub start : (set : List ℕ) (checksums : Bool) (ws : List Word) → SetFault set 14 → f set checksums ws ≡ record { judged = []; said = Refused 14 0; set = set }
-  -- all bytes that came, and whether the end was named: it is the walk over them, however they came
-  pub walks : (set : List ℕ) (s : List Entry) (checksums named : Bool) (bs : List ℕ) (ws : List Word) → SetLaid set s
-      → spelled ws ≡ spelled (wordsOf bs named) → f set checksums ws ≡ readIn (walking (does room) (trailer checksums) set bs named)
-  -- the same by the layout: there is a case for any bytes, and a case forces what is read
-  pub comes : (set : List ℕ) (s : List Entry) (checksums : Bool) (bs : List ℕ) → SetLaid set s
-      → (run : SetRun) × Says (does room) (trailer checksums) set bs run × (f set checksums (chunk bs ∷ []) ≡ readIn run)
-  pub says : (set : List ℕ) (s : List Entry) (checksums : Bool) (bs : List ℕ) (run : SetRun) → SetLaid set s → Says (does room) (trailer checksums) set bs run
-      → f set checksums (chunk bs ∷ []) ≡ readIn run
+  pub start : (ws : List Word) → SetFault set 14 → f ws ≡ record { judged = []; said = Refused 14 0; set = set }
+  -- the bytes in one chunk, by the layout: there is a case for any bytes, and a case forces what is read
+  pub comes : (s : List Entry) (bs : List ℕ) → SetLaid set s
+      → (run : SetRun) × Says (does room) (trailer checksums) set bs run × (f (chunk bs ∷ []) ≡ readIn run)
+  pub says : (s : List Entry) (bs : List ℕ) (run : SetRun) → SetLaid set s → Says (does room) (trailer checksums) set bs run → f (chunk bs ∷ []) ≡ readIn run
   -- and where the end was named behind them
-  pub ends : (set : List ℕ) (s : List Entry) (checksums : Bool) (bs : List ℕ) → SetLaid set s
-      → (run : SetRun) × EndSays (does room) (trailer checksums) set bs run × (f set checksums (chunk bs ∷ end ∷ []) ≡ readIn run)
-  pub end-says : (set : List ℕ) (s : List Entry) (checksums : Bool) (bs : List ℕ) (run : SetRun) → SetLaid set s
-      → EndSays (does room) (trailer checksums) set bs run → f set checksums (chunk bs ∷ end ∷ []) ≡ readIn run
-  -- cutting the same file elsewhere gives equal answers, set and end state; empty chunks change nothing
-  pub cut : (set : List ℕ) (checksums : Bool) (us ws : List Word) → spelled us ≡ spelled ws → f set checksums us ≡ f set checksums ws
-  pub empty : (set : List ℕ) (checksums : Bool) (us ws : List Word) → f set checksums (us ++ chunk [] ∷ ws) ≡ f set checksums (us ++ ws)
+  pub ends : (s : List Entry) (bs : List ℕ) → SetLaid set s
+      → (run : SetRun) × EndSays (does room) (trailer checksums) set bs run × (f (chunk bs ∷ end ∷ []) ≡ readIn run)
+  pub end-says : (s : List Entry) (bs : List ℕ) (run : SetRun) → SetLaid set s → EndSays (does room) (trailer checksums) set bs run
+      → f (chunk bs ∷ end ∷ []) ≡ readIn run
+  -- cutting the same file elsewhere gives equal answers, set and end state; so do empty chunks, which spell nothing
+  pub cut : (us ws : List Word) → spelled us ≡ spelled ws → f us ≡ f ws
   -- naming the end again repeats the answer; bytes behind an end that was answered well are 18, and change nothing else
-  pub end-again : (set : List ℕ) (checksums : Bool) (ws : List Word) → f set checksums (ws ++ end ∷ end ∷ []) ≡ f set checksums (ws ++ end ∷ [])
-  pub behind-end : (set : List ℕ) (checksums : Bool) (ws : List Word) (b : ℕ) (bs : List ℕ) → f set checksums (ws ++ end ∷ []) .said ≡ Ended
-      → f set checksums (ws ++ end ∷ chunk (b ∷ bs) ∷ [])
-      ≡ record { judged = f set checksums (ws ++ end ∷ []) .judged; said = Refused 18 0; set = f set checksums (ws ++ end ∷ []) .set }
+  pub end-again : (ws : List Word) → f (ws ++ end ∷ end ∷ []) ≡ f (ws ++ end ∷ [])
+  pub behind-end : (ws : List Word) (b : ℕ) (bs : List ℕ) → f (ws ++ end ∷ []) .said ≡ Ended
+      → f (ws ++ end ∷ chunk (b ∷ bs) ∷ []) ≡ record { judged = f (ws ++ end ∷ []) .judged; said = Refused 18 0; set = f (ws ++ end ∷ []) .set }
   -- after any refusal all that comes repeats it, and the set stays as the events before made it
-  pub stays : (set : List ℕ) (checksums : Bool) (us ws : List Word) (n len : ℕ) → f set checksums us .said ≡ Refused n len
-      → f set checksums (us ++ ws) ≡ f set checksums us
+  pub stays : (us ws : List Word) (n len : ℕ) → f us .said ≡ Refused n len → f (us ++ ws) ≡ f us
 
 -- ---- refusals of a step
 
@@ -171,7 +160,7 @@ pub record ArchiveReads : Type 0 where
 
 pub record Files : Type 0 where
   pub events : EventsJudged
-  pub reads : (room : ℕ) → ReadsFiles room (ourFiles room)
+  pub reads : (room : ℕ) (set : List ℕ) (checksums : Bool) → ReadsFiles room set checksums (ourFiles room set checksums)
   -- demand 3: members, whatever the room; and replay, where there is room for any set
   pub tells : (room : ℕ) → FilesTell room (ourFiles room)
   pub again : FilesAgain (ourFiles longestSet)
@@ -187,5 +176,5 @@ pub record Files : Type 0 where
   pub refuses : StepsRefuse
   -- a step from where no event waits to be judged, as after any call, uses a byte at least, where there is one, or refuses
   pub onward : (m m′ : Lending) (bs : List ℕ) (r : Answer) → isWhole (placeOf (m .reader .phase) (m .work)) ≡ false → StepsTo m bs r m′
-      → 0 < length bs → (0 < r .used) ⊎ (isRefusal (r .said) ≡ true)
+      → 0 < length bs → (0 < r .used) ⊎ ((n : ℕ) × (len : ℕ) × (r .said ≡ Refused n len))
   pub archive : ArchiveReads
