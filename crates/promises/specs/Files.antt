@@ -83,14 +83,12 @@ pub data ActFault (set : List ℕ) (type : ℕ) (body : List ℕ) (room : ℕ) :
   joining : {n len : ℕ} → type ≡ 35 → JoinFault set body room n len → ActFault set type body room n len
   offering : {n len : ℕ} → (type ≡ 35 → ⊥) → OfferFault set type body room n len → ActFault set type body room n len
 
-pub record EventsJudged : Type 0 where
-  pub refused : (room : ℕ) (set : List ℕ) (type : ℕ) (body : List ℕ) (r : Refusal) (len : ℕ) → Bytes body
-      → Exactly (acts room set type body ≡ fails r len) (ActFault set type body room (number r) len)
-  pub joined : (room : ℕ) (set body after : List ℕ) → Bytes body → Exactly (acts room set 35 body ≡ did told.Joined after) (JoinedAs set body room after)
-  pub offered : (room : ℕ) (set : List ℕ) (type : ℕ) (body : List ℕ) (t : Told) (after : List ℕ) → (type ≡ 35 → ⊥) → Bytes body
-      → Exactly (acts room set type body ≡ did t after) (AcceptedAs set type body room t after)
+pub record EventsJudged (set body : List ℕ) (room : ℕ) : Type 0 where
+  pub refused : (type : ℕ) (r : Refusal) (len : ℕ) → Exactly (acts room set type body ≡ fails r len) (ActFault set type body room (number r) len)
+  pub joined : (after : List ℕ) → Exactly (acts room set 35 body ≡ did told.Joined after) (JoinedAs set body room after)
+  pub offered : (type : ℕ) (t : Told) (after : List ℕ) → (type ≡ 35 → ⊥) → Exactly (acts room set type body ≡ did t after) (AcceptedAs set type body room t after)
   -- refusals of `join_in` and `join`, which write the set
-  pub «join_in» : (set body out : List ℕ) → Bytes body → WritesExactly (joinAnswers set body out) (JoinFault set body (length out))
+  pub «join_in» : (out : List ℕ) → WritesExactly (joinAnswers set body out) (JoinFault set body (length out))
 
 -- ---- what reading a file comes to
 
@@ -133,12 +131,10 @@ pub record RefusesAtOnce (r : Reader) (s : Stepped) (n len : ℕ) : Type 0 where
 
 -- before any byte is looked at, and so wherever the file was cut: 12 for a phase that no call made; 13, with what is needed, for one that needs work bytes
 -- and has too few; and a refusal that came before
-pub record StepsRefuse : Type 0 where
-  pub forged : (r : Reader) (work set chunk : List ℕ) (spare : ℕ) → made (r .phase) ≡ false → RefusesAtOnce r (stepOf r work set spare chunk) 12 0
-  pub short : (r : Reader) (work set chunk : List ℕ) (spare : ℕ) → made (r .phase) ≡ true → needs (r .phase) ≡ 65540 → length work < 65540
-      → RefusesAtOnce r (stepOf r work set spare chunk) 13 65540
-  pub again : (r : Reader) (work set chunk : List ℕ) (spare n len : ℕ) → 0 < n → r .phase ≡ phase.Stopped n len
-      → RefusesAtOnce r (stepOf r work set spare chunk) n len
+pub record StepsRefuse (r : Reader) (work set chunk : List ℕ) (spare : ℕ) : Type 0 where
+  pub forged : made (r .phase) ≡ false → RefusesAtOnce r (stepOf r work set spare chunk) 12 0
+  pub short : made (r .phase) ≡ true → needs (r .phase) ≡ 65540 → length work < 65540 → RefusesAtOnce r (stepOf r work set spare chunk) 13 65540
+  pub again : (n len : ℕ) → 0 < n → r .phase ≡ phase.Stopped n len → RefusesAtOnce r (stepOf r work set spare chunk) n len
 
 -- an event whose body is bytes
 abbrev pub TurnBytes : FileTurn → Type 0
@@ -159,7 +155,7 @@ pub record ArchiveReads : Type 0 where
 -- ---- together
 
 pub record Files : Type 0 where
-  pub events : EventsJudged
+  pub events : (set body : List ℕ) (room : ℕ) → Bytes body → EventsJudged set body room
   pub reads : (room : ℕ) (set : List ℕ) (checksums : Bool) → ReadsFiles room set checksums (ourFiles room set checksums)
   -- demand 3: members, whatever the room; and replay, where there is room for any set
   pub tells : (room : ℕ) → FilesTell room (ourFiles room)
@@ -173,7 +169,7 @@ pub record Files : Type 0 where
   pub begins : (m : Lending) (set : List ℕ) (checksums : Bool) → m .reader ≡ beginAnswers set checksums .reader → Front set (m .set)
       → 65540 ≤ length (m .work) → Stands (min (length (m .set)) (length (m .spare))) m (startOf set)
   pub loop : DrivesHears
-  pub refuses : StepsRefuse
+  pub refuses : (r : Reader) (work set chunk : List ℕ) (spare : ℕ) → StepsRefuse r work set chunk spare
   -- a step from where no event waits to be judged, as after any call, uses a byte at least, where there is one, or refuses
   pub onward : (m m′ : Lending) (bs : List ℕ) (r : Answer) → isWhole (placeOf (m .reader .phase) (m .work)) ≡ false → StepsTo m bs r m′
       → 0 < length bs → (0 < r .used) ⊎ ((n : ℕ) × (len : ℕ) × (r .said ≡ Refused n len))
