@@ -156,7 +156,8 @@ untagged-reads s e used (inr l) =
     sym (l .uses ∙ simp length-append (omega (arith, l .uuid-is, l .gno-is .long, l .last-is .long, l .sequence-is .long))) in
     let times : PairIfLeft 7 0 (e .«immediate_commit_timestamp») (e .«original_commit_timestamp») (l .timestamps) (l .len-bytes ++ (l .versions ++ l .unread)) =
     rw append-assoc at (l .timestamps-are) in
-    long-reads s (e .flags) (e .gno) (e .«last_committed») (e .«sequence_number») (e .«immediate_commit_timestamp») (e .«original_commit_timestamp») (e .«tx_length») (e .«immediate_server_version») (e .«original_server_version»)
+    long-reads s (e .flags) (e .gno) (e .«last_committed») (e .«sequence_number») (e .«immediate_commit_timestamp») (e .«original_commit_timestamp»)
+    (e .«tx_length») (e .«immediate_server_version») (e .«original_server_version»)
     (e .sid) (l .last-bytes) (l .sequence-bytes) (l .timestamps) (l .len-bytes) (l .versions) (l .unread) read rest
     (l .last-is) (l .sequence-is) times (l .len-is) (l .versions-are)
     ∙ ap (λ (x : GtidEvent). parsed x (42 + length (l .timestamps) + length (l .len-bytes) + length (l .versions)))

@@ -1,6 +1,7 @@
 -- Demand 1, "given exactly when": every public function that can refuse, by its name, and once where some promise the same. Its answer is the right
 -- side of the function's own promise, and it refuses with a number exactly where the case of that number holds. From this follows that no two cases with
--- different numbers hold at once, and that a call accepts exactly where no case holds (`one-case` and `accepted` of proofs/OneOutcome.antt).
+-- different numbers hold at once, so that the tables say which of several faults counts, and that a call accepts exactly where no case holds (`one-case`
+-- and `accepted` of proofs/OneOutcome.antt).
 use Prim.Native.Nat.{ℕ, _+_, _*_, _≤_}
 use mathlib.Core.Path.{_≡_}
 use mathlib.Core.Bool.{Bool, true, false}

@@ -86,7 +86,8 @@ pub data ActFault (set : List ℕ) (type : ℕ) (body : List ℕ) (room : ℕ) :
 pub record EventsJudged (set body : List ℕ) (room : ℕ) : Type 0 where
   pub refused : (type : ℕ) (r : Refusal) (len : ℕ) → Exactly (acts room set type body ≡ fails r len) (ActFault set type body room (number r) len)
   pub joined : (after : List ℕ) → Exactly (acts room set 35 body ≡ did told.Joined after) (JoinedAs set body room after)
-  pub offered : (type : ℕ) (t : Told) (after : List ℕ) → (type ≡ 35 → ⊥) → Exactly (acts room set type body ≡ did t after) (AcceptedAs set type body room t after)
+  pub offered : (type : ℕ) (t : Told) (after : List ℕ) → (type ≡ 35 → ⊥)
+      → Exactly (acts room set type body ≡ did t after) (AcceptedAs set type body room t after)
   -- refusals of `join_in` and `join`, which write the set
   pub «join_in» : (out : List ℕ) → WritesExactly (joinAnswers set body out) (JoinFault set body (length out))
 
@@ -96,7 +97,7 @@ pub record EventsJudged (set body : List ℕ) (room : ℕ) : Type 0 where
 pub record ReadsFiles (room : ℕ) (set : List ℕ) (checksums : Bool) (f : List Word → FileRead) : Type 0 where
   -- 14: it was begun with what is no set
   pub start : (ws : List Word) → SetFault set 14 → f ws ≡ record { judged = []; said = Refused 14 0; set = set }
-  -- the bytes in one chunk, by the layout: there is a case for any bytes, and a case forces what is read
+  -- all bytes that came, here as one chunk, by the layout: there is a case for any bytes, and a case forces what is read
   pub comes : (s : List Entry) (bs : List ℕ) → SetLaid set s
       → (run : SetRun) × Says (does room) (trailer checksums) set bs run × (f (chunk bs ∷ []) ≡ readIn run)
   pub says : (s : List Entry) (bs : List ℕ) (run : SetRun) → SetLaid set s → Says (does room) (trailer checksums) set bs run → f (chunk bs ∷ []) ≡ readIn run
@@ -105,7 +106,7 @@ pub record ReadsFiles (room : ℕ) (set : List ℕ) (checksums : Bool) (f : List
       → (run : SetRun) × EndSays (does room) (trailer checksums) set bs run × (f (chunk bs ∷ end ∷ []) ≡ readIn run)
   pub end-says : (s : List Entry) (bs : List ℕ) (run : SetRun) → SetLaid set s → EndSays (does room) (trailer checksums) set bs run
       → f (chunk bs ∷ end ∷ []) ≡ readIn run
-  -- cutting the same file elsewhere gives equal answers, set and end state; so do empty chunks, which spell nothing
+  -- it is the same however they came: cutting the same file elsewhere gives equal answers, set and end state; and an empty chunk spells nothing
   pub cut : (us ws : List Word) → spelled us ≡ spelled ws → f us ≡ f ws
   -- naming the end again repeats the answer; bytes behind an end that was answered well are 18, and change nothing else
   pub end-again : (ws : List Word) → f (ws ++ end ∷ end ∷ []) ≡ f (ws ++ end ∷ [])

@@ -16,7 +16,7 @@ pub mod PlainFaults
 -- What is wrong with a set, a body that is taken in, and an offer; and what is an offer answered otherwise?
 pub mod SetFaults
 -- ---- Demand 1.
--- Does every public function give a number exactly where the table has its case, and thus one where several faults meet, and does `contains` tell the members?
+-- Does every public function give a number exactly where the table has its case, whatever other faults there are, and does `contains` tell the members?
 pub mod Exact
 -- What else is answered and written?
 pub mod Besides

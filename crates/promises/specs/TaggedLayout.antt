@@ -107,8 +107,8 @@ said told =
 abbrev pub seenIn : List Sent → Seen
 seenIn told = record { event = said told; present = sentFields told }
 
--- ---- the record's bytes: version byte 2, the size, which counts them all and is what is used, the last non-ignorable id, the fields, among them a tag; and what is
--- behind them, unread
+-- ---- the record's bytes: version byte 2, the size, which counts them all and is what is used, the last non-ignorable id, the fields, among them a
+-- tag; and what is behind them, unread
 pub record TaggedLaid (s : List ℕ) (x : Seen) (used : ℕ) : Type 0 where
   pub last : ℕ
   pub size-bytes : List ℕ

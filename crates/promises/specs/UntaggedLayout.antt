@@ -33,7 +33,7 @@ pub data NoTypecode : List ℕ → Type 0 where
 
 -- ---- the record
 
--- flags, uuid, gno; and no typecode, whatever else follows: all other fields are 0, and the versions 999,999
+-- flags, uuid, gno; and no typecode, whatever else follows. All other fields are 0, and the versions 999,999 (`setNumber 0` sets the flags)
 pub record ShortLaid (s : List ℕ) (e : GtidEvent) (used : ℕ) : Type 0 where
   pub gno-bytes : List ℕ
   pub unread : List ℕ

@@ -155,7 +155,8 @@ stops-early-out room h =
 
 -- one that forgets a refusal when an empty chunk comes
 pub forgets-refusal-out : (room : ℕ) → Reads room (forgetsRefusal room) → ⊥
-forgets-refusal-out room h = omega (arith, ap number (h none false .cut (chunk (0 ∷ []) ∷ chunk [] ∷ []) (chunk (0 ∷ []) ∷ []) refl), computed .wrong-first room)
+forgets-refusal-out room h =
+    omega (arith, ap number (h none false .cut (chunk (0 ∷ []) ∷ chunk [] ∷ []) (chunk (0 ∷ []) ∷ []) refl), computed .wrong-first room)
 
 -- one that answers an event only when a byte more has come
 pub waits-for-more-out : Reads longestSet (waitsForMore longestSet) → ⊥
