@@ -20,9 +20,9 @@ use Rattle.binlog_reader.specs.declared.Said.the-variants.{Event}
 use Rattle.binlog_reader.specs.declared.Reader.{Reader}
 use Rattle.binlog_reader.specs.declared.Answer.{Answer}
 use Rattle.binlog_laws.specs.Files.{startOf}
-use Rattle.binlog_laws.specs.Loop.{Lending, isRefusal, Drives, done, used, refused, more, ends, Stands, eventsSaid, asSaid, judgedIn, DrivesHears}
+use Rattle.binlog_laws.specs.Loop.{Lending, Drives, done, used, refused, more, ends, Stands, eventsSaid, DrivesHears}
 use Rattle.binlog_laws.proofs.StepRun.{after}
-use Rattle.binlog_laws.proofs.Standing.{StandsAt, StandsFor, stands-in, AfterStep, after-step}
+use Rattle.binlog_laws.proofs.Standing.{StandsAt, StandsFor, stands-in, isRefusal, asSaid, judgedIn, AfterStep, after-step}
 use Rattle.binlog_laws.proofs.EndStands.{quiet-in, end-stands}
 
 -- ---- the whole loop
@@ -83,7 +83,7 @@ module _ (room t : ℕ) where
   drives m m″ (at p kept before) _ _ s (refused {m′} {bs} {r} {ws} {said} to h rest) =
       let a = after-step room t m m′ bs r p kept before s to in
       one-more room t m′ m″ bs r p kept before said ws a ws
-      (comes-to room t m′ m″ bs r p kept before said ws a (when-refused room t m′ m″ bs r p kept before said ws a h))
+      (comes-to room t m′ m″ bs r p kept before said ws a (when-refused room t m′ m″ bs r p kept before said ws a (ap isRefusal h)))
       (drives m′ m″ (after before (a .run)) ws said (a .stands) rest)
   drives m m″ (at p kept before) _ _ s (more {m′} {bs} {r} {ws} {said} to rest) =
       let a = after-step room t m m′ bs r p kept before s to in

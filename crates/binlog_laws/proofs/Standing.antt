@@ -1,8 +1,8 @@
 -- A reader with its lent bytes stands for a place and a set, and so it does after each step.
 use Prim.Native.Nat.{ℕ, _≤_, min}
 use mathlib.Core.Path.{_≡_, refl, sym, ap, _∙_}
-use mathlib.Core.Bool.{true, false}
-use mathlib.Core.List.{List, [], _∷_, _++_}
+use mathlib.Core.Bool.{Bool, true, false}
+use mathlib.Core.List.{List, [], _∷_, _++_, map}
 use native.Mathlib.Omega.{arith}
 use lib.ListN.{length, take, drop, length-append, length-drop}
 use lib.Seq.{take-append-seam}
@@ -17,10 +17,12 @@ use Rattle.binlog.proofs.PlaceLaws.{FitPlace, fit-place, place-back, place-betw
 use Rattle.binlog_reader.specs.Does.{Judged, does}
 use Rattle.binlog_reader.specs.Step.{Stepped, stepped, SetRun, steps, saidAt, saidOf}
 use Rattle.binlog_reader.specs.declared.Said.{Said}
+use Rattle.binlog_reader.specs.declared.Said.the-variants.{MoreWanted, Ended, Event, Refused}
 use Rattle.binlog_reader.specs.declared.Reader.{Reader}
 use Rattle.binlog_reader.specs.declared.Answer.{Answer}
 use Rattle.binlog_laws.specs.Loop as loop
-use Rattle.binlog_laws.specs.Loop.{Lending, StepsTo, isRefusal, Stands, eventsSaid, asSaid, judgedIn}
+use Rattle.binlog_laws.specs.Loop.{Lending, StepsTo, Stands, eventsSaid}
+use Rattle.binlog_laws.specs.Files.{readIn}
 use Rattle.binlog_laws.proofs.StepRun.{after, Went, moved, told, trailer-short, step-run, went}
 
 -- ---- the lent bytes stand for a place and a set
@@ -101,6 +103,18 @@ module _ (room t : ℕ) (m m′ : Lending) (bs : List ℕ) (r : Answer) (p : Pla
   few = rw (← s .trails) (trailer-short (m .reader .checksums))
 
 -- ---- what is said
+
+abbrev pub isRefusal : Said → Bool
+isRefusal MoreWanted = false
+isRefusal Ended = false
+isRefusal (Event t type n) = false
+isRefusal (Refused r n) = true
+
+abbrev pub asSaid : List Judged → List Said
+asSaid js = map (λ (j : Judged). Event (j .told) (j .type) (length (j .body))) js
+
+abbrev pub judgedIn : SetRun → List Judged
+judgedIn run = readIn run .judged
 
 quiet : (q : Place) (said : List Said) → eventsSaid (saidAt q ∷ said) ≡ eventsSaid said
 quiet (opening n) said = refl

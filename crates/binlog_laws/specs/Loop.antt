@@ -1,8 +1,8 @@
 -- The caller's loop: what arrives is given to the reader chunk by chunk, and of a chunk what a step didn't use is given to the next step.
 use Prim.Native.Nat.{ℕ, _≤_, min}
 use mathlib.Core.Path.{_≡_}
-use mathlib.Core.Bool.{Bool, true, false}
-use mathlib.Core.List.{List, [], _∷_}
+use mathlib.Core.Bool.{false}
+use mathlib.Core.List.{List, [], _∷_, map}
 use lib.ListN.{length, take, drop}
 use Rattle.binlog.specs.Format.{trailer}
 use Rattle.binlog.specs.Place.{Place}
@@ -15,6 +15,7 @@ use Rattle.binlog_reader.specs.declared.Said.{Said}
 use Rattle.binlog_reader.specs.declared.Said.the-variants.{MoreWanted, Ended, Event, Refused}
 use Rattle.binlog_reader.specs.declared.Reader.{Reader}
 use Rattle.binlog_reader.specs.declared.Answer.{Answer}
+use Rattle.binlog_laws.specs.Files.{readIn}
 
 -- a reader, and the bytes that are lent to it
 pub record Lending : Type 0 where
@@ -41,12 +42,6 @@ pub record EndsTo (m : Lending) (r : Answer) (m′ : Lending) : Type 0 where
   pub answers : r ≡ endAnswersOf (m .reader)
   pub is : m′ ≡ record { reader = r .reader; work = m .work; set = m .set; spare = m .spare }
 
-abbrev pub isRefusal : Said → Bool
-isRefusal MoreWanted = false
-isRefusal Ended = false
-isRefusal (Event t type n) = false
-isRefusal (Refused r n) = true
-
 -- the loop, with all that the steps say
 pub data Drives : Lending → List Word → List Said → Lending → Type 0 where
   done : {m : Lending} → Drives m [] [] m
@@ -54,8 +49,8 @@ pub data Drives : Lending → List Word → List Said → Lending → Type 0 whe
   used : {m m′ m″ : Lending} {bs : List ℕ} {r : Answer} {ws : List Word} {said : List Said} → StepsTo m bs r m′ → r .used ≡ length bs
       → Drives m′ ws said m″ → Drives m (chunk bs ∷ ws) (r .said ∷ said) m″
   -- it refused: what is left of the chunk isn't given again
-  refused : {m m′ m″ : Lending} {bs : List ℕ} {r : Answer} {ws : List Word} {said : List Said} → StepsTo m bs r m′ → isRefusal (r .said) ≡ true
-      → Drives m′ ws said m″ → Drives m (chunk bs ∷ ws) (r .said ∷ said) m″
+  refused : {m m′ m″ : Lending} {bs : List ℕ} {r : Answer} {ws : List Word} {said : List Said} {n len : ℕ} → StepsTo m bs r m′
+      → r .said ≡ Refused n len → Drives m′ ws said m″ → Drives m (chunk bs ∷ ws) (r .said ∷ said) m″
   -- else the caller goes on with the rest of it
   more : {m m′ m″ : Lending} {bs : List ℕ} {r : Answer} {ws : List Word} {said : List Said} → StepsTo m bs r m′
       → Drives m′ (chunk (drop (r .used) bs) ∷ ws) said m″ → Drives m (chunk bs ∷ ws) (r .said ∷ said) m″
@@ -82,17 +77,10 @@ eventsSaid (Ended ∷ said) = eventsSaid said
 eventsSaid (Event t type n ∷ said) = Event t type n ∷ eventsSaid said
 eventsSaid (Refused r n ∷ said) = eventsSaid said
 
-abbrev pub asSaid : List Judged → List Said
-asSaid [] = []
-asSaid (j ∷ js) = Event (j .told) (j .type) (length (j .body)) ∷ asSaid js
-
-abbrev pub judgedIn : SetRun → List Judged
-judgedIn (at p set js) = js
-
 -- so the loop comes to the run, whatever it says on the way: the lent bytes stand for what was heard, and the events that were said are those that
 -- the run answered
 abbrev pub DrivesHears : Type 0
 DrivesHears = (room : ℕ) (m m′ : Lending) (place : Place) (kept : List ℕ) (ws : List Word) (said : List Said)
     → Stands room m (at place kept []) → Drives m ws said m′
-    → Stands room m′ (hear (does room) (trailer (m .reader .checksums)) (at place kept []) ws)
-    × (eventsSaid said ≡ asSaid (judgedIn (hear (does room) (trailer (m .reader .checksums)) (at place kept []) ws)))
+    → let run : SetRun = hear (does room) (trailer (m .reader .checksums)) (at place kept []) ws in
+    Stands room m′ run × (eventsSaid said ≡ map (λ (j : Judged). Event (j .told) (j .type) (length (j .body))) (readIn run .judged))

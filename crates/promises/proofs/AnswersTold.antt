@@ -54,16 +54,15 @@ odd n = omega arith
 half-odd : (n : ℕ) → (n * 2 + 1) / 2 ≡ n
 half-odd n = omega arith
 
-pub integers-told : IntegersTold
+pub integers-told : (s : List ℕ) (at : ℕ) (item rest : List ℕ) (there : drop at s ≡ item ++ rest) → IntegersTold s at item rest there
 unfolding signedAt naturalAt meantBy
-integers-told = record {
-  fixed = λ w v s at item rest some number is. rw (number-reads s w at v item rest number (stands s at item rest (omega (arith, number .long)) is));
-  varlen = λ v s at item rest form is. rw (form-reads s at v item rest form (stands s at item rest (form-some form) is));
-  positive = λ n s at item rest form is. rw (form-reads s at (n * 2) item rest form (stands s at item rest (form-some form) is), even n, half n);
-  negative = λ n s at item rest form is.
-      rw (form-reads s at (n * 2 + 1) item rest form (stands s at item rest (form-some form) is), odd n, half-odd n);
-  natural = λ n s at item rest form is. rw (form-reads s at (n * 2) item rest form (stands s at item rest (form-some form) is), even n, half n);
-  lenenc = λ v s at item rest form is. rw (lenenc-reads s at v item rest form (stands s at item rest (lenenc-some v item form) is));
+integers-told s at item rest there = record {
+  fixed = λ w v some number. rw (number-reads s w at v item rest number (stands s at item rest (omega (arith, number .long)) there));
+  varlen = λ v form. rw (form-reads s at v item rest form (stands s at item rest (form-some form) there));
+  positive = λ n form. rw (form-reads s at (n * 2) item rest form (stands s at item rest (form-some form) there), even n, half n);
+  negative = λ n form. rw (form-reads s at (n * 2 + 1) item rest form (stands s at item rest (form-some form) there), odd n, half-odd n);
+  natural = λ n form. rw (form-reads s at (n * 2) item rest form (stands s at item rest (form-some form) there), even n, half n);
+  lenenc = λ v form. rw (lenenc-reads s at v item rest form (stands s at item rest (lenenc-some v item form) there));
 }
 
 -- what is not refused where the id is asked for is read alike
@@ -91,20 +90,19 @@ entry-some : {tagged : Bool} {e : Entry} (laid : List ℕ) → EntryLaid tagged 
 entry-some laid (EntryLaid.parts uuid {bytes = tag} {count = count} {intervals = list} sixteen _ _ _) =
     omega (arith, length-append uuid (tag ++ (count ++ list)))
 
-pub bodies-told : BodiesTold
+pub bodies-told : (body : List ℕ) (short : length body ≤ bodyLimit) → BodiesTold body short
 unfolding bodyLimit
-bodies-told = record {
-  read = λ body es used are short laid. rw (entries-mean body es used are short .1 laid);
-  unread = λ body es used are short laid. rw (entries-mean body es used are short .1 laid);
-  header = λ body tagged n laid rest are short is whole. header-told body are short tagged n laid rest whole is;
-  entry = λ body at tagged uuid tag is laid rest short sixteen this there.
+bodies-told body short = record {
+  read = λ es used are laid. rw (entries-mean body es used are short .1 laid) (refl, refl);
+  header = λ tagged n laid rest are is whole. header-told body are short tagged n laid rest whole is;
+  entry = λ at tagged uuid tag is laid rest sixteen this there.
       rw (
         le-leb (length body) bodyLimit short,
         entry-reads body tagged at (entry (uuid ++ tag) is) laid rest this (stands body at laid rest (entry-some laid this) there),
         uuid-of uuid tag sixteen,
         tag-of uuid tag sixteen,
       );
-  interval = λ body at start end a b rest short x y is.
+  interval = λ at start end a b rest x y is.
       rw (
         le-leb (length body) bodyLimit short,
         interval-reads body at start end a b rest x y (stands body at a (b ++ rest) (omega (arith, x .long)) is) .0,
@@ -120,8 +118,8 @@ not-35 type (RecordLaid.tagged _ is _) other = omega arith
 
 -- the uuid of a record that is laid out has 16 bytes
 plain-whole : {s : List ℕ} {e : GtidEvent} {used : ℕ} → UntaggedLaid s e used → length (e .sid) ≡ 16
-plain-whole (inl laid) = rw (laid .is) (laid .uuid-is)
-plain-whole (inr laid) = rw (laid .is) (laid .uuid-is)
+plain-whole (inl laid) = laid .uuid-is
+plain-whole (inr laid) = laid .uuid-is
 
 whole-uuid : {type : ℕ} {s : List ℕ} {x : Seen} {used : ℕ} → RecordLaid type s x used → length (x .event .sid) ≡ 16
 whole-uuid (RecordLaid.untagged few is laid none) = plain-whole laid

@@ -1,12 +1,11 @@
 -- The statements of `specs/Exact.antt` for the archive's calls.
 use Prim.Native.Nat.{ℕ}
-use mathlib.Core.Path.{_≡_, refl, sym, ap, _∙_}
+use mathlib.Core.Path.{_≡_, refl, sym, _∙_}
 use mathlib.Core.Bool.{true}
 use mathlib.Core.List.{List}
 use lib.Dec.{eqb, leb}
 use lib.ListN.{length}
 use borrow.Author.Tests.{eqb-true, eqb-false, eq-eqb, ne-eqb}
-use Rattle.misc.specs.Pick.{pick}
 use Rattle.misc.specs.Refusal.{Refusal, number, notWritable}
 use Rattle.misc.specs.Parse.{Bytes, Parse, refuse, parsed}
 use Rattle.misc.specs.Output.{refused, bytes, answerOf}
@@ -19,9 +18,7 @@ use Rattle.gtid_event_read.proofs.ReadLaws.{gtid-parsed, gtid-refused}
 use Rattle.gtid_event_write.specs.Writable.{writable}
 use Rattle.gtid_event_write.specs.Write.{eventBytes, eventOutput}
 use Rattle.gtid_event_laws.proofs.ReadWritable.{read-fits}
-use Rattle.resume_set.specs.declared.Offered.{Offered}
-use Rattle.resume_set.specs.declared.Offered.the-variants.{NoId, AlreadyThere, Taken, Refused}
-use Rattle.abi.specs.Answers.{numbersOf, entryIn}
+use Rattle.abi.specs.Answers.{entryIn}
 use Rattle.abi.specs.Flat.{flat, flatRead, readOutput, readUsed, writeOutput}
 use Rattle.abi.proofs.FlatLaws.{length-flat}
 use Rattle.promises.specs.Meaning.{RecordLaid}
@@ -33,23 +30,8 @@ use Rattle.promises.proofs.Exactly.{writes-exactly}
 use Rattle.promises.proofs.Demand2.{laid-record-read, records-mean}
 use Rattle.promises.proofs.EventExact.{event-refused, event-faulty}
 use Rattle.promises.proofs.WritingExact.{write-given, write-forced, write-writes, write-written}
-use Rattle.promises.proofs.SetsExact.{apart, offers-exactly}
+use Rattle.promises.proofs.SetsExact.{apart}
 use Rattle.promises.proofs.BodiesExact.{entry-good, headed-exact}
-
--- ---- an offer's numbers
-
--- the answer that they stand for
-abbrev answerIn : ℕ → ℕ → ℕ → Offered
-answerIn refusal kind len = pick (eqb kind 1) (Taken len) (pick (eqb kind 2) (AlreadyThere len) (pick (eqb kind 3) (NoId len) (Refused refusal len)))
-
-answer-in : (a : Offered) → answerIn (numbersOf a .refusal) (numbersOf a .kind) (numbersOf a .len) ≡ a
-answer-in (NoId len) = refl
-answer-in (AlreadyThere len) = refl
-answer-in (Taken len) = refl
-answer-in (Refused n len) = refl
-
-same-numbers : (a b : Offered) → numbersOf a ≡ numbersOf b → a ≡ b
-same-numbers a b e = sym (rw e at (answer-in a)) ∙ answer-in b
 
 -- ---- a record that is read
 
@@ -158,11 +140,6 @@ read-entry-exact body at are = headed-exact 1 body at are (λ p. entryRead p .re
 pub archive-exact : ArchiveExact
 archive-exact = record {
   «gtid_read_entry» = read-entry-exact;
-  «gtid_offer» = λ set type body out a l are.
-      let both = offers-exactly set (record { type = type; body = body; out = out }) a l are in (
-        λ (is, left). both .0 (same-numbers _ a is, left),
-        λ answer. let (is, left) = both .1 answer in (ap numbersOf is, left),
-      );
   «gtid_read» = read-exact;
   «gtid_write» = λ fields out. writes-exactly (writeOutput fields) out (FlatFault fields) (Event fields) (flat-given fields) (flat-forced fields)
       (flat-writes fields) (flat-written fields);

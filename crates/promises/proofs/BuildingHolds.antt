@@ -2,7 +2,7 @@
 use Prim.Native.Nat.{ℕ, _^_, _<_}
 use mathlib.Core.Path.{_≡_, refl, ap, _∙_}
 use mathlib.Core.Bool.{true, false}
-use mathlib.Core.List.{List, [], _∷_, append-nil}
+use mathlib.Core.List.{List, [], _∷_, _++_, append-nil}
 use native.Mathlib.Omega.{arith}
 use lib.Dec.{eqb}
 use lib.ListN.{length, length-append}
@@ -12,7 +12,7 @@ use Rattle.misc.specs.Output.{bytes}
 use Rattle.misc.proofs.Bounds.{zeros-bytes}
 use Rattle.misc.proofs.LeLaws.{length-leBytes}
 use Rattle.packets.specs.Tag.{isTag}
-use Rattle.gtid_event.specs.Event.{undefinedVersion, fresh, newUntagged, newTagged, withTag, setNumber}
+use Rattle.gtid_event.specs.Event.{undefinedVersion, fresh, newUntagged, newTagged, withTag, setNumber, setTypecode}
 use Rattle.gtid_event.specs.declared.GtidEvent.{GtidEvent}
 use Rattle.gtid_event.proofs.BuiltLaws.{built}
 use Rattle.gtid_event_read.specs.Read.{gtid}
@@ -24,7 +24,7 @@ use Rattle.gtid_event_laws.proofs.EventBack.{event-alone}
 use Rattle.gtid_sets.proofs.Bools.{or-false-parts}
 use Rattle.promises.specs.UntaggedLayout.{PairLaid, PairIfLeft}
 use Rattle.promises.specs.TaggedLayout.{Sent, number, the-uuid, the-tag, sends, lastNumber}
-use Rattle.promises.specs.Building.{serverVersions, Unversioned, KeepsVersions, bare, bareBytes, Building}
+use Rattle.promises.specs.Building.{serverVersions, Unversioned, KeepsVersions, Building}
 
 -- ---- what a reader gives where no version was sent
 
@@ -44,10 +44,10 @@ unsent id (the-uuid us ∷ told) absent none = unsent id told absent (or-false-p
 unsent id (the-tag t ∷ told) absent none = unsent id told absent (or-false-parts (eqb 3 id) (sends id told) none .1)
 
 absent-versions : {s : List ℕ} {e : GtidEvent} {used : ℕ} → Unversioned s e used → serverVersions e ≡ 999999 ∷ 999999 ∷ []
-absent-versions (Unversioned.short laid) = rw (laid .is)
+absent-versions (Unversioned.short laid) = ap serverVersions (laid .others)
 absent-versions (Unversioned.long laid none) =
     let (immediate, original) = none-left (laid .versions-are) none in
-    rw (laid .is, immediate, original)
+    rw (immediate, original)
 absent-versions (Unversioned.tagged laid is immediate original) =
     rw (is, laid .is, unsent 9 (laid .told) 999999 immediate, unsent 10 (laid .told) 999999 original)
 
@@ -73,6 +73,12 @@ fresh-fits sid gno typecode size are few small = record {
   original-version-fits = omega arith;
   ticket-fits = omega arith;
 }
+
+abbrev bare : List ℕ → ℕ → GtidEvent
+bare sid gno = setTypecode 0 (newUntagged sid gno)
+
+abbrev bareBytes : List ℕ → ℕ → List ℕ
+bareBytes sid gno = 0 ∷ (sid ++ leBytes 8 gno)
 
 module _ (sid : List ℕ) (gno : ℕ) where
   bare-can : writable (bare sid gno) ≡ true

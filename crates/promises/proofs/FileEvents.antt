@@ -113,10 +113,10 @@ acts-joined : (room : ℕ) (set body after : List ℕ) → Bytes body → Exactl
 unfolding acts
 acts-joined room set body after are = joins-did set body are room after
 
-pub events-judged : EventsJudged
-events-judged = record {
-  refused = λ room set type body r len are. acts-refused set type body are room r len;
-  joined = acts-joined;
-  offered = λ room set type body t after other are. acts-offered room set type body are t after other;
-  «join_in» = λ set body out are. join-writes set body are out;
+pub events-judged : (set body : List ℕ) (room : ℕ) → Bytes body → EventsJudged set body room
+events-judged set body room are = record {
+  refused = λ type r len. acts-refused set type body are room r len;
+  joined = λ after. acts-joined room set body after are;
+  offered = λ type t after other. acts-offered room set type body are t after other;
+  «join_in» = join-writes set body are;
 }

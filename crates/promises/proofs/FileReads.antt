@@ -1,6 +1,6 @@
 -- What reading a file comes to (`ReadsFiles` of `specs/Files.antt`), of what the calls promise.
 use Prim.Native.Nat.{ℕ}
-use mathlib.Core.Path.{_≡_, refl, sym, ap, _∙_}
+use mathlib.Core.Path.{_≡_, sym, ap, _∙_}
 use mathlib.Core.Bool.{Bool, true, false}
 use mathlib.Core.List.{List, [], _∷_, _++_}
 use Rattle.misc.specs.Refusal.{notASet}
@@ -9,7 +9,7 @@ use Rattle.gtid_sets.specs.Lent.{Lent, SetLaid}
 use Rattle.gtid_sets.proofs.LentLaws.{is-lent}
 use Rattle.binlog.specs.Format.{trailer}
 use Rattle.binlog.specs.Place.{opening, heading, inside, passing, whole, ended, stopped}
-use Rattle.binlog.specs.Run.{at, begin, feed, walking, Word, chunk, end, heard, hear, spelled}
+use Rattle.binlog.specs.Run.{at, begin, feed, walking, Word, chunk, end, heard, hear}
 use Rattle.binlog.specs.Layout.{Says, EndSays}
 use Rattle.binlog.proofs.RunLaws as run
 use Rattle.binlog.proofs.SaysLaws.{says-all, says-one}
@@ -19,7 +19,7 @@ use Rattle.binlog_reader.specs.Step.{SetRun, beginsAt}
 use Rattle.binlog_reader.specs.declared.Said.the-variants.{Ended, Refused}
 use Rattle.binlog_laws.specs.Files.{FileRead, readIn, startOf, ourFiles}
 use Rattle.promises.specs.SetFaults.{SetFault}
-use Rattle.promises.specs.Files.{wordsOf, ReadsFiles}
+use Rattle.promises.specs.Files.{ReadsFiles}
 use Rattle.promises.proofs.SetsExact.{apart, fault-unfit}
 
 -- bytes that are a set: the run begins before the opening
@@ -34,29 +34,22 @@ module _ (room : ℕ) (checksums : Bool) where
   abbrev hears : SetRun → List Word → SetRun
   hears = hear (does room) (trailer checksums)
 
-  words : (set bs : List ℕ) (named : Bool) → hears (begin set) (wordsOf bs named) ≡ walking (does room) (trailer checksums) set bs named
-  words set bs true = refl
-  words set bs false = refl
-
   no-set : (set : List ℕ) (ws : List Word) → SetFault set 14 → ourFiles room set checksums ws ≡ record { judged = []; said = Refused 14 0; set = set }
   no-set set ws fault =
       let (_, lent) = fault-unfit set 14 fault in
       ap (λ (l : Lent). readIn (hears (at (beginsAt l) set []) ws)) lent
       ∙ ap readIn (run.stays-stopped (does room) (trailer checksums) notASet 0 set [] ws)
 
-  walked : (set : List ℕ) (s : List Entry) (named : Bool) (bs : List ℕ) (ws : List Word) → SetLaid set s → spelled ws ≡ spelled (wordsOf bs named)
-      → ourFiles room set checksums ws ≡ readIn (walking (does room) (trailer checksums) set bs named)
-  walked set s named bs ws laid same =
-      ap readIn (ap (λ (r : SetRun). hears r ws) (begins set s laid)
-      ∙ run.cut-anywhere (does room) (trailer checksums) (begin set) ws (wordsOf bs named) same ∙ words set bs named)
+  in-words : (set : List ℕ) (s : List Entry) (ws : List Word) → SetLaid set s → hears (startOf set) ws ≡ hears (begin set) ws
+  in-words set s ws laid = ap (λ (r : SetRun). hears r ws) (begins set s laid)
 
   says : (set : List ℕ) (s : List Entry) (bs : List ℕ) (r : SetRun) → SetLaid set s → Says (does room) (trailer checksums) set bs r
       → ourFiles room set checksums (chunk bs ∷ []) ≡ readIn r
-  says set s bs r laid h = walked set s false bs (chunk bs ∷ []) laid refl ∙ ap readIn (says-one (does room) (trailer checksums) set h)
+  says set s bs r laid h = ap readIn (in-words set s (chunk bs ∷ []) laid ∙ says-one (does room) (trailer checksums) set h)
 
   end-says : (set : List ℕ) (s : List Entry) (bs : List ℕ) (r : SetRun) → SetLaid set s → EndSays (does room) (trailer checksums) set bs r
       → ourFiles room set checksums (chunk bs ∷ end ∷ []) ≡ readIn r
-  end-says set s bs r laid h = walked set s true bs (chunk bs ∷ end ∷ []) laid refl ∙ ap readIn (end-says-one (does room) (trailer checksums) set h)
+  end-says set s bs r laid h = ap readIn (in-words set s (chunk bs ∷ end ∷ []) laid ∙ end-says-one (does room) (trailer checksums) set h)
 
   -- ---- what repeats
 
@@ -96,26 +89,24 @@ module _ (room : ℕ) (checksums : Bool) where
   refuses (at (whole type body) set js) ws n len e = apart cc
   refuses (at ended set js) ws n len e = apart cc
 
-pub reads-files : (room : ℕ) → ReadsFiles room (ourFiles room)
-reads-files room = record {
-  start = λ set checksums ws. no-set room checksums set ws;
-  walks = λ set s checksums named bs ws. walked room checksums set s named bs ws;
-  comes = λ set s checksums bs laid. (
+pub reads-files : (room : ℕ) (set : List ℕ) (checksums : Bool) → ReadsFiles room set checksums (ourFiles room set checksums)
+reads-files room set checksums = record {
+  start = no-set room checksums set;
+  comes = λ s bs laid. (
     walking (does room) (trailer checksums) set bs false,
     says-all (does room) (trailer checksums) set bs,
-    walked room checksums set s false bs (chunk bs ∷ []) laid refl,
+    ap readIn (in-words room checksums set s (chunk bs ∷ []) laid),
   );
-  says = λ set s checksums bs r. says room checksums set s bs r;
-  ends = λ set s checksums bs laid. (
+  says = says room checksums set;
+  ends = λ s bs laid. (
     walking (does room) (trailer checksums) set bs true,
     end-says-all (does room) (trailer checksums) set bs,
-    walked room checksums set s true bs (chunk bs ∷ end ∷ []) laid refl,
+    ap readIn (in-words room checksums set s (chunk bs ∷ end ∷ []) laid),
   );
-  end-says = λ set s checksums bs r. end-says room checksums set s bs r;
-  cut = λ set checksums us ws same. ap readIn (run.cut-anywhere (does room) (trailer checksums) (startOf set) us ws same);
-  empty = λ set checksums us ws. ap readIn (append room checksums set us (chunk [] ∷ ws) ∙ sym (append room checksums set us ws));
-  end-again = λ set checksums ws. twice room checksums set ws;
-  behind-end = λ set checksums ws b bs. behind room checksums set ws b bs;
-  stays = λ set checksums us ws n len e.
+  end-says = end-says room checksums set;
+  cut = λ us ws same. ap readIn (run.cut-anywhere (does room) (trailer checksums) (startOf set) us ws same);
+  end-again = twice room checksums set;
+  behind-end = behind room checksums set;
+  stays = λ us ws n len e.
       ap readIn (append room checksums set us ws ∙ refuses room checksums (hear (does room) (trailer checksums) (startOf set) us) ws n len e);
 }

@@ -36,10 +36,10 @@ again-place : (n len : ℕ) (w : List ℕ) → 0 < n → placeOf (phase.Stopped 
 unfolding placeOf
 again-place n len w some = rw (lt-ltb 0 n some, le-leb 0 (length w) (omega arith))
 
-pub steps-refuse : StepsRefuse
-steps-refuse = record {
-  forged = λ r work set chunk spare bad. at-once r work set chunk spare notWritable 0 (unmade-place (r .phase) work bad);
-  short = λ r work set chunk spare good need few. at-once r work set chunk spare noRoom 65540 (short-place (r .phase) work good need few);
-  again = λ r work set chunk spare n len some is.
+pub steps-refuse : (r : Reader) (work set chunk : List ℕ) (spare : ℕ) → StepsRefuse r work set chunk spare
+steps-refuse r work set chunk spare = record {
+  forged = λ bad. at-once r work set chunk spare notWritable 0 (unmade-place (r .phase) work bad);
+  short = λ good need few. at-once r work set chunk spare noRoom 65540 (short-place (r .phase) work good need few);
+  again = λ n len some is.
       rw (renumber n some) at (at-once r work set chunk spare (numbered n) len (ap (λ (p : Phase). placeOf p work) is ∙ again-place n len work some));
 }

@@ -16,14 +16,12 @@ use Rattle.gtid_sets.specs.Combine.{either, subset}
 use Rattle.gtid_sets.proofs.LentLaws.{lent-is, is-lent}
 use Rattle.gtid_sets.proofs.SetLaws.{set-unique}
 use Rattle.gtid_sets.proofs.CombineLaws.{subset-says, subset-from}
-use Rattle.two_sets.specs.Answers.{withinRead, headRead, whichAnswers, partOf}
-use Rattle.two_sets.specs.declared.AllWithin.{AllWithin}
+use Rattle.two_sets.specs.Answers.{headRead, whichAnswers, partOf}
 use Rattle.two_sets.specs.declared.Choice.{Choice}
 use Rattle.two_sets.specs.declared.Choice.the-variants.{First, Second, Refused}
-use Rattle.abi.specs.Answers.{headNumbers}
 use Rattle.promises.specs.Exact.{Exactly}
-use Rattle.promises.specs.TwoSets.{Keeps, Contains, PairFault, ResultAs, allIn, notAllIn}
-use Rattle.promises.specs.Heads.{HeadFault, HeadAnswer, ChoosesExactly, HandedBack, HandsExactly, ourHead, HeadTold, Heads}
+use Rattle.promises.specs.TwoSets.{Keeps, Contains, PairFault, ResultAs}
+use Rattle.promises.specs.Heads.{HeadFault, HeadAnswer, ChoosesExactly, HandedBack, HandsExactly, ourHead, Heads}
 use Rattle.promises.proofs.SetsExact.{apart, unfit-fault}
 use Rattle.promises.proofs.TwoSetsHold.{pair-unfit, lacking, not-within}
 
@@ -88,56 +86,9 @@ hands-exactly first second p q bs at = (
   back-forced first second p q bs at,
 )
 
--- ---- by what `within` says
-
+-- which is chosen, by whether the first contains the second, and whether the second contains it
 abbrev chosen : Bool → Bool → Choice
 chosen b c = pick b First (pick c Second (Refused 22))
-
-abbrev told : Bool → AllWithin
-told b = record { refusal = 0; all = b }
-
-all-of : {a b : AllWithin} → a ≡ b → a .all ≡ b .all
-all-of e = ap (λ (x : AllWithin). x .all) e
-
--- what `within` says each way, and what is chosen then
-record Ways (r : Choice) (there back : AllWithin) : Type 0 where
-  first : Exactly (r ≡ First) (back ≡ allIn)
-  second : Exactly (r ≡ Second) ((there ≡ allIn) × (back ≡ notAllIn))
-  neither : Exactly (r ≡ Refused 22) ((there ≡ notAllIn) × (back ≡ notAllIn))
-
-both-sets : (b c : Bool) → Ways (chosen b c) (told c) (told b)
-both-sets true c = record {
-  first = (λ _. refl, λ _. refl);
-  second = (λ e. apart cc, λ (p, q). clash refl (all-of q));
-  neither = (λ e. apart cc, λ (p, q). clash refl (all-of q));
-}
-both-sets false true = record {
-  first = (λ e. apart cc, λ e. clash (all-of e) refl);
-  second = (λ _. (refl, refl), λ _. refl);
-  neither = (λ e. apart cc, λ (p, q). clash refl (all-of p));
-}
-both-sets false false = record {
-  first = (λ e. apart cc, λ e. clash (all-of e) refl);
-  second = (λ e. apart cc, λ (p, q). clash (all-of p) refl);
-  neither = (λ _. (refl, refl), λ _. refl);
-}
-
--- 14 is none of the three, and said both ways
-no-set : Ways (Refused 14) (record { refusal = 14; all = false }) (record { refusal = 14; all = false })
-no-set = record {
-  first = (λ e. apart cc, λ e. clash (all-of e) refl);
-  second = (λ e. apart cc, λ (p, q). clash (all-of p) refl);
-  neither = (
-    λ e. let same : _≡_ {A = ℕ} 14 22 = cc in absurd (omega arith),
-    λ (p, q). let same : _≡_ {A = ℕ} 14 0 = ap (λ (x : AllWithin). x .refusal) p in absurd (omega arith),
-  );
-}
-
-ways : (x y : Lent) → Ways (headRead x y) (withinRead x y) (withinRead y x)
-ways unfit unfit = no-set
-ways unfit (form t) = no-set
-ways (form s) unfit = no-set
-ways (form s) (form t) = both-sets (subset t s) (subset s t)
 
 -- ---- what follows
 
@@ -211,34 +162,13 @@ module _ (first second : List ℕ) where
       go (form s) unfit p q = refl
       go (form s) (form t) p q = chosen-part (subset t s) (subset s t) (alike s t (lent-is first s p) (lent-is second t q))
 
--- ---- the archive's numbers
-
-module _ (first second : List ℕ) where
-  told-as : (r : Choice) → HeadAnswer first second r → HeadTold first second (headNumbers r .refusal) (headNumbers r .head)
-  told-as First is = HeadTold.first is
-  told-as Second is = HeadTold.second is
-  told-as (Refused n) is = HeadTold.refused (fault-of first second n (Refused n) is refl)
-
-  told-forced : (n m : ℕ) → HeadTold first second n m
-      → (headNumbers (whichAnswers first second) .refusal ≡ n) × (headNumbers (whichAnswers first second) .head ≡ m)
-  told-forced n m (HeadTold.first is) = rw (forced first second First is) (refl, refl)
-  told-forced n m (HeadTold.second is) = rw (forced first second Second is) (refl, refl)
-  told-forced n m (HeadTold.refused fault) = rw (fault-forced first second n fault) (refl, refl)
-
 pub heads : Heads
 heads = record {
   which = chooses-exactly;
   head = hands-exactly;
-  within-first = λ first second. ways (lentSet first) (lentSet second) .first;
-  within-second = λ first second. ways (lentSet first) (lentSet second) .second;
-  within-neither = λ first second. ways (lentSet first) (lentSet second) .neither;
   united-first = λ first second is. is-united first second First is .0 refl;
   united-second = λ first second is. is-united first second Second is .1 refl;
   empty = none-exactly;
   turned = same-part;
-  twice = λ set s p q i. HandedBack.first (HeadAnswer.first i i (λ k n here. here));
-  «gtid_head» = λ first second n m. (
-    λ (p, q). rw (p, q) at (told-as first second (whichAnswers first second) (answered first second)),
-    told-forced first second n m,
-  );
+  «gtid_head» = λ n. (refl, refl, refl);
 }

@@ -38,7 +38,7 @@ use Rattle.promises.specs.Highest.{EndsAt, HasEnd, CarriedOnly, Highest}
 use Rattle.promises.proofs.SetsExact.{body-read}
 use Rattle.promises.proofs.Naming.{event-named, written-named}
 use Rattle.promises.proofs.AnswersTold.{listing-told}
-use Rattle.promises.proofs.OrdersHold.{no-gno, zeros}
+use Rattle.promises.proofs.BesidesHold.{no-gno, zeros}
 
 -- ---- an end behind the top
 

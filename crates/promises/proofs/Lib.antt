@@ -1,5 +1,5 @@
 -- The demands hold of what our functions promise. Demand 1: `integers-exact`, `events-exact`, `bodies-exact`, `reader-exact`, `sets-exact`,
--- `archive-exact`, `offers-exactly`, `asks-exactly`; `orders`, `zeros`, `outputs`. Demand 2: `records-mean`, `records-back`,
+-- `archive-exact`, `offers-exactly`, `asks-exactly`; `zeros`, `outputs`. Demand 2: `records-mean`, `records-back`,
 -- `records-again`, `least-size`, `entries-back`, `entries-mean`, `building`; `integers-told`, `events-told`, `bodies-told`, `listing-told`, `presence`,
 -- `sets-told`. Demand 3: `tells-history`, `counts-taken`, `replays`, `refusals-keep`; `rules`, `highest`. The requests: `two-sets`, `heads`, `reports`,
 -- `files`. The edges: `edges-agree`. No two cases hold at once, and what is laid out has no fault (`OneOutcome`).
@@ -38,7 +38,7 @@ pub mod SetsExact
 pub mod BodiesExact
 pub mod ReaderExact
 pub mod ArchiveExact
-pub mod OrdersHold
+pub mod BesidesHold
 pub mod OneOutcome
 -- demand 2
 pub mod BuildingHolds
@@ -62,3 +62,5 @@ pub mod FileSteps
 pub mod FilesHold
 -- the edges
 pub mod EdgesAgree
+-- what follows from the page, and isn't on it
+pub mod Follows

@@ -1,15 +1,14 @@
 -- An event whose id is asked for is refused with a number exactly where a case of that number holds; else it names its id, or none.
 use Prim.Native.Nat.{ℕ}
 use mathlib.Core.Path.{_≡_, refl}
-use mathlib.Core.Bool.{true, false, and-false}
+use mathlib.Core.Bool.{true, false}
 use mathlib.Core.List.{List}
-use mathlib.Core.Logic.{_⊎_, inl, inr, ⊎-elim}
 use lib.Dec.{eqb}
 use borrow.Author.Tests.{eqb-true, eq-eqb, ne-eqb}
 use Rattle.misc.specs.Refusal.{absentId}
 use Rattle.misc.specs.Parse.{Bytes, parsed}
 use Rattle.misc.proofs.ParseLaws.{pick-either}
-use Rattle.packets.proofs.Tests.{split, clash, and-true}
+use Rattle.packets.proofs.Tests.{split, clash}
 use Rattle.gtid_event.specs.Event.{tagged, typeOf}
 use Rattle.gtid_event.specs.Fits.{Fits}
 use Rattle.gtid_event.specs.declared.GtidEvent.{GtidEvent}
@@ -22,7 +21,7 @@ use Rattle.gtid_event_laws.proofs.EventBack as event-laws
 use Rattle.gtid_sets.specs.Run.{anonymous, names}
 use Rattle.resume_set.specs.Answers.{eventOf}
 use Rattle.promises.specs.Meaning.{RecordLaid}
-use Rattle.promises.specs.SetFaults.{keyOf, sentUuid, sentGno, NamingFault, Names}
+use Rattle.promises.specs.SetFaults.{keyOf, sentId, NamingFault, Names}
 use Rattle.promises.specs.Exact.{RefusesExactly}
 use Rattle.promises.proofs.Gives.{Gives}
 use Rattle.promises.proofs.Forces.{Refuses, is-refused, same-refused}
@@ -40,34 +39,23 @@ written-named e fits can =
 -- ---- what is asked for
 
 module _ (type : ℕ) (x : Seen) where
-  sends : (type ≡ 42 → (sentUuid (x .present) ≡ true) × (sentGno (x .present) ≡ true)) → sendsId type x ≡ true
-  sends both = split (eqb type 42) (λ is. let (u, g) = both (eqb-true type 42 is) in rw (is, u, g)) (λ other. rw other)
+  sends : (type ≡ 42 → sentId (x .present) ≡ true) → sendsId type x ≡ true
+  sends both = split (eqb type 42) (λ is. rw (is, both (eqb-true type 42 is))) (λ other. rw other)
 
-  lacks : type ≡ 42 → (sentUuid (x .present) ≡ false) ⊎ (sentGno (x .present) ≡ false) → sendsId type x ≡ false
-  lacks is (inl none) = rw (eq-eqb type 42 is, none)
-  lacks is (inr none) = rw (eq-eqb type 42 is, none) (and-false (sentUuid (x .present)))
+  sent-both : sendsId type x ≡ true → type ≡ 42 → sentId (x .present) ≡ true
+  sent-both h is = rw (eq-eqb type 42 is) at h
 
-  sent-parts : sendsId type x ≡ true → type ≡ 42 → (sentUuid (x .present) ≡ true) × (sentGno (x .present) ≡ true)
-  sent-parts h is = and-true (sentUuid (x .present)) (sentGno (x .present)) (rw (eq-eqb type 42 is) at h)
-
-  lacking : sendsId type x ≡ false → (type ≡ 42) × ((sentUuid (x .present) ≡ false) ⊎ (sentGno (x .present) ≡ false))
-  lacking h = pick-either (eqb type 42) h
-      (λ is f. (eqb-true type 42 is, split (sentUuid (x .present)) (λ u. inr (rw u at f)) (λ none. inl none)))
-      (λ _ f. clash refl f)
+  lacking : sendsId type x ≡ false → (type ≡ 42) × (sentId (x .present) ≡ false)
+  lacking h = pick-either (eqb type 42) h (λ is f. (eqb-true type 42 is, f)) (λ _ f. clash refl f)
 
 -- ---- the cases
 
 module _ (type : ℕ) (body : List ℕ) where
-  absent-refused : {x : Seen} {used : ℕ} → RecordLaid type body x used → type ≡ 42
-      → (sentUuid (x .present) ≡ false) ⊎ (sentGno (x .present) ≡ false) → Refuses (named type body) 21
-  unfolding named
-  absent-refused {x} {used} laid is none = is-refused absentId (rw (laid-record-read type body x used laid, lacks type x is none))
-
   pub naming-refused : (n : ℕ) → NamingFault type body n → Refuses (named type body) n
   unfolding named
   naming-refused n (NamingFault.own fault) = same-refused (event-refused type body n fault) (λ r e. rw e)
-  naming-refused n (NamingFault.noUuid laid is none) = absent-refused laid is (inl none)
-  naming-refused n (NamingFault.noGno laid is none) = absent-refused laid is (inr none)
+  naming-refused n (NamingFault.noId {x = x} {used = used} laid is none) =
+      is-refused absentId (rw (laid-record-read type body x used laid, eq-eqb type 42 is, none))
 
   module _ (are : Bytes body) where
     pub naming-faulty : Gives (NamingFault type body) (named type body)
@@ -75,18 +63,18 @@ module _ (type : ℕ) (body : List ℕ) where
         (λ broken. NamingFault.own (event-faulty type body are r broken))
         (λ x used read none this.
         let laid = records-mean type body x used are .0 read in
-        let (is, which) = lacking type x none in
-        rw this (⊎-elim (λ no-uuid. NamingFault.noUuid laid is no-uuid) (λ no-gno. NamingFault.noGno laid is no-gno) which))
+        let (is, lacks) = lacking type x none in
+        rw this (NamingFault.noId laid is lacks))
 
     pub naming-exact : RefusesExactly (gtidRead (named type body) .refusal) (NamingFault type body)
     naming-exact = reads-exactly (λ p. gtidRead p .refusal) (NamingFault type body) (named type body) (λ r. refl) (λ x used. refl) naming-faulty naming-refused
 
     -- what is not refused is laid out, and if it is tagged was sent with its id
     pub named-laid : (x : Seen) (used : ℕ) → named type body ≡ parsed x used
-        → RecordLaid type body x used × (type ≡ 42 → (sentUuid (x .present) ≡ true) × (sentGno (x .present) ≡ true))
+        → RecordLaid type body x used × (type ≡ 42 → sentId (x .present) ≡ true)
     named-laid x used read =
         let (told, sent) = named-parsed type body read in
-        (records-mean type body x used are .0 told, sent-parts type x sent)
+        (records-mean type body x used are .0 told, sent-both type x sent)
 
   -- ---- the id
 

@@ -1,8 +1,8 @@
 -- The statements of `specs/Told.antt`.
 use Prim.Native.Nat.{ℕ}
-use mathlib.Core.Path.{_≡_, refl, ap, _∙_}
+use mathlib.Core.Path.{_≡_, refl, ap}
 use mathlib.Core.Bool.{Bool, true, false}
-use mathlib.Core.List.{List, _++_}
+use mathlib.Core.List.{List}
 use native.Mathlib.Omega.{arith}
 use lib.ListN.{length}
 use Rattle.misc.specs.Pick.{pick}
@@ -26,7 +26,7 @@ use Rattle.resume_set_laws.specs.History.{member}
 use Rattle.promises.specs.SetFaults.{BodyIs}
 use Rattle.promises.specs.Exact.{Exactly}
 use Rattle.promises.specs.Told.{SetsTold}
-use Rattle.promises.proofs.SetsExact.{body-read, asks-exactly}
+use Rattle.promises.proofs.SetsExact.{body-read}
 
 has-members : (set : List ℕ) (s : List Entry) → SetLaid set s → (k : Key) (n : ℕ) → member set k n ≡ has s k n
 has-members set s laid k n = rw (is-lent set s laid)
@@ -58,7 +58,7 @@ module _ (body : List ℕ) (es : List Entry) (are : Bytes body) (is : BodyIs bod
   lists : (s : List Entry) × SetLaid (bodyBytes s) s × (eventText 35 body ≡ setText previousWord s) × ((k : Key) (n : ℕ) → has s k n ≡ has es k n)
   lists = (takeIn es, lent-is _ _ taken-lent, shown, has-takeIn es)
 
-pub as-number : (b : Bool) → bit b ≡ pick b 1 0
+as-number : (b : Bool) → bit b ≡ pick b 1 0
 as-number true = refl
 as-number false = refl
 
@@ -66,8 +66,9 @@ pub sets-told : SetsTold
 sets-told = record {
   members = has-members;
   «check_set» = checks;
+  «take_in» = λ body es are is good. let (used, read) = body-read body are is in rw (read, good);
   list = lists;
-  «gtid_contains» = λ set uuid tag gno sixteen rule. ap bit (asks-exactly .id set uuid tag gno sixteen rule) ∙ as-number (member set (uuid ++ tag) gno);
+  one-or-none = as-number;
   refused = λ n len. refl;
   taken = λ len. refl;
   already-there = λ len. refl;

@@ -201,19 +201,19 @@ module _ (s : List ℕ) (are : Bytes s) where
       let a = form-read s are 1 (p .size) (p .size-end) (p .size-read) in
       let b = form-read s are (p .size-end) (p .last) (p .start) (p .last-read) in
       let t = part s (p .start) (p .size - p .start) in
-      go (p .size) (p .size-end) (p .last) (p .start) (p .fields) a b (p .large) (p .here) (byte-parsed s 0 2 1 (p .version) .0) (first-byte (p .version))
+      rw (p .ends) (go (p .size) (p .size-end) (p .last) (p .start) (p .fields) a b (p .large) (p .here) (byte-parsed s 0 2 1 (p .version) .0)
+      (first-byte (p .version))
       (fields-found t (part-bytes s (p .start) (p .size - p .start) are) (p .last) (length t) noFields 0 (p .fields) (p .fields-end) (omega arith)
       (p .fields-read))
-      (p .tag-there) (p .is) (p .ends)
+      (p .tag-there) (p .is))
     where
       go : (size m last start : ℕ) (f : Fields) (a : Found (Form size) s 1 m) (b : Found (Form last) s m start) → start ≤ size → size ≤ length s → 0 < length s
           → s ≡ (2 ∷ []) ++ drop 1 s
           → ((told : List Sent) × FieldsLaid last told (part s start (size - start)) × (f ≡ keptAll noFields told))
-          → getD (f .present) 3 false ≡ true → x ≡ seenOf f → used ≡ size → TaggedLaid s x used
-      go size m last start f a b large here some two (told, laid, kept) there is uses =
+          → getD (f .present) 3 false ≡ true → x ≡ seenOf f → TaggedLaid s x size
+      go size m last start f a b large here some two (told, laid, kept) there is =
           let long : length (part s start (size - start)) ≡ size - start = part-length (size - start) s start (omega arith) in
           record {
-            size = size;
             last = last;
             size-bytes = a .bytes;
             last-bytes = b .bytes;
@@ -228,5 +228,4 @@ module _ (s : List ℕ) (are : Bytes s) where
             fields-are = laid;
             tagged = sym (sent-at told 3 (omega arith)) ∙ ap (λ (y : Fields). getD (y .present) 3 false) (sym kept) ∙ there;
             is = is ∙ ap seenOf kept ∙ seen-said told;
-            uses = uses;
           }

@@ -133,14 +133,13 @@ module _ (s : List ℕ) where
 
 pub tagged-reads : (s : List ℕ) (x : Seen) (used : ℕ) → TaggedLaid s x used → tagged s ≡ parsed x used
 tagged-reads s x used laid =
-    let size = laid .size in
     let last = laid .last in
     let a = laid .size-bytes in
     let b = laid .last-bytes in
     let c = laid .fields in
     let d = laid .unread in
-    go size last a b c d (laid .told) (laid .whole ∙ simp append-assoc) (laid .size-is) (laid .last-is)
-    (laid .counts ∙ simp length-append (omega arith)) (laid .fields-are) (laid .tagged) ∙ rw (laid .is, laid .uses)
+    go used last a b c d (laid .told) (laid .whole ∙ simp append-assoc) (laid .size-is) (laid .last-is)
+    (laid .counts ∙ simp length-append (omega arith)) (laid .fields-are) (laid .tagged) ∙ rw (laid .is)
   where
     go : (size last : ℕ) (a b c d : List ℕ) (told : List Sent) → s ≡ (2 ∷ []) ++ (a ++ (b ++ (c ++ d))) → Form size a → Form last b
         → size ≡ 1 + length a + length b + length c → FieldsLaid last told c → sends 3 told ≡ true

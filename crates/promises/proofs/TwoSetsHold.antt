@@ -9,7 +9,6 @@ use lib.ListN.{length, take, drop}
 use lib.Seq.{take-at}
 use borrow.Author.Tests.{leb-true, leb-false, le-leb, lt-leb, lt-ltb}
 use Rattle.misc.specs.Refusal.{Refusal, number, notASet, full, crowded}
-use Rattle.misc.specs.Pick.{pick}
 use Rattle.misc.specs.Output.{Output, refused, bytes, outputOf, answerOf}
 use Rattle.misc.specs.declared.Wrote.{Wrote}
 use Rattle.misc.proofs.ParseLaws.{no-zero}
@@ -33,15 +32,13 @@ use Rattle.gtid_sets.proofs.CombineLaws.{join-is-either}
 use Rattle.set_join.specs.Answers.{savedIf, saved}
 use Rattle.two_sets.specs.Answers.{combinedOutput, combineAnswers, combineLeaves, withinRead, withinAnswers}
 use Rattle.two_sets.specs.declared.AllWithin.{AllWithin}
-use Rattle.abi.specs.Answers.{bit}
 use Rattle.resume_set_laws.specs.History.{member}
 use Rattle.promises.specs.PlainFaults.{ShortFault, WriteFault}
 use Rattle.promises.specs.Exact.{Exactly}
-use Rattle.promises.specs.TwoSets.{Keeps, Lacks, PairFault, CombineFault, ResultAs, CombineAnswer, CombinesExactly, ourCalls, WithinAnswer, allIn}
+use Rattle.promises.specs.TwoSets.{Keeps, Lacks, PairFault, CombineFault, ResultAs, CombineAnswer, CombinesExactly, ourCalls, WithinAnswer}
 use Rattle.promises.specs.TwoSets.{ComparesExactly, Exceeding, TwoSets}
 use Rattle.promises.proofs.LimitsExact.{entry-limit, limits-refuse}
 use Rattle.promises.proofs.AtLimits.{spread, uuids, uuids-laid, fours, oneAndFour, threes, otherThrees}
-use Rattle.promises.proofs.SetsTold.{as-number}
 use Rattle.promises.proofs.SetsExact.{apart, unfit-fault, fault-unfit}
 
 -- ---- a pair of sets
@@ -236,6 +233,10 @@ only-empty u f g h e =
     let alike : form u ≡ form [] = sym this ∙ that in
     cc
 
+-- the answer yes
+abbrev allIn : AllWithin
+allIn = record { refusal = 0; all = true }
+
 module _ (first second : List ℕ) where
   empty-kept : (r : AllWithin) → WithinAnswer first second r → r ≡ allIn → ResultAs without first second (bodyBytes [])
   empty-kept r (WithinAnswer.refused fault) e = clash (ap (λ (x : AllWithin). x .all) e) refl
@@ -250,30 +251,8 @@ module _ (first second : List ℕ) where
       WithinAnswer.inside i j (λ key n here. not-first (has s key n) (has t key n) here
       (sym (ap (λ (x : List Entry). has x key n) (sym none) ∙ k .members key n)))
 
-  empty-exactly : Exactly (withinAnswers first second ≡ allIn) (ResultAs without first second (bodyBytes []))
-  empty-exactly = (
-    λ is. empty-kept (withinAnswers first second) (within-found first second (lentSet first) (lentSet second) refl refl) is,
-    λ is. within-forced first second allIn (kept-empty (bodyBytes []) is refl),
-  )
-
-  numbers-exactly : (r : AllWithin)
-      → Exactly ((withinAnswers first second .refusal ≡ r .refusal) × (bit (withinAnswers first second .all) ≡ pick (r .all) 1 0)) (WithinAnswer first second r)
-  numbers-exactly r = (
-    λ (number, one). rw (same-answer (withinAnswers first second) r number one) at (within-found first second (lentSet first) (lentSet second) refl refl),
-    λ is. rw (within-forced first second r is) (refl, as-number (r .all)),
-  )
-    where
-      same-bit : (x y : Bool) → bit x ≡ pick y 1 0 → x ≡ y
-      same-bit true true e = refl
-      same-bit true false e = absurd (omega arith)
-      same-bit false true e = absurd (omega arith)
-      same-bit false false e = refl
-
-      same-answer : (a b : AllWithin) → a .refusal ≡ b .refusal → bit (a .all) ≡ pick (b .all) 1 0 → a ≡ b
-      same-answer a b p q =
-          let same : a .all ≡ b .all = same-bit (a .all) (b .all) q in
-          let parts : _≡_ {A = AllWithin} (record { refusal = a .refusal; all = a .all }) (record { refusal = b .refusal; all = b .all }) = rw (p, same) in
-          parts
+  empty-exactly : Exactly (WithinAnswer first second allIn) (ResultAs without first second (bodyBytes []))
+  empty-exactly = (λ is. empty-kept allIn is refl, λ is. kept-empty (bodyBytes []) is refl)
 
 -- one set twice
 module _ (set : List ℕ) (s : List Entry) (i : SetLaid set s) where
@@ -290,10 +269,8 @@ module _ (set : List ℕ) (s : List Entry) (i : SetLaid set s) where
   both-itself true = refl
   both-itself false = refl
 
-  with-itself : ResultAs either set set set × ResultAs both set set set × ResultAs without set set (bodyBytes []) × WithinAnswer set set allIn
-  with-itself =
-      let all : WithinAnswer set set allIn = WithinAnswer.inside i i (λ k n h. h) in
-      (whole either either-itself, whole both both-itself, empty-kept set set allIn all refl, all)
+  with-itself : ResultAs either set set set × ResultAs both set set set
+  with-itself = (whole either either-itself, whole both both-itself)
 
 -- ---- results that are too great
 
@@ -340,5 +317,4 @@ two-sets = record {
   joined = λ s es f good.
       let l = lawful-holds es good in
       rw (join-is-either es s l f) (keeps-combined either refl s (takeIn es) f (form-takeIn es l));
-  «gtid_within» = numbers-exactly;
 }

@@ -136,19 +136,16 @@ module _ (s : List ℕ) (are : Bytes s) where
       let third = number-found s 8 (o .at₂) (o .gno) at (o .gno-read) in
       let (_, _, three) = le-parsed 8 s (o .at₂) (o .gno) at (o .gno-read) in
       let eight = third .holds .long in
-      record {
-        flags = o .flags;
-        uuid = o .sid;
-        gno = o .gno;
+      rw (o .is) (record {
         gno-bytes = third .bytes;
         unread = drop at s;
         whole = first ∙ rw (second, third .is) (simp append-assoc);
         uuid-is = sixteen;
         gno-is = third .holds;
         no-typecode = no-typecode s at none;
-        is = o .is;
+        others = refl;
         uses = simp length-append (omega arith);
-      }
+      })
 
   module _ {event : GtidEvent} {at : ℕ} (o : OpeningParts s 0 event at) (two : typecodeAt s at ≡ true) where
     long-laid : (last sequence : ℕ) (timestamps : Pair) (len : ℕ) (versions : Pair) (at₁ at₂ at₃ at₄ next : ℕ) → leAt 8 s (at + 1) ≡ parsed last at₁
@@ -165,17 +162,7 @@ module _ (s : List ℕ) (are : Bytes s) where
         let times = left-found s are 7 (omega arith) 0 at₂ i o′ at₃ (sixth .inside) p₃ in
         let size = length-found s at₃ len at₄ (times .inside) p₄ in
         let servers = left-found s are 4 (omega arith) 999999 at₄ v ov next (size .inside) p₅ in
-        record {
-          flags = o .flags;
-          uuid = o .sid;
-          gno = o .gno;
-          last = last;
-          sequence = sequence;
-          immediate = i;
-          original = o′;
-          len = len;
-          version = v;
-          original-version = ov;
+        rw (o .is) (record {
           gno-bytes = third .bytes;
           last-bytes = fifth .bytes;
           sequence-bytes = sixth .bytes;
@@ -192,7 +179,7 @@ module _ (s : List ℕ) (are : Bytes s) where
               (size .is ∙ ap (λ (l : List ℕ). size .bytes ++ l) (servers .is) ∙ sym (append-assoc (size .bytes) (servers .bytes) (drop next s))) (times .holds);
           len-is = subst (λ (l : List ℕ). LengthIfLeft len (size .bytes) l) (servers .is) (size .holds);
           versions-are = servers .holds;
-          is = ap (λ (x : GtidEvent). clocked x last sequence (pair i o′) len (pair v ov)) (o .is);
+          others = (refl, refl, refl, refl);
           uses = simp length-append (omega (
             arith,
             sixteen,
@@ -208,7 +195,7 @@ module _ (s : List ℕ) (are : Bytes s) where
             found-size s size (times .inside),
             found-size s servers (size .inside),
           ));
-        }
+        })
 
   pub untagged-accepted : (e : GtidEvent) (used : ℕ) → untagged s ≡ parsed e used → UntaggedLaid s e used
   unfolding untagged

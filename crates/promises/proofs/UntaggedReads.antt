@@ -7,7 +7,7 @@ use mathlib.Core.Logic.{inl, inr}
 use native.Mathlib.Nat.{add-zero, pow-suc}
 use native.Mathlib.Numerals.{add-one}
 use native.Mathlib.Omega.{arith}
-use lib.ListN.{length, length-append}
+use lib.ListN.{length, replicate, length-append}
 use borrow.Author.Tests.{le-leb, lt-leb}
 use Rattle.misc.specs.Parse.{parsed, part}
 use Rattle.misc.specs.Le.{leOf}
@@ -16,10 +16,37 @@ use Rattle.misc.specs.Forms.{Number}
 use Rattle.misc.proofs.MarkLaws.{top-bit-clear, top-bit-set}
 use Rattle.misc.proofs.Places.{From, from-size, from-room, from-next, from-part, from-first}
 use Rattle.misc.proofs.FormsRead.{number-reads, lenenc-reads, lenenc-some}
+use Rattle.gtid_event.specs.Event.{setNumber, setOthers}
 use Rattle.gtid_event.specs.declared.GtidEvent.{GtidEvent}
 use Rattle.gtid_event_read.specs.Untagged.{pair, ifLeft, pairAt, timestampsAt, lengthAt, versionsAt, openingAt, untagged}
 use Rattle.gtid_event_read.proofs.UntaggedLaws.{opening-here, untagged-clock, untagged-other, untagged-end, clock-later}
-use Rattle.promises.specs.UntaggedLayout.{PairLaid, PairIfLeft, LengthIfLeft, NoTypecode, untaggedRecord, UntaggedLaid}
+use Rattle.promises.specs.UntaggedLayout.{PairLaid, PairIfLeft, LengthIfLeft, NoTypecode, UntaggedLaid}
+
+-- ---- a record without a tag and a ticket, and what is one
+
+abbrev untaggedRecord : ℕ → List ℕ → ℕ → ℕ → ℕ → ℕ → ℕ → ℕ → ℕ → ℕ → ℕ → GtidEvent
+untaggedRecord flags uuid gno typecode last sequence immediate original len version originalVersion =
+    record {
+      flags = flags;
+      sid = uuid;
+      gno = gno;
+      tag = replicate 32 0;
+      «tag_len» = 0;
+      «lc_typecode» = typecode;
+      «last_committed» = last;
+      «sequence_number» = sequence;
+      «immediate_commit_timestamp» = immediate;
+      «original_commit_timestamp» = original;
+      «tx_length» = len;
+      «immediate_server_version» = version;
+      «original_server_version» = originalVersion;
+      «commit_group_ticket» = 0;
+    }
+
+whole-record : (e : GtidEvent) (typecode : ℕ) (tag : List ℕ) (len ticket : ℕ) → e .«lc_typecode» ≡ typecode → e .tag ≡ tag → e .«tag_len» ≡ len
+    → e .«commit_group_ticket» ≡ ticket
+    → setNumber 11 ticket (setOthers (e .sid) tag len typecode e) ≡ e
+whole-record e typecode tag len ticket a b c d = rw (← a, ← b, ← c, ← d)
 
 -- ---- the highest bit of a number of w bytes
 
@@ -117,19 +144,22 @@ module _ (s : List ℕ) where
 
 pub untagged-reads : (s : List ℕ) (e : GtidEvent) (used : ℕ) → UntaggedLaid s e used → untagged s ≡ parsed e used
 untagged-reads s e used (inl l) =
-    let h : From s 0 ((l .flags ∷ []) ++ (l .uuid ++ (l .gno-bytes ++ l .unread))) = record { is = l .whole ∙ simp append-assoc; inside = omega arith } in
-    let (read, rest) = opening-reads s (l .flags) (l .gno) (l .uuid) (l .gno-bytes) (l .unread) (l .uuid-is) (l .gno-is) h in
+    let h : From s 0 ((e .flags ∷ []) ++ (e .sid ++ (l .gno-bytes ++ l .unread))) = record { is = l .whole ∙ simp append-assoc; inside = omega arith } in
+    let (read, rest) = opening-reads s (e .flags) (e .gno) (e .sid) (l .gno-bytes) (l .unread) (l .uuid-is) (l .gno-is) h in
     let end : 25 ≡ used = sym (l .uses ∙ simp length-append (omega (arith, l .uuid-is, l .gno-is .long))) in
-    short-reads s _ (l .unread) (l .no-typecode) rest read ∙ rw (l .is, end)
+    short-reads s _ (l .unread) (l .no-typecode) rest read ∙ ap (λ (x : GtidEvent). parsed x 25) (sym (l .others)) ∙ ap (parsed e) end
 untagged-reads s e used (inr l) =
     let behind = (2 ∷ []) ++ (l .last-bytes ++ (l .sequence-bytes ++ (l .timestamps ++ (l .len-bytes ++ (l .versions ++ l .unread))))) in
-    let h : From s 0 ((l .flags ∷ []) ++ (l .uuid ++ (l .gno-bytes ++ behind))) = record { is = l .whole ∙ simp append-assoc; inside = omega arith } in
-    let (read, rest) = opening-reads s (l .flags) (l .gno) (l .uuid) (l .gno-bytes) behind (l .uuid-is) (l .gno-is) h in
+    let h : From s 0 ((e .flags ∷ []) ++ (e .sid ++ (l .gno-bytes ++ behind))) = record { is = l .whole ∙ simp append-assoc; inside = omega arith } in
+    let (read, rest) = opening-reads s (e .flags) (e .gno) (e .sid) (l .gno-bytes) behind (l .uuid-is) (l .gno-is) h in
     let end : 42 + length (l .timestamps) + length (l .len-bytes) + length (l .versions) ≡ used =
     sym (l .uses ∙ simp length-append (omega (arith, l .uuid-is, l .gno-is .long, l .last-is .long, l .sequence-is .long))) in
-    let times : PairIfLeft 7 0 (l .immediate) (l .original) (l .timestamps) (l .len-bytes ++ (l .versions ++ l .unread)) =
+    let times : PairIfLeft 7 0 (e .«immediate_commit_timestamp») (e .«original_commit_timestamp») (l .timestamps) (l .len-bytes ++ (l .versions ++ l .unread)) =
     rw append-assoc at (l .timestamps-are) in
-    long-reads s (l .flags) (l .gno) (l .last) (l .sequence) (l .immediate) (l .original) (l .len) (l .version) (l .original-version)
-    (l .uuid) (l .last-bytes) (l .sequence-bytes) (l .timestamps) (l .len-bytes) (l .versions) (l .unread) read rest
+    long-reads s (e .flags) (e .gno) (e .«last_committed») (e .«sequence_number») (e .«immediate_commit_timestamp») (e .«original_commit_timestamp»)
+    (e .«tx_length») (e .«immediate_server_version») (e .«original_server_version»)
+    (e .sid) (l .last-bytes) (l .sequence-bytes) (l .timestamps) (l .len-bytes) (l .versions) (l .unread) read rest
     (l .last-is) (l .sequence-is) times (l .len-is) (l .versions-are)
-    ∙ rw (l .is, end)
+    ∙ ap (λ (x : GtidEvent). parsed x (42 + length (l .timestamps) + length (l .len-bytes) + length (l .versions)))
+    (whole-record e 2 (replicate 32 0) 0 0 (l .others .0) (l .others .1) (l .others .2) (l .others .3))
+    ∙ ap (parsed e) end

@@ -40,13 +40,6 @@ NewVersions new = (s : List ℕ) (e : GtidEvent) (used : ℕ) → Unversioned s 
 abbrev pub KeepsVersions : (List ℕ → GtidEvent → EventStep) → Type 0
 KeepsVersions step = (tag : List ℕ) (e : GtidEvent) → isTag tag ≡ true → serverVersions (step tag e .event) ≡ serverVersions e
 
--- a new untagged record without its typecode, and its bytes: flags, uuid, gno
-abbrev pub bare : List ℕ → ℕ → GtidEvent
-bare sid gno = setTypecode 0 (newUntagged sid gno)
-
-abbrev pub bareBytes : List ℕ → ℕ → List ℕ
-bareBytes sid gno = 0 ∷ (sid ++ leBytes 8 gno)
-
 pub record Building : Type 0 where
   -- new records and steps, part by part
   pub built : Built
@@ -55,8 +48,8 @@ pub record Building : Type 0 where
   pub tagged : (tag : List ℕ) → isTag tag ≡ true → NewVersions (λ sid gno. newTagged sid tag gno .event)
   -- a tag keeps the versions that it finds, also those that were set to 0 (`zeros-kept` of proofs/BuildingHolds.antt)
   pub kept : KeepsVersions withTag
-  -- without its typecode a new untagged record is written, as 25 bytes, and comes back equal from them
+  -- without its typecode a new untagged record is written, as 25 bytes, flags, uuid and gno, and comes back equal from them
   pub written : (sid : List ℕ) (gno : ℕ) → length sid ≡ 16 → Bytes sid → gno < 2 ^ 64
-      → (eventOutput (bare sid gno) ≡ bytes (bareBytes sid gno))
-      × (length (bareBytes sid gno) ≡ 25)
-      × (gtid 33 (bareBytes sid gno) ≡ parsed (bare sid gno) 25)
+      → let bare : GtidEvent = setTypecode 0 (newUntagged sid gno) in
+      let bs : List ℕ = 0 ∷ (sid ++ leBytes 8 gno) in
+      (eventOutput bare ≡ bytes bs) × (length bs ≡ 25) × (gtid 33 bs ≡ parsed bare 25)

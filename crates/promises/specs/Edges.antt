@@ -5,7 +5,7 @@ use mathlib.Core.Bool.{true}
 use mathlib.Core.List.{List, [], _∷_, _++_, map}
 use lib.IntN.{pos, negsuc}
 use lib.ListN.{length, replicate}
-use Rattle.misc.specs.Parse.{Parse, refuse, parsed}
+use Rattle.misc.specs.Parse.{uintRead}
 use Rattle.misc.specs.Lenenc.{lenencBytes}
 use Rattle.misc.specs.Varlen.{varlenAt, varlenSize, varlenBytes}
 use Rattle.misc.specs.Signed.{sentAs}
@@ -29,11 +29,6 @@ use Rattle.abi.specs.Answers.{headNumbers, bit}
 use Rattle.abi.specs.Flat.{flat, flatRead}
 
 -- ---- numbers, values and sets as lists of numbers
-
--- a value that was read, and the bytes that it took; a refusal has neither
-abbrev readAs : Parse ℕ → List ℕ
-readAs (refuse r) = []
-readAs (parsed v used) = v ∷ used ∷ []
 
 -- which fields were there
 abbrev present : ℕ → List ℕ → ℕ
@@ -59,9 +54,7 @@ small = setTag (97 ∷ []) (setNumber 5 1 (fresh (replicate 16 0) 1 0 0))
 -- its bytes: the envelope with the size as it is sent, then flags, uuid, gno, tag, last_committed, sequence_number, and what follows
 abbrev smallThen : ℕ → List ℕ → List ℕ
 smallThen size rest =
-    (2 ∷ size ∷ 0 ∷ []) ++ (0 ∷ 0 ∷ []) ++ (2 ∷ replicate 16 0) ++ (4 ∷ 4 ∷ []) ++ (6 ∷ 2 ∷ 97 ∷ [])
-    ++ (8 ∷ 0 ∷ []) ++ (10 ∷ 4 ∷ [])
-    ++ rest
+    (2 ∷ size ∷ 0 ∷ []) ++ (0 ∷ 0 ∷ []) ++ (2 ∷ replicate 16 0) ++ (4 ∷ 4 ∷ []) ++ (6 ∷ 2 ∷ 97 ∷ []) ++ (8 ∷ 0 ∷ []) ++ (10 ∷ 4 ∷ []) ++ rest
 
 -- timestamp, transaction length and server version follow
 abbrev smallBytes : List ℕ
@@ -150,7 +143,7 @@ edges =
     -- -1 is 02; 63 is FC; 64 is 01 02; -2^63 is nine FF
     ++ of (λ v. varlenBytes (sentAs v)) ((negsuc 0, 2 ∷ []) ∷ (pos 63, 252 ∷ []) ∷ (pos 64, 1 ∷ 2 ∷ []) ∷ (negsuc (2 ^ 63 - 1), ones 9) ∷ [])
     -- 01 00 reads as 0, two bytes used
-    ++ numbers (readAs (varlenAt (1 ∷ 0 ∷ []) 0)) (0 ∷ 2 ∷ [])
+    ++ numbers (let r = uintRead (varlenAt (1 ∷ 0 ∷ []) 0) in r .refusal ∷ r .value ∷ r .next ∷ []) (0 ∷ 0 ∷ 2 ∷ [])
     -- length-encoded: 250 is FA; 251 is FC FB 00; 2^16-1 is FC FF FF; 2^16 is FD 00 00 01
     ++ of lenencBytes ((250, 0xFA ∷ []) ∷ (251, 0xFC ∷ 0xFB ∷ 0 ∷ []) ∷ (65535, 0xFC ∷ ones 2) ∷ (65536, 0xFD ∷ 0 ∷ 0 ∷ 1 ∷ []) ∷ [])
     -- 2^24-1 is FD FF FF FF; 2^24 is FE 00 00 00 01 00 00 00 00

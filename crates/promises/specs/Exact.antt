@@ -1,6 +1,7 @@
 -- Demand 1, "given exactly when": every public function that can refuse, by its name, and once where some promise the same. Its answer is the right
 -- side of the function's own promise, and it refuses with a number exactly where the case of that number holds. From this follows that no two cases with
--- different numbers hold at once, and that a call accepts exactly where no case holds (`one-case` and `accepted` of proofs/OneOutcome.antt).
+-- different numbers hold at once, so that the tables say which of several faults counts, and that a call accepts exactly where no case holds (`one-case`
+-- and `accepted` of proofs/OneOutcome.antt).
 use Prim.Native.Nat.{ℕ, _+_, _*_, _≤_}
 use mathlib.Core.Path.{_≡_}
 use mathlib.Core.Bool.{Bool, true, false}
@@ -30,10 +31,10 @@ use Rattle.gtid_event_write.specs.Write.{eventBytes, eventOutput, lengthOf}
 use Rattle.gtid_sets.specs.Lent.{lentSet, SetLaid}
 use Rattle.set_check.specs.Check.{checkedOf}
 use Rattle.set_join.specs.Answers.{contained, takeInAnswers}
-use Rattle.resume_set.specs.Answers.{setRead, offerAnswers, offerLeaves}
+use Rattle.resume_set.specs.Answers.{setRead}
 use Rattle.resume_set.specs.declared.Offered.{Offered}
 use Rattle.listing.specs.SetText.{setText, listedSet}
-use Rattle.abi.specs.Answers.{numbersOf, entryIn}
+use Rattle.abi.specs.Answers.{entryIn}
 use Rattle.abi.specs.Flat.{flat, flatRead, readOutput, readUsed, writeOutput}
 use Rattle.resume_set_laws.specs.History.{Turn, Offering, member}
 use Rattle.promises.specs.Meaning.{RecordLaid}
@@ -144,13 +145,9 @@ pub data FlatFault (fields : List ℕ) : ℕ → Type 0 where
   badRecord : {n : ℕ} → length fields ≡ 116 → RecordFault (flatRead fields) n → FlatFault fields n
 
 -- `gtid_read_varlen_uint`, `gtid_check_set`, `gtid_contains`, `gtid_take_in`, `gtid_read_previous` and `gtid_rewrite` promise the right sides of the calls
--- that they are named for (the first at the place 0), and so what is said of those holds of them
+-- that they are named for (the first at the place 0), and so what is said of those holds of them; so does `gtid_offer`, in numbers (`SetsTold`)
 pub record ArchiveExact : Type 0 where
   pub «gtid_read_entry» : (body : List ℕ) (at : ℕ) → Bytes body → RefusesExactly (entryRead (entryIn body at) .refusal) (OfBody body (HeadedFault 1 at body))
-  -- its numbers tell every answer from every other
-  pub «gtid_offer» : (set : List ℕ) (type : ℕ) (body out : List ℕ) (a : Offered) (l : List ℕ) → Bytes body
-      → Exactly ((numbersOf (offerAnswers set type body out) ≡ numbersOf a)
-      × (offerLeaves set type body out ≡ l)) (OfferAnswer set type body out a l)
   -- a record that is read into 116 bytes, also by `gtid_read_present`: what is answered for 13 in the place of the bytes used is the length that is needed
   pub «gtid_read» : (type : ℕ) (body out : List ℕ) → Bytes body
       → WritesExactly (record { refusal = answerOf out (readOutput (gtid type body)) .refusal; len = readUsed (gtid type body) (length out) })

@@ -19,7 +19,7 @@ use Rattle.resume_set.specs.declared.Offered.{Offered}
 use Rattle.resume_set.specs.declared.Offered.the-variants as offered
 use Rattle.resume_set_laws.specs.History.{Tells}
 use Rattle.binlog.specs.Format.{trailer}
-use Rattle.binlog.specs.Run.{did, fails, walking, Word, chunk, end, spelled}
+use Rattle.binlog.specs.Run.{did, fails, Word, chunk, end, spelled}
 use Rattle.binlog.specs.Layout.{Says, EndSays}
 use Rattle.binlog.specs.Walk.{isWhole}
 use Rattle.binlog.specs.Held.{made, needs, placeOf, Front}
@@ -32,8 +32,8 @@ use Rattle.binlog_reader.specs.declared.Said.{Said}
 use Rattle.binlog_reader.specs.declared.Said.the-variants.{MoreWanted, Ended, Event, Refused}
 use Rattle.binlog_reader.specs.declared.Reader.{Reader}
 use Rattle.binlog_reader.specs.declared.Answer.{Answer}
-use Rattle.binlog_laws.specs.Files.{FileTurn, fileComes, FileReading, readIn, startOf, ourFiles, FilesTell, FilesAgain}
-use Rattle.binlog_laws.specs.Loop.{Lending, StepsTo, isRefusal, Stands, DrivesHears}
+use Rattle.binlog_laws.specs.Files.{FileTurn, fileComes, FileRead, readIn, startOf, ourFiles, FilesTell, FilesAgain}
+use Rattle.binlog_laws.specs.Loop.{Lending, StepsTo, Stands, DrivesHears}
 use Rattle.abi.specs.FlatBinlog.{phaseNumbers, readerIn, flatSays, flatKeeps, flatBuffer}
 use Rattle.promises.specs.BodyFaults.{BodyFault}
 use Rattle.promises.specs.PlainFaults.{ShortFault}
@@ -83,49 +83,37 @@ pub data ActFault (set : List ℕ) (type : ℕ) (body : List ℕ) (room : ℕ) :
   joining : {n len : ℕ} → type ≡ 35 → JoinFault set body room n len → ActFault set type body room n len
   offering : {n len : ℕ} → (type ≡ 35 → ⊥) → OfferFault set type body room n len → ActFault set type body room n len
 
-pub record EventsJudged : Type 0 where
-  pub refused : (room : ℕ) (set : List ℕ) (type : ℕ) (body : List ℕ) (r : Refusal) (len : ℕ) → Bytes body
-      → Exactly (acts room set type body ≡ fails r len) (ActFault set type body room (number r) len)
-  pub joined : (room : ℕ) (set body after : List ℕ) → Bytes body → Exactly (acts room set 35 body ≡ did told.Joined after) (JoinedAs set body room after)
-  pub offered : (room : ℕ) (set : List ℕ) (type : ℕ) (body : List ℕ) (t : Told) (after : List ℕ) → (type ≡ 35 → ⊥) → Bytes body
+pub record EventsJudged (set body : List ℕ) (room : ℕ) : Type 0 where
+  pub refused : (type : ℕ) (r : Refusal) (len : ℕ) → Exactly (acts room set type body ≡ fails r len) (ActFault set type body room (number r) len)
+  pub joined : (after : List ℕ) → Exactly (acts room set 35 body ≡ did told.Joined after) (JoinedAs set body room after)
+  pub offered : (type : ℕ) (t : Told) (after : List ℕ) → (type ≡ 35 → ⊥)
       → Exactly (acts room set type body ≡ did t after) (AcceptedAs set type body room t after)
   -- refusals of `join_in` and `join`, which write the set
-  pub «join_in» : (set body out : List ℕ) → Bytes body → WritesExactly (joinAnswers set body out) (JoinFault set body (length out))
+  pub «join_in» : (out : List ℕ) → WritesExactly (joinAnswers set body out) (JoinFault set body (length out))
 
 -- ---- what reading a file comes to
 
--- bytes, and word that the file has ended, if it has
-abbrev pub wordsOf : List ℕ → Bool → List Word
-wordsOf bs false = chunk bs ∷ []
-wordsOf bs true = chunk bs ∷ end ∷ []
-
-pub record ReadsFiles (room : ℕ) (f : FileReading) : Type 0 where
+-- by what arrives, from a set, and whether checksums end the events
+pub record ReadsFiles (room : ℕ) (set : List ℕ) (checksums : Bool) (f : List Word → FileRead) : Type 0 where
   -- 14: it was begun with what is no set
-  pub start : (set : List ℕ) (checksums : Bool) (ws : List Word) → SetFault set 14 → f set checksums ws ≡ record { judged = []; said = Refused 14 0; set = set }
-  -- all bytes that came, and whether the end was named: it is the walk over them, however they came
-  pub walks : (set : List ℕ) (s : List Entry) (checksums named : Bool) (bs : List ℕ) (ws : List Word) → SetLaid set s
-      → spelled ws ≡ spelled (wordsOf bs named) → f set checksums ws ≡ readIn (walking (does room) (trailer checksums) set bs named)
-  -- the same by the layout: there is a case for any bytes, and a case forces what is read
-  pub comes : (set : List ℕ) (s : List Entry) (checksums : Bool) (bs : List ℕ) → SetLaid set s
-      → (run : SetRun) × Says (does room) (trailer checksums) set bs run × (f set checksums (chunk bs ∷ []) ≡ readIn run)
-  pub says : (set : List ℕ) (s : List Entry) (checksums : Bool) (bs : List ℕ) (run : SetRun) → SetLaid set s → Says (does room) (trailer checksums) set bs run
-      → f set checksums (chunk bs ∷ []) ≡ readIn run
+  pub start : (ws : List Word) → SetFault set 14 → f ws ≡ record { judged = []; said = Refused 14 0; set = set }
+  -- all bytes that came, here as one chunk, by the layout: there is a case for any bytes, and a case forces what is read
+  pub comes : (s : List Entry) (bs : List ℕ) → SetLaid set s
+      → (run : SetRun) × Says (does room) (trailer checksums) set bs run × (f (chunk bs ∷ []) ≡ readIn run)
+  pub says : (s : List Entry) (bs : List ℕ) (run : SetRun) → SetLaid set s → Says (does room) (trailer checksums) set bs run → f (chunk bs ∷ []) ≡ readIn run
   -- and where the end was named behind them
-  pub ends : (set : List ℕ) (s : List Entry) (checksums : Bool) (bs : List ℕ) → SetLaid set s
-      → (run : SetRun) × EndSays (does room) (trailer checksums) set bs run × (f set checksums (chunk bs ∷ end ∷ []) ≡ readIn run)
-  pub end-says : (set : List ℕ) (s : List Entry) (checksums : Bool) (bs : List ℕ) (run : SetRun) → SetLaid set s
-      → EndSays (does room) (trailer checksums) set bs run → f set checksums (chunk bs ∷ end ∷ []) ≡ readIn run
-  -- cutting the same file elsewhere gives equal answers, set and end state; empty chunks change nothing
-  pub cut : (set : List ℕ) (checksums : Bool) (us ws : List Word) → spelled us ≡ spelled ws → f set checksums us ≡ f set checksums ws
-  pub empty : (set : List ℕ) (checksums : Bool) (us ws : List Word) → f set checksums (us ++ chunk [] ∷ ws) ≡ f set checksums (us ++ ws)
+  pub ends : (s : List Entry) (bs : List ℕ) → SetLaid set s
+      → (run : SetRun) × EndSays (does room) (trailer checksums) set bs run × (f (chunk bs ∷ end ∷ []) ≡ readIn run)
+  pub end-says : (s : List Entry) (bs : List ℕ) (run : SetRun) → SetLaid set s → EndSays (does room) (trailer checksums) set bs run
+      → f (chunk bs ∷ end ∷ []) ≡ readIn run
+  -- it is the same however they came: cutting the same file elsewhere gives equal answers, set and end state; and an empty chunk spells nothing
+  pub cut : (us ws : List Word) → spelled us ≡ spelled ws → f us ≡ f ws
   -- naming the end again repeats the answer; bytes behind an end that was answered well are 18, and change nothing else
-  pub end-again : (set : List ℕ) (checksums : Bool) (ws : List Word) → f set checksums (ws ++ end ∷ end ∷ []) ≡ f set checksums (ws ++ end ∷ [])
-  pub behind-end : (set : List ℕ) (checksums : Bool) (ws : List Word) (b : ℕ) (bs : List ℕ) → f set checksums (ws ++ end ∷ []) .said ≡ Ended
-      → f set checksums (ws ++ end ∷ chunk (b ∷ bs) ∷ [])
-      ≡ record { judged = f set checksums (ws ++ end ∷ []) .judged; said = Refused 18 0; set = f set checksums (ws ++ end ∷ []) .set }
+  pub end-again : (ws : List Word) → f (ws ++ end ∷ end ∷ []) ≡ f (ws ++ end ∷ [])
+  pub behind-end : (ws : List Word) (b : ℕ) (bs : List ℕ) → f (ws ++ end ∷ []) .said ≡ Ended
+      → f (ws ++ end ∷ chunk (b ∷ bs) ∷ []) ≡ record { judged = f (ws ++ end ∷ []) .judged; said = Refused 18 0; set = f (ws ++ end ∷ []) .set }
   -- after any refusal all that comes repeats it, and the set stays as the events before made it
-  pub stays : (set : List ℕ) (checksums : Bool) (us ws : List Word) (n len : ℕ) → f set checksums us .said ≡ Refused n len
-      → f set checksums (us ++ ws) ≡ f set checksums us
+  pub stays : (us ws : List Word) (n len : ℕ) → f us .said ≡ Refused n len → f (us ++ ws) ≡ f us
 
 -- ---- refusals of a step
 
@@ -144,12 +132,10 @@ pub record RefusesAtOnce (r : Reader) (s : Stepped) (n len : ℕ) : Type 0 where
 
 -- before any byte is looked at, and so wherever the file was cut: 12 for a phase that no call made; 13, with what is needed, for one that needs work bytes
 -- and has too few; and a refusal that came before
-pub record StepsRefuse : Type 0 where
-  pub forged : (r : Reader) (work set chunk : List ℕ) (spare : ℕ) → made (r .phase) ≡ false → RefusesAtOnce r (stepOf r work set spare chunk) 12 0
-  pub short : (r : Reader) (work set chunk : List ℕ) (spare : ℕ) → made (r .phase) ≡ true → needs (r .phase) ≡ 65540 → length work < 65540
-      → RefusesAtOnce r (stepOf r work set spare chunk) 13 65540
-  pub again : (r : Reader) (work set chunk : List ℕ) (spare n len : ℕ) → 0 < n → r .phase ≡ phase.Stopped n len
-      → RefusesAtOnce r (stepOf r work set spare chunk) n len
+pub record StepsRefuse (r : Reader) (work set chunk : List ℕ) (spare : ℕ) : Type 0 where
+  pub forged : made (r .phase) ≡ false → RefusesAtOnce r (stepOf r work set spare chunk) 12 0
+  pub short : made (r .phase) ≡ true → needs (r .phase) ≡ 65540 → length work < 65540 → RefusesAtOnce r (stepOf r work set spare chunk) 13 65540
+  pub again : (n len : ℕ) → 0 < n → r .phase ≡ phase.Stopped n len → RefusesAtOnce r (stepOf r work set spare chunk) n len
 
 -- an event whose body is bytes
 abbrev pub TurnBytes : FileTurn → Type 0
@@ -170,8 +156,8 @@ pub record ArchiveReads : Type 0 where
 -- ---- together
 
 pub record Files : Type 0 where
-  pub events : EventsJudged
-  pub reads : (room : ℕ) → ReadsFiles room (ourFiles room)
+  pub events : (set body : List ℕ) (room : ℕ) → Bytes body → EventsJudged set body room
+  pub reads : (room : ℕ) (set : List ℕ) (checksums : Bool) → ReadsFiles room set checksums (ourFiles room set checksums)
   -- demand 3: members, whatever the room; and replay, where there is room for any set
   pub tells : (room : ℕ) → FilesTell room (ourFiles room)
   pub again : FilesAgain (ourFiles longestSet)
@@ -184,8 +170,8 @@ pub record Files : Type 0 where
   pub begins : (m : Lending) (set : List ℕ) (checksums : Bool) → m .reader ≡ beginAnswers set checksums .reader → Front set (m .set)
       → 65540 ≤ length (m .work) → Stands (min (length (m .set)) (length (m .spare))) m (startOf set)
   pub loop : DrivesHears
-  pub refuses : StepsRefuse
+  pub refuses : (r : Reader) (work set chunk : List ℕ) (spare : ℕ) → StepsRefuse r work set chunk spare
   -- a step from where no event waits to be judged, as after any call, uses a byte at least, where there is one, or refuses
   pub onward : (m m′ : Lending) (bs : List ℕ) (r : Answer) → isWhole (placeOf (m .reader .phase) (m .work)) ≡ false → StepsTo m bs r m′
-      → 0 < length bs → (0 < r .used) ⊎ (isRefusal (r .said) ≡ true)
+      → 0 < length bs → (0 < r .used) ⊎ ((n : ℕ) × (len : ℕ) × (r .said ≡ Refused n len))
   pub archive : ArchiveReads

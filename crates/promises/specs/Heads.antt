@@ -1,17 +1,17 @@
 -- Two heads, one answer (CR 9): which of two sets contains the other, and what is handed back. Each answer by its case, both ways, over members; and by what
--- the calls of `TwoSets` say.
+-- `either` gives.
 use Prim.Native.Nat.{ℕ}
 use mathlib.Core.Path.{_≡_}
 use mathlib.Core.List.{List, []}
 use Rattle.previous_gtids_event.specs.Entry.{Entry}
 use Rattle.gtid_sets.specs.Lent.{SetLaid}
 use Rattle.gtid_sets.specs.Combine.{either}
-use Rattle.two_sets.specs.Answers.{withinAnswers, whichAnswers, partOf, placeOf}
+use Rattle.two_sets.specs.Answers.{whichAnswers, partOf, placeOf}
 use Rattle.two_sets.specs.declared.Choice.{Choice}
 use Rattle.two_sets.specs.declared.Choice.the-variants.{First, Second, Refused}
 use Rattle.abi.specs.Answers.{headNumbers}
 use Rattle.promises.specs.Exact.{Exactly}
-use Rattle.promises.specs.TwoSets.{Contains, Lacks, PairFault, ResultAs, allIn, notAllIn}
+use Rattle.promises.specs.TwoSets.{Contains, Lacks, PairFault, ResultAs}
 
 -- ---- which one
 
@@ -55,24 +55,11 @@ ourHead = record {
   place = λ first second p q. placeOf (whichAnswers first second) p q;
 }
 
--- ---- the archive's numbers: the refusal, and which one
-
-pub data HeadTold (first second : List ℕ) : ℕ → ℕ → Type 0 where
-  first : HeadAnswer first second First → HeadTold first second 0 1
-  second : HeadAnswer first second Second → HeadTold first second 0 2
-  refused : {n : ℕ} → HeadFault first second n → HeadTold first second n 0
-
 -- ---- together
 
 pub record Heads : Type 0 where
   pub which : ChoosesExactly whichAnswers
   pub head : HandsExactly ourHead
-  -- by what `within` says, asked both ways: 22 exactly if it says no twice
-  pub within-first : (first second : List ℕ) → Exactly (whichAnswers first second ≡ First) (withinAnswers second first ≡ allIn)
-  pub within-second : (first second : List ℕ)
-      → Exactly (whichAnswers first second ≡ Second) ((withinAnswers first second ≡ allIn) × (withinAnswers second first ≡ notAllIn))
-  pub within-neither : (first second : List ℕ)
-      → Exactly (whichAnswers first second ≡ Refused 22) ((withinAnswers first second ≡ notAllIn) × (withinAnswers second first ≡ notAllIn))
   -- what is handed back is the set of the ids in either
   pub united-first : (first second : List ℕ) → HeadAnswer first second First → ResultAs either first second first
   pub united-second : (first second : List ℕ) → HeadAnswer first second Second → ResultAs either first second second
@@ -80,7 +67,6 @@ pub record Heads : Type 0 where
   pub empty : (first second : List ℕ) → Exactly (ourHead .part first second ≡ []) ((n : ℕ) × HeadFault first second n)
   -- the same bytes, whichever is lent first
   pub turned : (first second : List ℕ) → ourHead .part first second ≡ ourHead .part second first
-  -- one set lent twice, at one place or at two, the empty set too: the first
-  pub twice : (set : List ℕ) (s : List Entry) (p q : ℕ × ℕ) → SetLaid set s → HandedBack set set p q set p
-  pub «gtid_head» : (first second : List ℕ) (refusal head : ℕ) → let told = headNumbers (whichAnswers first second) in
-      Exactly ((told .refusal ≡ refusal) × (told .head ≡ head)) (HeadTold first second refusal head)
+  -- the archive's numbers: the refusal, and 1 for the first, 2 for the second
+  pub «gtid_head» : (n : ℕ) → (headNumbers First ≡ record { refusal = 0; head = 1 }) × (headNumbers Second ≡ record { refusal = 0; head = 2 })
+      × (headNumbers (Refused n) ≡ record { refusal = n; head = 0 })

@@ -50,8 +50,8 @@ pub record Highest : Type 0 where
   pub taken-in : (body out : List ℕ) (es : List Entry) (end : ℕ) → Bytes body → BodyIs body es → HasEnd end es → gnoTop < end
       → (takeInAnswers body out ≡ record { refusal = 15; len = 0 }) × (eventText 35 body ≡ refusedText 15)
   -- whatever can be written, tagged or not, can be written with the top as its gno. (What others wrote with it is read and listed as any event:
-  -- `RecordsMean`, `ListingTold`; and an offer of that is 15: `gno-next` of `Orders`. If it
-  -- is tagged and lacks its uuid, the listing says 21, and so does the offer)
+  -- `RecordsMean`, `ListingTold`; and an offer of that is 15: `gnoRule` of `OfferFault`. If it is tagged and lacks its uuid, the listing says 21, and
+  -- so does the offer)
   pub carried : (e : GtidEvent) → Fits e → writable e ≡ true → CarriedOnly (setNumber 2 gnoTop e)
   -- demand 3 by this rule: of whatever bytes, and so of a set after any offers, every member's number obeys it
   pub members : (set : List ℕ) (k : Key) (n : ℕ) → member set k n ≡ true → isGno n ≡ true

@@ -16,10 +16,10 @@ pub mod PlainFaults
 -- What is wrong with a set, a body that is taken in, and an offer; and what is an offer answered otherwise?
 pub mod SetFaults
 -- ---- Demand 1.
--- Does every public function give a number exactly where the table has its case, and does `contains` tell the members?
+-- Does every public function give a number exactly where the table has its case, whatever other faults there are, and does `contains` tell the members?
 pub mod Exact
--- Which of several faults counts, and what else is answered and written?
-pub mod Orders
+-- What else is answered and written?
+pub mod Besides
 -- ---- Demand 2.
 -- Does what is written read back, and is what is read what the layouts say?
 pub mod Meaning

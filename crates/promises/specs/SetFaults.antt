@@ -2,7 +2,7 @@
 -- named here.
 use Prim.Native.Nat.{ℕ, _≤_}
 use mathlib.Core.Path.{_≡_}
-use mathlib.Core.Bool.{Bool, true, false}
+use mathlib.Core.Bool.{Bool, true, false, _&&_}
 use mathlib.Core.List.{List, _++_}
 use lib.ListN.{length, getD, take, drop}
 use Rattle.misc.specs.Refusal.{full}
@@ -61,20 +61,16 @@ pub data TakenInAs (body : List ℕ) : List ℕ → Type 0 where
 abbrev pub keyOf : GtidEvent → Key
 keyOf e = e .sid ++ take (e .«tag_len») (e .tag)
 
--- whether the uuid, field 1, and the gno, field 2, are among the fields that were there
-abbrev pub sentUuid : List Bool → Bool
-sentUuid present = getD present 1 false
-
-abbrev pub sentGno : List Bool → Bool
-sentGno present = getD present 2 false
+-- whether the uuid, field 1, and the gno, field 2, are both among the fields that were there
+abbrev pub sentId : List Bool → Bool
+sentId present = getD present 1 false && getD present 2 false
 
 -- what is wrong with an event whose id is asked for, by an offer or a listing
 pub data NamingFault (type : ℕ) (body : List ℕ) : ℕ → Type 0 where
   -- 1 to 11: a fault of the event itself
   own : {n : ℕ} → EventFault type body n → NamingFault type body n
   -- 21: it is tagged and in order, but was sent without its uuid, or without its gno (CR 6)
-  noUuid : {x : Seen} {used : ℕ} → RecordLaid type body x used → type ≡ 42 → sentUuid (x .present) ≡ false → NamingFault type body 21
-  noGno : {x : Seen} {used : ℕ} → RecordLaid type body x used → type ≡ 42 → sentGno (x .present) ≡ false → NamingFault type body 21
+  noId : {x : Seen} {used : ℕ} → RecordLaid type body x used → type ≡ 42 → sentId (x .present) ≡ false → NamingFault type body 21
 
 -- an event that names an id: any but one of type 34, a tagged one if it was sent with its uuid and its gno
 pub record Names (type : ℕ) (body : List ℕ) (e : GtidEvent) : Type 0 where
@@ -82,7 +78,7 @@ pub record Names (type : ℕ) (body : List ℕ) (e : GtidEvent) : Type 0 where
   pub used : ℕ
   pub laid : RecordLaid type body (record { event = e; present = present }) used
   pub named : type ≡ 34 → ⊥
-  pub sent : type ≡ 42 → (sentUuid present ≡ true) × (sentGno present ≡ true)
+  pub sent : type ≡ 42 → sentId present ≡ true
 
 -- an event that the set s doesn't refuse: the answer, and the set after it
 pub data Accepts (s : List Entry) (type : ℕ) (body : List ℕ) : (ℕ → Offered) → List Entry → Type 0 where

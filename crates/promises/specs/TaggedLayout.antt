@@ -107,21 +107,19 @@ said told =
 abbrev pub seenIn : List Sent → Seen
 seenIn told = record { event = said told; present = sentFields told }
 
--- ---- the record's bytes: version byte 2, the size, which counts them all, the last non-ignorable id, the fields, among them a tag; and what is
--- behind them, unread
+-- ---- the record's bytes: version byte 2, the size, which counts them all and is what is used, the last non-ignorable id, the fields, among them a
+-- tag; and what is behind them, unread
 pub record TaggedLaid (s : List ℕ) (x : Seen) (used : ℕ) : Type 0 where
-  pub size : ℕ
   pub last : ℕ
   pub size-bytes : List ℕ
   pub last-bytes : List ℕ
   pub fields : List ℕ
   pub unread : List ℕ
   pub whole : s ≡ (2 ∷ []) ++ size-bytes ++ last-bytes ++ fields ++ unread
-  pub size-is : Form size size-bytes
+  pub size-is : Form used size-bytes
   pub last-is : Form last last-bytes
-  pub counts : size ≡ length ((2 ∷ []) ++ size-bytes ++ last-bytes ++ fields)
+  pub counts : used ≡ length ((2 ∷ []) ++ size-bytes ++ last-bytes ++ fields)
   pub told : List Sent
   pub fields-are : FieldsLaid last told fields
   pub tagged : sends 3 told ≡ true
   pub is : x ≡ seenIn told
-  pub uses : used ≡ size

@@ -7,7 +7,6 @@ use mathlib.Core.Bool.{Bool, true, false}
 use mathlib.Core.List.{List, [], _++_}
 use lib.ListN.{length, take, drop}
 use Rattle.misc.specs.Refusal.{full}
-use Rattle.misc.specs.Pick.{pick}
 use Rattle.misc.specs.declared.Wrote.{Wrote}
 use Rattle.packets.specs.Key.{Key}
 use Rattle.previous_gtids_event.specs.Entry.{Entry}
@@ -19,7 +18,6 @@ use Rattle.gtid_sets.specs.Lent.{SetLaid}
 use Rattle.gtid_sets.specs.Combine as ops
 use Rattle.two_sets.specs.Answers.{combineAnswers, combineLeaves, withinAnswers}
 use Rattle.two_sets.specs.declared.AllWithin.{AllWithin}
-use Rattle.abi.specs.Answers.{bit}
 use Rattle.resume_set_laws.specs.History.{member}
 use Rattle.promises.specs.PlainFaults.{WriteFault}
 use Rattle.promises.specs.SetFaults.{SetFault}
@@ -92,13 +90,6 @@ pub data WithinAnswer (first second : List ℕ) : AllWithin → Type 0 where
   -- no: there is one that isn't
   missing : {s t : List Entry} → SetLaid first s → SetLaid second t → Lacks t s → WithinAnswer first second (record { refusal = 0; all = false })
 
--- the answers yes and no
-abbrev pub allIn : AllWithin
-allIn = record { refusal = 0; all = true }
-
-abbrev pub notAllIn : AllWithin
-notAllIn = record { refusal = 0; all = false }
-
 abbrev pub ComparesExactly : (List ℕ → List ℕ → AllWithin) → Type 0
 ComparesExactly f = (first second : List ℕ) (r : AllWithin) → Exactly (f first second ≡ r) (WithinAnswer first second r)
 
@@ -119,15 +110,12 @@ pub record TwoSets : Type 0 where
       → let result : List ℕ = take (combineAnswers op first second out .len) (combineLeaves op first second out) in
       ((s : List Entry) × SetLaid result s) × ((k : Key) (n : ℕ) → member result k n ≡ op (member first k n) (member second k n))
   -- yes exactly if the first without the second is the empty set
-  pub empty : (first second : List ℕ) → Exactly (withinAnswers first second ≡ allIn) (ResultAs ops.without first second (bodyBytes []))
-  -- one set lent twice
-  pub twice : (set : List ℕ) (s : List Entry) → SetLaid set s
-      → ResultAs ops.either set set set × ResultAs ops.both set set set × ResultAs ops.without set set (bodyBytes []) × WithinAnswer set set allIn
+  pub empty : (first second : List ℕ)
+      → Exactly (WithinAnswer first second (record { refusal = 0; all = true })) (ResultAs ops.without first second (bodyBytes []))
+  -- one set lent twice; and it is within itself, so that without itself it is the empty set
+  pub twice : (set : List ℕ) (s : List Entry) → SetLaid set s → ResultAs ops.either set set set × ResultAs ops.both set set set
   -- every result can pass either limit
   pub crowded : Exceeding ops.either 17 × Exceeding ops.both 17 × Exceeding ops.without 17
   pub full : Exceeding ops.either 16 × Exceeding ops.both 16 × Exceeding ops.without 16
   -- a body's ids joined to a set: the ids in either, of the set and of what taking in gives
   pub joined : (s es : List Entry) → SetForm s → lawful es ≡ true → Keeps ops.either s (takeIn es) (union es s)
-  -- the archive's numbers tell every answer of `within` from every other, 1 being yes
-  pub «gtid_within» : (first second : List ℕ) (r : AllWithin)
-      → Exactly ((withinAnswers first second .refusal ≡ r .refusal) × (bit (withinAnswers first second .all) ≡ pick (r .all) 1 0)) (WithinAnswer first second r)

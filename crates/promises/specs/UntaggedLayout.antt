@@ -30,54 +30,37 @@ pub data NoTypecode : List ℕ → Type 0 where
   nothing : NoTypecode []
   other : {b : ℕ} {rest : List ℕ} → (b ≡ 2 → ⊥) → NoTypecode (b ∷ rest)
 
--- ---- the record: no tag, no ticket
+-- ---- the record
 
-abbrev pub untaggedRecord : ℕ → List ℕ → ℕ → ℕ → ℕ → ℕ → ℕ → ℕ → ℕ → ℕ → ℕ → GtidEvent
-untaggedRecord flags uuid gno typecode last sequence immediate original len version originalVersion =
-    record {
-      flags = flags;
-      sid = uuid;
-      gno = gno;
-      tag = replicate 32 0;
-      «tag_len» = 0;
-      «lc_typecode» = typecode;
-      «last_committed» = last;
-      «sequence_number» = sequence;
-      «immediate_commit_timestamp» = immediate;
-      «original_commit_timestamp» = original;
-      «tx_length» = len;
-      «immediate_server_version» = version;
-      «original_server_version» = originalVersion;
-      «commit_group_ticket» = 0;
-    }
-
--- flags, uuid, gno; and no typecode, whatever else follows
+-- flags, uuid, gno; and no typecode, whatever else follows. All other fields are 0, and the versions 999,999
 pub record ShortLaid (s : List ℕ) (e : GtidEvent) (used : ℕ) : Type 0 where
-  pub flags : ℕ
-  pub uuid : List ℕ
-  pub gno : ℕ
   pub gno-bytes : List ℕ
   pub unread : List ℕ
-  pub whole : s ≡ (flags ∷ []) ++ uuid ++ gno-bytes ++ unread
-  pub uuid-is : length uuid ≡ 16
-  pub gno-is : Number 8 gno gno-bytes
+  pub whole : s ≡ (e .flags ∷ []) ++ e .sid ++ gno-bytes ++ unread
+  pub uuid-is : length (e .sid) ≡ 16
+  pub gno-is : Number 8 (e .gno) gno-bytes
   pub no-typecode : NoTypecode unread
-  pub is : e ≡ untaggedRecord flags uuid gno 0 0 0 0 0 0 999999 999999
-  pub uses : used ≡ length ((flags ∷ []) ++ uuid ++ gno-bytes)
+  pub others : e ≡ record {
+    flags = e .flags;
+    sid = e .sid;
+    gno = e .gno;
+    tag = replicate 32 0;
+    «tag_len» = 0;
+    «lc_typecode» = 0;
+    «last_committed» = 0;
+    «sequence_number» = 0;
+    «immediate_commit_timestamp» = 0;
+    «original_commit_timestamp» = 0;
+    «tx_length» = 0;
+    «immediate_server_version» = 999999;
+    «original_server_version» = 999999;
+    «commit_group_ticket» = 0;
+  }
+  pub uses : used ≡ length ((e .flags ∷ []) ++ e .sid ++ gno-bytes)
 
 -- flags, uuid, gno, the typecode 2, last_committed, sequence_number; timestamps, transaction length and server versions as far as the body reaches;
--- and what is left
+-- and what is left. There is no tag and no ticket
 pub record LongLaid (s : List ℕ) (e : GtidEvent) (used : ℕ) : Type 0 where
-  pub flags : ℕ
-  pub uuid : List ℕ
-  pub gno : ℕ
-  pub last : ℕ
-  pub sequence : ℕ
-  pub immediate : ℕ
-  pub original : ℕ
-  pub len : ℕ
-  pub version : ℕ
-  pub original-version : ℕ
   pub gno-bytes : List ℕ
   pub last-bytes : List ℕ
   pub sequence-bytes : List ℕ
@@ -85,16 +68,16 @@ pub record LongLaid (s : List ℕ) (e : GtidEvent) (used : ℕ) : Type 0 where
   pub len-bytes : List ℕ
   pub versions : List ℕ
   pub unread : List ℕ
-  pub whole : s ≡ (flags ∷ []) ++ uuid ++ gno-bytes ++ (2 ∷ []) ++ last-bytes ++ sequence-bytes ++ timestamps ++ len-bytes ++ versions ++ unread
-  pub uuid-is : length uuid ≡ 16
-  pub gno-is : Number 8 gno gno-bytes
-  pub last-is : Number 8 last last-bytes
-  pub sequence-is : Number 8 sequence sequence-bytes
-  pub timestamps-are : PairIfLeft 7 0 immediate original timestamps (len-bytes ++ versions ++ unread)
-  pub len-is : LengthIfLeft len len-bytes (versions ++ unread)
-  pub versions-are : PairIfLeft 4 999999 version original-version versions unread
-  pub is : e ≡ untaggedRecord flags uuid gno 2 last sequence immediate original len version original-version
-  pub uses : used ≡ length ((flags ∷ []) ++ uuid ++ gno-bytes ++ (2 ∷ []) ++ last-bytes ++ sequence-bytes ++ timestamps ++ len-bytes ++ versions)
+  pub whole : s ≡ (e .flags ∷ []) ++ e .sid ++ gno-bytes ++ (2 ∷ []) ++ last-bytes ++ sequence-bytes ++ timestamps ++ len-bytes ++ versions ++ unread
+  pub uuid-is : length (e .sid) ≡ 16
+  pub gno-is : Number 8 (e .gno) gno-bytes
+  pub last-is : Number 8 (e .«last_committed») last-bytes
+  pub sequence-is : Number 8 (e .«sequence_number») sequence-bytes
+  pub timestamps-are : PairIfLeft 7 0 (e .«immediate_commit_timestamp») (e .«original_commit_timestamp») timestamps (len-bytes ++ versions ++ unread)
+  pub len-is : LengthIfLeft (e .«tx_length») len-bytes (versions ++ unread)
+  pub versions-are : PairIfLeft 4 999999 (e .«immediate_server_version») (e .«original_server_version») versions unread
+  pub others : (e .«lc_typecode» ≡ 2) × (e .tag ≡ replicate 32 0) × (e .«tag_len» ≡ 0) × (e .«commit_group_ticket» ≡ 0)
+  pub uses : used ≡ length ((e .flags ∷ []) ++ e .sid ++ gno-bytes ++ (2 ∷ []) ++ last-bytes ++ sequence-bytes ++ timestamps ++ len-bytes ++ versions)
 
 abbrev pub UntaggedLaid : List ℕ → GtidEvent → ℕ → Type 0
 UntaggedLaid s e used = ShortLaid s e used ⊎ LongLaid s e used

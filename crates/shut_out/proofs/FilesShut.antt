@@ -127,58 +127,63 @@ computed = record {
 
 -- ---- against what reading comes to
 
+-- of a way of reading: from any set, with checksums or without
+abbrev pub Reads : ℕ → FileReading → Type 0
+Reads room f = (set : List ℕ) (checksums : Bool) → ReadsFiles room set checksums (f set checksums)
+
 -- a reader that keeps to the layout reads a chunk as ours does
-same-reading : (room : ℕ) (f : FileReading) → ReadsFiles room f → (checksums : Bool) (bs : List ℕ)
+same-reading : (room : ℕ) (f : FileReading) → Reads room f → (checksums : Bool) (bs : List ℕ)
     → f none checksums (chunk bs ∷ []) ≡ ourFiles room none checksums (chunk bs ∷ [])
 same-reading room f h checksums bs =
     let run = walking (does room) (trailer checksums) none bs false in
     let says = says-all (does room) (trailer checksums) none bs in
-    h .says none [] checksums bs run none-laid says ∙ sym (reads-files room .says none [] checksums bs run none-laid says)
+    h none checksums .says [] bs run none-laid says ∙ sym (reads-files room none checksums .says [] bs run none-laid says)
 
 -- and with the end behind it
-same-ending : (room : ℕ) (f : FileReading) → ReadsFiles room f → (bs : List ℕ)
+same-ending : (room : ℕ) (f : FileReading) → Reads room f → (bs : List ℕ)
     → f none false (chunk bs ∷ end ∷ []) ≡ ourFiles room none false (chunk bs ∷ end ∷ [])
 same-ending room f h bs =
     let run = walking (does room) 0 none bs true in
     let says = end-says-all (does room) 0 none bs in
-    h .end-says none [] false bs run none-laid says ∙ sym (reads-files room .end-says none [] false bs run none-laid says)
+    h none false .end-says [] bs run none-laid says ∙ sym (reads-files room none false .end-says [] bs run none-laid says)
 
 -- one that reads the first chunk alone: two bytes in two chunks, and in one
-pub stops-early-out : (room : ℕ) → ReadsFiles room (stopsEarly room) → ⊥
+pub stops-early-out : (room : ℕ) → Reads room (stopsEarly room) → ⊥
 stops-early-out room h =
-    let same = ap number (h .cut none false (chunk (0xFE ∷ []) ∷ chunk (0 ∷ []) ∷ []) (chunk (0xFE ∷ 0 ∷ []) ∷ []) refl) in
+    let same = ap number (h none false .cut (chunk (0xFE ∷ []) ∷ chunk (0 ∷ []) ∷ []) (chunk (0xFE ∷ 0 ∷ []) ∷ []) refl) in
     omega (arith, same, computed .first-alone room, computed .wrong-second room)
 
 -- one that forgets a refusal when an empty chunk comes
-pub forgets-refusal-out : (room : ℕ) → ReadsFiles room (forgetsRefusal room) → ⊥
-forgets-refusal-out room h = omega (arith, ap number (h .empty none false (chunk (0 ∷ []) ∷ []) []), computed .wrong-first room)
+pub forgets-refusal-out : (room : ℕ) → Reads room (forgetsRefusal room) → ⊥
+forgets-refusal-out room h =
+    omega (arith, ap number (h none false .cut (chunk (0 ∷ []) ∷ chunk [] ∷ []) (chunk (0 ∷ []) ∷ []) refl), computed .wrong-first room)
 
 -- one that answers an event only when a byte more has come
-pub waits-for-more-out : ReadsFiles longestSet (waitsForMore longestSet) → ⊥
+pub waits-for-more-out : Reads longestSet (waitsForMore longestSet) → ⊥
 waits-for-more-out h =
     omega (arith, ap answers (same-reading longestSet (waitsForMore longestSet) h false fileNoId), computed .waited, computed .answered)
 
 -- one that undoes the events before a refusal
-pub undoes-first-out : ReadsFiles longestSet (undoesFirst longestSet) → ⊥
+pub undoes-first-out : Reads longestSet (undoesFirst longestSet) → ⊥
 undoes-first-out h = omega (arith, ap size (same-reading longestSet (undoesFirst longestSet) h false fileBroken), computed .undone, computed .kept)
 
 -- one that tells no answers
-pub answers-nothing-out : ReadsFiles longestSet (answersNothing longestSet) → ⊥
+pub answers-nothing-out : Reads longestSet (answersNothing longestSet) → ⊥
 answers-nothing-out h = omega (arith, ap answers (same-reading longestSet (answersNothing longestSet) h false fileNoId), computed .answered)
 
 -- one that skips tagged events
-pub skips-tagged-out : ReadsFiles longestSet (skipsTagged longestSet) → ⊥
+pub skips-tagged-out : Reads longestSet (skipsTagged longestSet) → ⊥
 skips-tagged-out h =
     omega (arith, ap answers (same-reading longestSet (skipsTagged longestSet) h false fileTagged), computed .skipped, computed .answered-tagged)
 
 -- one that takes checksums for a part of the bodies
-pub ignores-trailer-out : (room : ℕ) → ReadsFiles room (ignoresTrailer room) → ⊥
+pub ignores-trailer-out : (room : ℕ) → Reads room (ignoresTrailer room) → ⊥
 ignores-trailer-out room h =
     let same = ap number (same-reading room (ignoresTrailer room) h true (theOpening ++ inFile 2 19 [])) in
     omega (arith, same, computed .too-small room, computed .great-enough room)
 
 -- one that takes a file that is cut off for a whole one
-pub takes-cut-out : (room : ℕ) → ReadsFiles room (takesCut room) → ⊥
+pub takes-cut-out : (room : ℕ) → Reads room (takesCut room) → ⊥
 takes-cut-out room h = omega (arith, ap number (same-ending room (takesCut room) h []), computed .well room, computed .cut-off room)
 
 -- ---- against demand 3

@@ -17,11 +17,11 @@ use Rattle.gtid_sets.specs.Lent.{lentSet, SetLaid}
 use Rattle.two_sets.specs.Answers.{whichAnswers}
 use Rattle.two_sets.specs.declared.Choice.{Choice}
 use Rattle.two_sets.specs.declared.Choice.the-variants.{First, Second, Refused}
-use Rattle.promises.specs.Heads.{ChoosesExactly, HandsExactly}
+use Rattle.promises.specs.Heads.{HeadAnswer, ChoosesExactly, HandedBack, HandsExactly}
 use Rattle.shut_out.specs.WrongOnes.{alone, firstOfTwo, longerOne, wantsMore, secondOfEqual, wantsCommon, equalElsewhere}
 use Rattle.promises.proofs.SetsExact.{apart}
 use Rattle.promises.proofs.TwoSetsHold.{none-fine}
-use Rattle.promises.proofs.HeadsHold.{chooses-exactly, heads}
+use Rattle.promises.proofs.HeadsHold.{chooses-exactly}
 
 abbrev empty : List ℕ
 empty = bodyBytes []
@@ -93,7 +93,7 @@ wants-common-out exactly =
 pub equal-elsewhere-out : HandsExactly equalElsewhere → ⊥
 equal-elsewhere-out exactly =
     let laid : SetLaid empty [] = record { written = refl; formed = tt; keyed = tt; limited = none-fine } in
-    let (_, stands) = exactly empty empty (0, 0) (0, 1) empty (0, 0) .1 (heads .twice empty [] (0, 0) (0, 1) laid) in
+    let (_, stands) = exactly empty empty (0, 0) (0, 1) empty (0, 0) .1 (HandedBack.first (HeadAnswer.first laid laid (λ k n here. here))) in
     let elsewhere : _≡_ {A = ℕ × ℕ} (0, 1) (0, 0) = rw (same-self empty) at stands in
     let differs : _≡_ {A = ℕ} 1 0 = ap (λ (p : ℕ × ℕ). p .1) elsewhere in
     absurd (omega arith)

@@ -29,7 +29,7 @@ use Rattle.previous_gtids_event.specs.Previous as previous-specs
 use Rattle.previous_gtids_event.specs.Previous.{keyAt, headAt, intervalAt, entryAt, saysTagged, saysCount, previous}
 use Rattle.previous_gtids_event.specs.Rewrite.{intervalsBytes, entryBytes, entriesBytes, anyTag, headerBytes, bodyBytes}
 use Rattle.gtid_event.specs.declared.GtidEvent.{GtidEvent}
-use Rattle.gtid_event.specs.Event.{newUntagged, typeOf, withTag}
+use Rattle.gtid_event.specs.Event.{fresh, newUntagged, typeOf, withTag}
 use Rattle.gtid_event_read.specs.Untagged.{openingAt, untagged}
 use Rattle.gtid_event_read.specs.Fields.{tagAt, fieldAt, fieldsFrom}
 use Rattle.gtid_event_read.specs.Tagged.{tagged}
@@ -53,7 +53,7 @@ use Rattle.resume_set.specs.declared.Offered.the-variants.{NoId, Taken, Refused
 use Rattle.resume_set_laws.specs.History.{Turn, Offering, member, TakesIn, TellsHistory}
 use Rattle.resume_set_laws.specs.Ours.{ours}
 use Rattle.promises.specs.Meaning.{EventReader, EventWriter, RecordLaid, RecordsMean, RecordsBack, LeastSize, EntriesMean}
-use Rattle.promises.specs.UntaggedLayout.{NoTypecode, untaggedRecord, ShortLaid}
+use Rattle.promises.specs.UntaggedLayout.{NoTypecode, ShortLaid}
 use Rattle.promises.specs.TaggedLayout.{number, the-tag, seenIn}
 use Rattle.promises.proofs.Demand2.{records-mean, one-record, entries-mean}
 use Rattle.promises.specs.Building.{Unversioned, NewVersions, KeepsVersions}
@@ -151,7 +151,7 @@ small-3 (suc i) = omega arith
 
 -- such a body is read, and so it is laid out
 abbrev pub named : ℕ → GtidEvent
-named gno = untaggedRecord 0 (replicate 16 0) gno 0 0 0 0 0 0 999999 999999
+named gno = fresh (replicate 16 0) gno 0 999999
 
 read-1 : seen 33 (bodyOf 1) ≡ parsed (untaggedSeen (named 1)) 25
 unfolding seen bodyLimit untagged openingAt byteAt bytesAt leAt leOf
@@ -248,19 +248,16 @@ refuses-bodies-unlike mean =
 -- ---- building a record
 
 -- 25 zeros: nothing follows the gno
-zeros-laid : ShortLaid (replicate 25 0) (untaggedRecord 0 (replicate 16 0) 0 0 0 0 0 0 0 999999 999999) 25
+zeros-laid : ShortLaid (replicate 25 0) (named 0) 25
 unfolding leOf
 zeros-laid = record {
-  flags = 0;
-  uuid = replicate 16 0;
-  gno = 0;
   gno-bytes = replicate 8 0;
   unread = [];
   whole = refl;
   uuid-is = refl;
   gno-is = record { long = refl; spells = refl };
   no-typecode = NoTypecode.nothing;
-  is = refl;
+  others = refl;
   uses = refl;
 }
 

@@ -50,7 +50,6 @@ use Rattle.binlog_reader.specs.Does.{Judged, does}
 use Rattle.binlog_reader.specs.declared.Told.the-variants as told-as
 use Rattle.binlog_reader.specs.declared.Said.the-variants as said-as
 use Rattle.binlog_laws.specs.Files.{FileReading, readIn, startOf, ourFiles}
-use Rattle.binlog_laws.specs.Loop.{isRefusal}
 use Rattle.promises.specs.Heads.{Handing, ourHead}
 use Rattle.promises.specs.Reports.{noNumbers, Reporting, ourReport}
 use Rattle.promises.specs.Files.{refusalIn}
@@ -457,7 +456,7 @@ replacesSet room set checksums ws = readIn (hear (replaces room) (trailer checks
 abbrev pub undoesFirst : ℕ → FileReading
 undoesFirst room set checksums ws =
     let x = ourFiles room set checksums ws in
-    record { judged = x .judged; said = x .said; set = pick (isRefusal (x .said)) set (x .set) }
+    record { judged = x .judged; said = x .said; set = pick (eqb (refusalIn (x .said)) 0) (x .set) set }
 
 -- tells no answer for the events that it walks
 abbrev pub answersNothing : ℕ → FileReading
