@@ -1,10 +1,9 @@
 // A request: its head, and reading its parts.
-use probe_binlog::TWIN_ROOM;
+use probe_calls::out_len_of;
 use probe_lines::parts::byte_at;
 use probe_lines::parts::u32_at;
 use probe_lines::parts::u64_at;
 use probe_lines::request::Request;
-use probe_listing::TEXT_ROOM;
 ghost use Prim.Native.Nat.{_<_};
 
 pub const HEAD_LEN: usize = 24;
@@ -27,17 +26,6 @@ fn wide(b: u8) -> usize
 // The number whose low byte and high byte stand at two places.
 fn two_at(s: &[u8], low: usize, high: usize) -> usize {
     wide(byte_at(s, low)) + 256 * wide(byte_at(s, high))
-}
-
-// These two calls take no length of the output from the request.
-fn out_len_of(call: u8, told: usize) -> usize {
-    if call == 51 {
-        return TWIN_ROOM;
-    }
-    if call == 64 {
-        return TEXT_ROOM;
-    }
-    told
 }
 
 pub(crate) fn head_of(raw: &[u8]) -> Head {

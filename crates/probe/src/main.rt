@@ -5,7 +5,7 @@
 mod frame;
 
 use crate::frame::Head;
-use probe_abi::OUT_ROOM;
+use probe_calls::OUT_ROOM;
 use probe_calls::answer;
 use probe_lines::parts::front;
 

@@ -1,9 +1,10 @@
 // Call 9 and calls 16 to 22 of the test program: the GTID record.
 mod build;
-pub mod record;
+mod record;
 
 use gtid_event_read::GtidRead;
 use gtid_event_write::EventLength;
+use probe_dump::from_dump;
 use probe_lines::answers;
 use probe_lines::checks;
 use probe_lines::line::push_byte;
@@ -91,12 +92,12 @@ fn present(event_type: u8, a: &[u8], line: &mut [u8]) -> usize {
 
 fn record_write(a: &[u8], out: &mut [u8], line: &mut [u8]) -> usize {
     checks::fill(out);
-    let wrote = gtid_event_write::write::write(record::from_dump(a), out);
+    let wrote = gtid_event_write::write::write(from_dump(a), out);
     answers::wrote(line, out, wrote)
 }
 
 fn record_len(a: &[u8], line: &mut [u8]) -> usize {
-    length_line(line, gtid_event_write::write::length(record::from_dump(a)))
+    length_line(line, gtid_event_write::write::length(from_dump(a)))
 }
 
 fn build_record(a: &[u8], line: &mut [u8]) -> usize {
