@@ -1,5 +1,6 @@
-// The archive's functions over integers, bodies and sets, beside the library's.
+// The archive's functions over integers, bodies, sets and readers, beside the library's.
 mod bodies;
+mod readers;
 mod sets;
 mod two;
 mod written;
@@ -23,6 +24,7 @@ fn told(request: Request, a: &[u8], b: &[u8], c: &[u8]) -> bool {
         1 => uint(a),
         32 => bodies::previous(a),
         50 => sets::check_set(a),
+        51 => readers::takes_short(a),
         55 => two::within(a, b),
         56 => two::head(a, b),
         66 => sets::contains(a, b, c, request.number),

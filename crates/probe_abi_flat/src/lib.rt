@@ -1,5 +1,4 @@
-// The archive's functions over what crosses as bytes, GTID records, reports and readers, beside the library's.
-mod readers;
+// The archive's functions over what crosses as bytes, GTID records and reports, beside the library's.
 mod records;
 mod reports;
 
@@ -13,7 +12,6 @@ pub fn another(request: Request, a: &[u8], b: &[u8], out: &mut [u8], twin: &mut 
         16 | 22 => records::read(request.event_type, a),
         17 => records::reread(request.event_type, a, out, twin),
         19 => records::write(a, out, twin),
-        51 => readers::takes_short(a),
         57 => reports::report(a, b, out, twin),
         _ => false,
     }

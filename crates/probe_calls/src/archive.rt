@@ -3,9 +3,9 @@ use crate::OUT_ROOM;
 use probe_lines::checks::fill;
 use probe_lines::request::Request;
 
-// The calls over records, readers and reports, which cross as bytes.
+// The calls over records and reports, which cross as bytes.
 fn is_flat(call: u8) -> bool {
-    ((16 <= call) & (call < 32)) | (call == 51) | (call == 57)
+    ((16 <= call) & (call < 32)) | (call == 57)
 }
 
 fn asked(request: Request, a: &[u8], b: &[u8], c: &[u8], out: &mut [u8], twin: &mut [u8]) -> bool {

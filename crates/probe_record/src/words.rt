@@ -60,7 +60,7 @@ fn push_rest(line: &mut [u8], at: usize, event: GtidEvent) -> usize {
 }
 
 // All fields of a record.
-pub(crate) fn push_record(line: &mut [u8], at: usize, event: GtidEvent) -> usize {
+pub fn push_record(line: &mut [u8], at: usize, event: GtidEvent) -> usize {
     let identity_end = push_identity(line, at, event);
     let clock_end = push_clock(line, identity_end, event);
     push_rest(line, clock_end, event)
@@ -78,7 +78,7 @@ fn all_zero(s: &[u8]) -> bool {
 }
 
 // Whether a part of the record isn't zero.
-pub(crate) fn nonzero(event: GtidEvent) -> bool {
+pub fn nonzero(event: GtidEvent) -> bool {
     let sid = event.sid;
     let tag = event.tag;
     if !all_zero(&sid) {
