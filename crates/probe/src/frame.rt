@@ -1,20 +1,20 @@
 // A request: its head, and reading its parts.
-use probe_binlog::TWIN_ROOM;
+use probe_calls::out_len_of;
 use probe_lines::parts::byte_at;
 use probe_lines::parts::u32_at;
 use probe_lines::parts::u64_at;
 use probe_lines::request::Request;
-use probe_listing::TEXT_ROOM;
 ghost use Prim.Native.Nat.{_<_};
 
 pub const HEAD_LEN: usize = 24;
 
-// Which call it is, and how long its parts and its output are.
+// Which call it is, how long its parts are, one by one and all together, and its output.
 pub struct Head {
     pub request: Request,
-    pub c_len: usize,
     pub a_len: usize,
     pub b_len: usize,
+    pub c_len: usize,
+    pub parts_len: usize,
     pub out_len: usize,
 }
 
@@ -25,19 +25,10 @@ fn wide(b: u8) -> usize
 }
 
 // The number whose low byte and high byte stand at two places.
-fn two_at(s: &[u8], low: usize, high: usize) -> usize {
+fn two_at(s: &[u8], low: usize, high: usize) -> usize
+    ensures { λ r. ⌜ r < 65536 ⌝ }
+{
     wide(byte_at(s, low)) + 256 * wide(byte_at(s, high))
-}
-
-// These two calls take no length of the output from the request.
-fn out_len_of(call: u8, told: usize) -> usize {
-    if call == 51 {
-        return TWIN_ROOM;
-    }
-    if call == 64 {
-        return TEXT_ROOM;
-    }
-    told
 }
 
 pub(crate) fn head_of(raw: &[u8]) -> Head {
@@ -47,35 +38,26 @@ pub(crate) fn head_of(raw: &[u8]) -> Head {
         event_type: byte_at(raw, 1),
         number: u64_at(raw, 16),
     };
+    let a_len = u32_at(raw, 4) as usize;
+    let b_len = u32_at(raw, 8) as usize;
+    let c_len = two_at(raw, 2, 3);
     Head {
         request,
-        c_len: two_at(raw, 2, 3),
-        a_len: u32_at(raw, 4) as usize,
-        b_len: u32_at(raw, 8) as usize,
+        a_len,
+        b_len,
+        c_len,
+        parts_len: a_len + b_len + c_len,
         out_len: out_len_of(call, u32_at(raw, 12) as usize),
     }
 }
 
-// Fills the first `n` bytes of `part` from standard input; false where they do not fit or do not come.
-fn read_part(part: &mut [u8], n: usize) -> bool {
-    if n == 0 {
+// Fills the front of `parts` with A, B and C from standard input; false where they do not fit or do not come.
+pub(crate) fn read_parts(parts: &mut [u8], len: usize) -> bool {
+    if len == 0 {
         return true;
     }
-    if part.len() < n {
+    if parts.len() < len {
         return false;
     }
-    io::read_full(0, &mut part[..n]) == n
-}
-
-pub(crate) fn read_parts(head: Head, a: &mut [u8], b: &mut [u8], c: &mut [u8]) -> bool {
-    let a_len = head.a_len;
-    let b_len = head.b_len;
-    let c_len = head.c_len;
-    if !read_part(a, a_len) {
-        return false;
-    }
-    if !read_part(b, b_len) {
-        return false;
-    }
-    read_part(c, c_len)
+    io::read_full(0, &mut parts[..len]) == len
 }

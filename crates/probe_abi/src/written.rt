@@ -1,12 +1,10 @@
 // The archive's functions that write an output and hand out its length, as the library's answer both.
 use misc::Wrote;
-use probe_gtid::record::from_dump;
 use probe_lines::beside::UNSET;
 use probe_lines::beside::differs;
 
 fn by_library(call: u8, a: &[u8], b: &[u8], out: &mut [u8]) -> Wrote {
     match call {
-        19 => gtid_event_write::write::write(from_dump(a), out),
         33 => previous_gtids_event::rewrite::rewrite(a, out),
         48 => set_join::take_in::take_in(a, out),
         52 => two_sets::either(a, b, out),
@@ -18,7 +16,6 @@ fn by_library(call: u8, a: &[u8], b: &[u8], out: &mut [u8]) -> Wrote {
 
 fn by_archive(call: u8, a: &[u8], b: &[u8], out: &mut [u8], len: &mut usize) -> u8 {
     match call {
-        19 => abi::gtid_write(a, out, len),
         33 => abi::gtid_rewrite(a, out, len),
         48 => abi::gtid_take_in(a, out, len),
         52 => abi::gtid_either(a, b, out, len),

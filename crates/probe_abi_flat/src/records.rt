@@ -1,5 +1,4 @@
 // The archive's functions over GTID records.
-use crate::dump::to_dump;
 use abi::RECORD_SIZE;
 use gtid_event_read::GtidRead;
 use misc::Wrote;
@@ -7,6 +6,8 @@ use misc::refusal::NO_ROOM;
 use probe_lines::beside::UNSET;
 use probe_lines::beside::differs;
 use probe_lines::checks::fill;
+use probe_record::dump::from_dump;
+use probe_record::dump::to_dump;
 
 // Lays out the record that the library read, if it did, and says what the archive should: the bytes used, or 13 and a
 // record's size where the output is too short.
@@ -56,7 +57,7 @@ fn present_into(event_type: u8, body: &[u8], dump: &mut [u8], twin: &mut [u8]) -
 }
 
 // One byte more than a record has, and one less.
-pub fn read(event_type: u8, body: &[u8]) -> bool {
+pub(crate) fn read(event_type: u8, body: &[u8]) -> bool {
     let mut long = [0u8; RECORD_SIZE + 1];
     let mut long_twin = [0u8; RECORD_SIZE + 1];
     let mut short = [0u8; RECORD_SIZE - 1];
@@ -68,7 +69,7 @@ pub fn read(event_type: u8, body: &[u8]) -> bool {
 }
 
 // The archive reads, and writes what it read.
-pub fn reread(event_type: u8, body: &[u8], out: &mut [u8], twin: &mut [u8]) -> bool {
+pub(crate) fn reread(event_type: u8, body: &[u8], out: &mut [u8], twin: &mut [u8]) -> bool {
     let mut dump = [0u8; RECORD_SIZE];
     let mut used = UNSET;
     let refusal = abi::gtid_read(event_type, body, &mut dump, &mut used);
@@ -84,4 +85,12 @@ pub fn reread(event_type: u8, body: &[u8], out: &mut [u8], twin: &mut [u8]) -> b
     let mut len = UNSET;
     let written = abi::gtid_write(&dump, twin, &mut len);
     differs(wrote, written, len, out, twin)
+}
+
+// The archive writes the record whose bytes these are.
+pub(crate) fn write(dump: &[u8], out: &mut [u8], twin: &mut [u8]) -> bool {
+    let wrote = gtid_event_write::write::write(from_dump(dump), out);
+    let mut len = UNSET;
+    let refusal = abi::gtid_write(dump, twin, &mut len);
+    differs(wrote, refusal, len, out, twin)
 }

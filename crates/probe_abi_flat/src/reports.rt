@@ -111,6 +111,6 @@ fn whole_differs(a: &[u8], b: &[u8], out: &mut [u8], twin: &mut [u8]) -> bool {
     beside.differs | differs(wrote, refusal, len, out, twin) | sum_differs(report.sum(), &bytes)
 }
 
-pub fn report(a: &[u8], b: &[u8], out: &mut [u8], twin: &mut [u8]) -> bool {
+pub(crate) fn report(a: &[u8], b: &[u8], out: &mut [u8], twin: &mut [u8]) -> bool {
     whole_differs(a, b, out, twin) | short_differs(a)
 }

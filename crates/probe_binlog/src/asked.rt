@@ -4,36 +4,16 @@ use binlog_reader::Answer;
 use binlog_reader::Reader;
 use binlog_reader::Said;
 use binlog_reader::Told;
-use misc::refusal::NOT_WRITABLE;
-use probe_lines::checks::MARK;
-use probe_lines::checks::dirty;
+use probe_binlog_line::ALREADY_THERE;
+use probe_binlog_line::ENDED;
+use probe_binlog_line::Heard;
+use probe_binlog_line::JOINED;
+use probe_binlog_line::MORE_WANTED;
+use probe_binlog_line::NO_ID;
+use probe_binlog_line::TAKEN;
 use probe_lines::parts::byte_at;
 use probe_lines::parts::u64_at;
 use set_check::LONGEST_SET;
-
-// The archive's kinds of answers; 0 is a refusal.
-pub(crate) const TAKEN: u8 = 1;
-
-pub(crate) const ALREADY_THERE: u8 = 2;
-
-pub(crate) const NO_ID: u8 = 3;
-
-pub(crate) const JOINED: u8 = 4;
-
-const MORE_WANTED: u8 = 5;
-
-pub(crate) const ENDED: u8 = 6;
-
-// What a call said: the refusal, 0 for none; the kind of the answer; the event's type; the length of its body, or the one that a refusal
-// names; how many bytes of the chunk were used; and the length of the set.
-pub(crate) struct Heard {
-    pub(crate) refusal: u8,
-    pub(crate) kind: u8,
-    pub(crate) event_type: u8,
-    pub(crate) len: usize,
-    pub(crate) used: usize,
-    pub(crate) set_len: usize,
-}
 
 // Which of the two is asked, both readers, of which only that one goes on, and what it said last.
 pub(crate) struct Asked {
@@ -135,28 +115,16 @@ pub(crate) fn begin(archive: bool, set: &[u8], checksums: bool) -> Asked {
     by_library(step, bytes)
 }
 
-fn feed_over(
-    asked: Asked,
-    chunk: &[u8],
-    work: &mut [u8],
-    set: &mut [u8],
-    spare: &mut [u8],
-) -> Asked {
-    let mut bytes = asked.bytes;
-    if asked.archive {
-        let refusal = abi::gtid_binlog_step(&mut bytes, chunk, work, set, spare);
-        return by_archive(asked.reader, bytes, refusal);
-    }
-    by_library(
-        binlog_reader::step(asked.reader, chunk, work, set, spare),
-        bytes,
-    )
-}
-
 // Feeds a chunk. Nothing is kept in the spare bytes from one call to the next, so each has its own.
 pub(crate) fn feed(asked: Asked, chunk: &[u8], work: &mut [u8], set: &mut [u8]) -> Asked {
+    let mut bytes = asked.bytes;
     let mut spare = [0u8; LONGEST_SET];
-    feed_over(asked, chunk, work, set, &mut spare)
+    if asked.archive {
+        let refusal = abi::gtid_binlog_step(&mut bytes, chunk, work, set, &mut spare);
+        return by_archive(asked.reader, bytes, refusal);
+    }
+    let step = binlog_reader::step(asked.reader, chunk, work, set, &mut spare);
+    by_library(step, bytes)
 }
 
 pub(crate) fn end(asked: Asked) -> Asked {
@@ -166,18 +134,4 @@ pub(crate) fn end(asked: Asked) -> Asked {
         return by_archive(asked.reader, bytes, refusal);
     }
     by_library(binlog_reader::end(asked.reader), bytes)
-}
-
-// Whether the archive says something else than 12 of bytes that are no reader, one too few, or changes a byte.
-pub(crate) fn takes_short(chunk: &[u8]) -> bool {
-    let mut bytes = [MARK; READER_SIZE - 1];
-    let mut work = [MARK; 1];
-    let mut set = [MARK; 1];
-    let mut spare = [MARK; 1];
-    let begun = abi::gtid_binlog_begin(chunk, 0, &mut bytes);
-    let stepped = abi::gtid_binlog_step(&mut bytes, chunk, &mut work, &mut set, &mut spare);
-    let ended = abi::gtid_binlog_end(&mut bytes);
-    let answered = (begun == NOT_WRITABLE) & (stepped == NOT_WRITABLE) & (ended == NOT_WRITABLE);
-    let lent = [work[0], set[0], spare[0]];
-    !answered | dirty(&bytes, 0) | dirty(&lent, 0)
 }

@@ -1,5 +1,21 @@
 // The calls of the test program: each is asked of the crate that has it, and then of the archive.
+mod archive;
+
 use probe_lines::request::Request;
+
+// An output is at most so long, and the archive's has its length.
+pub const OUT_ROOM: usize = 140_000;
+
+// The output's length, which a request tells for every call but two.
+pub fn out_len_of(call: u8, told: usize) -> usize {
+    if call == 51 {
+        return probe_binlog::TWIN_ROOM;
+    }
+    if call == 64 {
+        return probe_listing::TEXT_ROOM;
+    }
+    told
+}
 
 fn of_two_sets(call: u8) -> bool {
     (52 <= call) & (call < 57)
@@ -76,6 +92,6 @@ pub fn answer<'a>(
 ) -> usize {
     let second = second_part(request, a, b);
     let end = answer_by_call(request, a, second, c, out, line);
-    let another = probe_abi::another(request, a, second, c, out);
+    let another = archive::another(request, a, second, c, out);
     probe_lines::line::push_text_if(line, end, another, b" abi")
 }

@@ -1,6 +1,5 @@
 // Call 9 and calls 16 to 22 of the test program: the GTID record.
 mod build;
-pub mod record;
 
 use gtid_event_read::GtidRead;
 use gtid_event_write::EventLength;
@@ -10,6 +9,8 @@ use probe_lines::line::push_byte;
 use probe_lines::line::push_decimal;
 use probe_lines::line::push_text_if;
 use probe_lines::request::Request;
+use probe_record::dump::from_dump;
+use probe_record::words;
 
 fn paysize(number: u64, line: &mut [u8]) -> usize {
     let size = gtid_event_write::size::payload_size(number);
@@ -25,7 +26,7 @@ fn refused_read(line: &mut [u8], read: GtidRead, rest: usize) -> usize {
     let used = read.used;
     let present = read.present;
     let event = read.event;
-    let nonzero = record::nonzero(event);
+    let nonzero = words::nonzero(event);
     answers::refused(
         line,
         refusal,
@@ -45,7 +46,7 @@ fn gtid(event_type: u8, a: &[u8], line: &mut [u8]) -> usize {
     let used_end = push_decimal(line, used_at, used as u64);
     let rest_end = answers::push_next(line, used_end, rest.len());
     let record_at = push_byte(line, rest_end, b' ');
-    let end = record::push_record(line, record_at, event);
+    let end = words::push_record(line, record_at, event);
     push_text_if(line, end, !checks::is_suffix(a, used, rest), b" notsuffix")
 }
 
@@ -91,12 +92,12 @@ fn present(event_type: u8, a: &[u8], line: &mut [u8]) -> usize {
 
 fn record_write(a: &[u8], out: &mut [u8], line: &mut [u8]) -> usize {
     checks::fill(out);
-    let wrote = gtid_event_write::write::write(record::from_dump(a), out);
+    let wrote = gtid_event_write::write::write(from_dump(a), out);
     answers::wrote(line, out, wrote)
 }
 
 fn record_len(a: &[u8], line: &mut [u8]) -> usize {
-    length_line(line, gtid_event_write::write::length(record::from_dump(a)))
+    length_line(line, gtid_event_write::write::length(from_dump(a)))
 }
 
 fn build_record(a: &[u8], line: &mut [u8]) -> usize {
@@ -104,10 +105,10 @@ fn build_record(a: &[u8], line: &mut [u8]) -> usize {
     let refusal = built.refusal;
     let event = built.event;
     if refusal != 0 {
-        return answers::refused(line, refusal, record::nonzero(event));
+        return answers::refused(line, refusal, words::nonzero(event));
     }
     let at = answers::ok(line);
-    record::push_record(line, at, event)
+    words::push_record(line, at, event)
 }
 
 pub fn answer(request: Request, a: &[u8], out: &mut [u8], line: &mut [u8]) -> usize {

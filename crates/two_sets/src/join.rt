@@ -1,4 +1,4 @@
-// Joining the body of a Previous-GTIDs event to a set, as `resume_set::join_in` does it. A body that is a set itself, as servers write it, is
+// Joining the body of a Previous-GTIDs event to a set, as `set_join::join_in` does it. A body that is a set itself, as servers write it, is
 // combined with the set in one walk over both; any other is left to `join_in`.
 use crate::either;
 use misc::Wrote;

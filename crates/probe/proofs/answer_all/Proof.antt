@@ -6,11 +6,11 @@ use Rattle.probe.proofs.answer_all.Statement.{statement}
 use Rattle.probe.proofs.answer_all.Tie as tie
 
 abbrev Inv-loop : tie.InvT-loop
-Inv-loop a₀ b₀ c₀ out₀ line₀ turns₀ a b c out line turns =
-    (length a ≡ length a₀) × (length b ≡ length b₀) × (length c ≡ length c₀) × (length out ≡ length out₀) × (length line ≡ length line₀)
+Inv-loop parts₀ out₀ line₀ turns₀ parts out line turns =
+    (length parts ≡ length parts₀) × (length out ≡ length out₀) × (length line ≡ length line₀)
 
 abbrev μ-loop : tie.MeasureT-loop
-μ-loop a₀ b₀ c₀ out₀ line₀ turns₀ a b c out line turns = turns
+μ-loop parts₀ out₀ line₀ turns₀ parts out line turns = turns
 
 loop-holds : tie.Need-loop-holds Inv-loop μ-loop
 loop-holds c = search needs
@@ -48,18 +48,6 @@ returns c = search needs
 same-length-6 : tie.Need-same-length-6 Inv-loop μ-loop
 same-length-6 c = search needs
 
-same-length-7 : tie.Need-same-length-7 Inv-loop μ-loop
-same-length-7 c = search needs
-
-same-length-8 : tie.Need-same-length-8 Inv-loop μ-loop
-same-length-8 c = search needs
-
-same-length-9 : tie.Need-same-length-9 Inv-loop μ-loop
-same-length-9 c = search needs
-
-same-length-10 : tie.Need-same-length-10 Inv-loop μ-loop
-same-length-10 c = search needs
-
 returns-2 : tie.Need-returns-2 Inv-loop μ-loop
 returns-2 c = search needs
 
@@ -77,12 +65,8 @@ answer-all-spec =
     same-length
     same-length-2
     same-length-3
+    returns
     same-length-4
     same-length-5
-    returns
     same-length-6
-    same-length-7
-    same-length-8
-    same-length-9
-    same-length-10
     returns-2)

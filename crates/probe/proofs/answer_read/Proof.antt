@@ -10,6 +10,12 @@ use Rattle.probe.proofs.answer_read.Tie as tie
 returns : tie.Need-returns
 returns c = search needs
 
+from-on-requires : tie.Need-from-on-requires
+from-on-requires c κs = search needs
+
+from-on-requires-2 : tie.Need-from-on-requires-2
+from-on-requires-2 c κs = search needs
+
 front-requires : tie.Need-front-requires
 front-requires c κs = search needs
 
@@ -45,6 +51,8 @@ answer-read-spec =
     tie.close
     (tie.spec
     returns
+    from-on-requires
+    from-on-requires-2
     front-requires
     front-requires-2
     front-requires-3

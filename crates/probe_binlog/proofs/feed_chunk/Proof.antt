@@ -6,11 +6,11 @@ use Rattle.probe_binlog.proofs.feed_chunk.Statement.{statement}
 use Rattle.probe_binlog.proofs.feed_chunk.Tie as tie
 
 abbrev Inv-loop : tie.InvT-loop
-Inv-loop a end work₀ set₀ line₀ here₀ turns₀ work set line here turns =
+Inv-loop fed work₀ set₀ line₀ here₀ turns₀ work set line here turns =
     (length work ≡ length work₀) × (length set ≡ length set₀) × (length line ≡ length line₀)
 
 abbrev μ-loop : tie.MeasureT-loop
-μ-loop a end work₀ set₀ line₀ here₀ turns₀ work set line here turns = turns
+μ-loop fed work₀ set₀ line₀ here₀ turns₀ work set line here turns = turns
 
 loop-holds : tie.Need-loop-holds Inv-loop μ-loop
 loop-holds c = search needs

@@ -1,13 +1,9 @@
-// A GTID record in a line, and from the bytes of a request.
+// A GTID record in a line.
 use gtid_event::GtidEvent;
 use probe_lines::line::push_byte;
 use probe_lines::line::push_decimal;
 use probe_lines::line::push_hex;
 use probe_lines::line::push_text;
-use probe_lines::parts::byte_at;
-use probe_lines::parts::from_on;
-use probe_lines::parts::u32_at;
-use probe_lines::parts::u64_at;
 
 // A space and the number.
 fn push_number(line: &mut [u8], at: usize, n: u64) -> usize {
@@ -64,7 +60,7 @@ fn push_rest(line: &mut [u8], at: usize, event: GtidEvent) -> usize {
 }
 
 // All fields of a record.
-pub(crate) fn push_record(line: &mut [u8], at: usize, event: GtidEvent) -> usize {
+pub fn push_record(line: &mut [u8], at: usize, event: GtidEvent) -> usize {
     let identity_end = push_identity(line, at, event);
     let clock_end = push_clock(line, identity_end, event);
     push_rest(line, clock_end, event)
@@ -82,7 +78,7 @@ fn all_zero(s: &[u8]) -> bool {
 }
 
 // Whether a part of the record isn't zero.
-pub(crate) fn nonzero(event: GtidEvent) -> bool {
+pub fn nonzero(event: GtidEvent) -> bool {
     let sid = event.sid;
     let tag = event.tag;
     if !all_zero(&sid) {
@@ -104,24 +100,4 @@ pub(crate) fn nonzero(event: GtidEvent) -> bool {
         | (event.immediate_server_version != 0)
         | (event.original_server_version != 0)
         | (event.commit_group_ticket != 0)
-}
-
-// The record whose 116 bytes these are: any values may come.
-pub fn from_dump(a: &[u8]) -> GtidEvent {
-    GtidEvent {
-        flags: byte_at(a, 0),
-        sid: packets::uuid_bytes(from_on(a, 1)),
-        gno: u64_at(a, 17),
-        tag: packets::tag_bytes(from_on(a, 26)),
-        tag_len: byte_at(a, 25),
-        lc_typecode: byte_at(a, 59),
-        last_committed: u64_at(a, 60),
-        sequence_number: u64_at(a, 68),
-        immediate_commit_timestamp: u64_at(a, 76),
-        original_commit_timestamp: u64_at(a, 84),
-        tx_length: u64_at(a, 92),
-        immediate_server_version: u32_at(a, 100),
-        original_server_version: u32_at(a, 104),
-        commit_group_ticket: u64_at(a, 108),
-    }
 }

@@ -1,11 +1,11 @@
--- `probe_abi::asked_over` is safe: the part that is lent is within its buffer.
+-- `probe_calls::archive::asked_over` is safe: the part that is lent is within its buffer.
 use mathlib.Core.Path.{sym}
 use lib.Seq.{length-take-le}
 use native.Mathlib.Omega.{arith}
 use borrow.Author.Tests.{ltb-false}
 use borrow.Author.Needs.{needs}
-use Rattle.probe_abi.proofs.asked_over.Statement.{statement}
-use Rattle.probe_abi.proofs.asked_over.Tie as tie
+use Rattle.probe_calls.proofs.archive.asked_over.Statement.{statement}
+use Rattle.probe_calls.proofs.archive.asked_over.Tie as tie
 
 returns : tie.Need-returns
 returns c = search needs

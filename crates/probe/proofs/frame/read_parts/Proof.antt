@@ -1,10 +1,10 @@
--- `probe::frame::read_part` is safe: what is read into is within the buffer.
+-- `probe::frame::read_parts` is safe: what is read into is within the buffer.
 use mathlib.Core.Path.{sym}
 use native.Mathlib.Omega.{arith}
 use lib.Seq.{length-take-le}
 use borrow.Author.Needs.{needs}
-use Rattle.probe.proofs.frame.read_part.Statement.{statement}
-use Rattle.probe.proofs.frame.read_part.Tie as tie
+use Rattle.probe.proofs.frame.read_parts.Statement.{statement}
+use Rattle.probe.proofs.frame.read_parts.Tie as tie
 
 returns : tie.Need-returns
 returns c = search needs
@@ -27,8 +27,8 @@ same-length c = search needs
 returns-3 : tie.Need-returns-3
 returns-3 c = search needs
 
-pub read-part-spec : {M : Type 1} → statement M
-read-part-spec =
+pub read-parts-spec : {M : Type 1} → statement M
+read-parts-spec =
     tie.close
     (tie.spec
     returns

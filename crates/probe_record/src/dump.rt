@@ -1,7 +1,12 @@
-// The 116 bytes of a GTID record, as the protocol lays them out, by code of the test program's own.
+// The 116 bytes of a GTID record, as the protocol lays them out, by code of the test program's own: of a request's record, and of one that
+// was read.
 use gtid_event::GtidEvent;
 use probe_lines::line::push_byte;
 use probe_lines::line::push_text;
+use probe_lines::parts::byte_at;
+use probe_lines::parts::from_on;
+use probe_lines::parts::u32_at;
+use probe_lines::parts::u64_at;
 
 fn push_u32_le(dump: &mut [u8], at: usize, n: u32) -> usize {
     let at1 = push_byte(dump, at, (n % 256) as u8);
@@ -43,8 +48,28 @@ fn dump_rest(event: GtidEvent, dump: &mut [u8], at: usize) -> usize {
 }
 
 // Puts the bytes at the front of `dump`.
-pub(crate) fn to_dump(event: GtidEvent, dump: &mut [u8]) -> usize {
+pub fn to_dump(event: GtidEvent, dump: &mut [u8]) -> usize {
     let identity_end = dump_identity(event, dump, 0);
     let clock_end = dump_clock(event, dump, identity_end);
     dump_rest(event, dump, clock_end)
+}
+
+// The record whose 116 bytes these are: any values may come.
+pub fn from_dump(a: &[u8]) -> GtidEvent {
+    GtidEvent {
+        flags: byte_at(a, 0),
+        sid: packets::uuid_bytes(from_on(a, 1)),
+        gno: u64_at(a, 17),
+        tag: packets::tag_bytes(from_on(a, 26)),
+        tag_len: byte_at(a, 25),
+        lc_typecode: byte_at(a, 59),
+        last_committed: u64_at(a, 60),
+        sequence_number: u64_at(a, 68),
+        immediate_commit_timestamp: u64_at(a, 76),
+        original_commit_timestamp: u64_at(a, 84),
+        tx_length: u64_at(a, 92),
+        immediate_server_version: u32_at(a, 100),
+        original_server_version: u32_at(a, 104),
+        commit_group_ticket: u64_at(a, 108),
+    }
 }

@@ -1,9 +1,9 @@
--- `probe_gtid::record::all_zero` is safe and ends.
+-- `probe_record::words::all_zero` is safe and ends.
 use Prim.Native.Nat.{_-_}
 use lib.ListN.{length}
 use borrow.Author.Needs.{needs}
-use Rattle.probe_gtid.proofs.record.all_zero.Statement.{statement}
-use Rattle.probe_gtid.proofs.record.all_zero.Tie as tie
+use Rattle.probe_record.proofs.words.all_zero.Statement.{statement}
+use Rattle.probe_record.proofs.words.all_zero.Tie as tie
 
 abbrev Inv-loop : tie.InvT-loop
 Inv-loop s i₀ i = Unit {0}
