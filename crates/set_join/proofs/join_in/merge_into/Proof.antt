@@ -28,7 +28,7 @@ size : length buffer ≡ longestSet + anyBody
 size = length-replicate {A = ℕ} 131122 0 ∙ sym (ap (λ n. n + anyBody) longestSet-is)
 
 slice-aggregate-write-bytes : tie.Need-slice-aggregate-write-bytes
-slice-aggregate-write-bytes c = search needs
+slice-aggregate-write-bytes c = sym (length-replicate {A = ℕ} _ 0)
 
 write-bytes-requires : tie.Need-write-bytes-requires
 write-bytes-requires c κs = search needs
@@ -37,7 +37,7 @@ slice-aggregate-join-body : tie.Need-slice-aggregate-join-body
 slice-aggregate-join-body c = search needs
 
 slice-aggregate-join-body-2 : tie.Need-slice-aggregate-join-body-2
-slice-aggregate-join-body-2 c = search needs
+slice-aggregate-join-body-2 c = sym (length-replicate {A = ℕ} _ 0)
 
 lent-requires : tie.Need-lent-requires
 lent-requires c κs = search needs

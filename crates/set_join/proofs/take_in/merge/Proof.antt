@@ -20,10 +20,10 @@ abbrev buffer : List ℕ
 buffer = replicate 68266 0
 
 slice-aggregate-join-body : tie.Need-slice-aggregate-join-body
-slice-aggregate-join-body c = search needs
+slice-aggregate-join-body c = sym (length-replicate {A = ℕ} _ 0)
 
 slice-aggregate-join-body-2 : tie.Need-slice-aggregate-join-body-2
-slice-aggregate-join-body-2 c = search needs
+slice-aggregate-join-body-2 c = sym (length-replicate {A = ℕ} _ 0)
 
 join-body-requires : tie.Need-join-body-requires
 join-body-requires c κs =
