@@ -20,7 +20,7 @@ use Rattle.packets.specs.Gno.{Interval}
 use Rattle.packets.specs.Key.{Key}
 use Rattle.previous_gtids_event.specs.Entry.{Entry, entry, uuidOf, tagOf}
 use Rattle.previous_gtids_event.specs.Previous.{entryAt}
-use Rattle.previous_gtids_event.specs.Rewrite.{tagBytes, headRun, entryBytes, entriesBytes, anyTag, headerBytes, bodyBytes, rewritten}
+use Rattle.previous_gtids_event.specs.Rewrite.{tagBytes, entryBytes, entriesBytes, anyTag, headerBytes, bodyBytes, rewritten}
 use Rattle.previous_gtids_event.specs.Inside.{sizesOf, refusedSizes, entryBytesOf, entriesBytesOf}
 use Rattle.previous_gtids_event.specs.declared.WholeRead.{WholeRead}
 use Rattle.previous_gtids_event.specs.declared.Sizes.{Sizes}
@@ -111,23 +111,22 @@ behind-tag tags t room e = rw (e, length-append (varlenBytes (length t)) t) (ome
 pub behind-none : (tags : Bool) (t : List ℕ) (room : ℕ) → tags ≡ false → room ≡ room - length (tagBytes tags t)
 behind-none tags t room e = rw e (omega arith)
 
--- a head and the intervals behind it make an entry
+-- a key, and the count and the intervals behind it, make an entry
 module _ (tagged : Bool) (s : List ℕ) (from : ℕ) (r : WholeRead) (told : WholeTold tagged s from r) (tags : Bool) (are-bytes : Bytes s) where
   pub entry-put : {l l₁ l₂ : List ℕ} {at at₁ at₂ : ℕ}
-      → WhereFits l at
-      (headRun (part s from (from + 16 - from)) tags (part s (r .first - 8 - r .«tag_len») (r .first - 8 - (r .first - 8 - r .«tag_len»))) (r .intervals))
+      → WhereFits l at (part s from (from + 16 - from) ++ tagBytes tags (part s (r .first - 8 - r .«tag_len») (r .first - 8 - (r .first - 8 - r .«tag_len»))))
       l₁ at₁
-      → WhereFits l₁ at₁ (part s (r .first) (r .next - r .first)) l₂ at₂
+      → WhereFits l₁ at₁ (part s (r .first - 8) (r .next - (r .first - 8))) l₂ at₂
       → (r .next ≡ usedOf (entryAt tagged s from)) × WhereFits l at (entryBytesOf tags (entryAt tagged s from)) l₂ at₂
   entry-put {l} {l₁} {l₂} {at} {at₁} {at₂} p q =
       let t = r .first - 8 - r .«tag_len» in
-      let head : ℕ → ℕ → List ℕ = λ u n. headRun (part s from u) tags (part s t n) (r .intervals) in
+      let key : ℕ → ℕ → List ℕ = λ u n. part s from u ++ tagBytes tags (part s t n) in
       let uuid : from + 16 - from ≡ 16 = omega arith in
       let tag : r .first - 8 - t ≡ r .«tag_len» = omega (arith, whole-order told) in
-      let named : WhereFits l at (head 16 (r .first - 8 - t)) l₁ at₁ = subst (λ (n : ℕ). WhereFits l at (head n (r .first - 8 - t)) l₁ at₁) uuid p in
-      let counted : WhereFits l at (head 16 (r .«tag_len»)) l₁ at₁ = subst (λ (n : ℕ). WhereFits l at (head 16 n) l₁ at₁) tag named in
+      let named : WhereFits l at (key 16 (r .first - 8 - t)) l₁ at₁ = subst (λ (n : ℕ). WhereFits l at (key n (r .first - 8 - t)) l₁ at₁) uuid p in
+      let keyed : WhereFits l at (key 16 (r .«tag_len»)) l₁ at₁ = subst (λ (n : ℕ). WhereFits l at (key 16 n) l₁ at₁) tag named in
       let all = ap (entryBytesOf tags) (told .is) ∙ entry-bytes tagged s from r told tags are-bytes in
-      (sym (ap usedOf (told .is)), subst (λ (bs : List ℕ). WhereFits l at bs l₂ at₂) (sym all) (counted also q))
+      (sym (ap usedOf (told .is)), subst (λ (bs : List ℕ). WhereFits l at bs l₂ at₂) (sym all) (keyed also q))
 
 -- whoever writes the entries that are left writes all of them
 pub record PutSoFar (item : ℕ → Parse Entry) (tags : Bool) (out₀ : List ℕ) (at : ℕ) (wanted : List ℕ) (left next : ℕ) (out : List ℕ) (put : ℕ) : Type 0 where

@@ -1,5 +1,5 @@
--- Laws of the bytes of entries (`specs/Rewrite.antt`): their lengths, and that an entry which was read is written as its head, with the
--- length of its tag in the shortest form, and its intervals as they stood.
+-- Laws of the bytes of entries (`specs/Rewrite.antt`): their lengths, and that an entry which was read is written as its key, with the
+-- length of its tag in the shortest form, and its count and intervals as they stood.
 use mathlib.Core.Path.{_≡_, refl, sym, ap, _∙_}
 use mathlib.Core.Bool.{Bool, true, false}
 use mathlib.Core.List.{List, [], _∷_, _++_, append-assoc}
@@ -8,10 +8,10 @@ use native.Mathlib.Nat.{mul-left-comm, pow-succ', div-add-mod'}
 use native.Mathlib.Omega.{arith}
 use lib.ListN.{length, drop, length-append}
 use lib.Seq.{take-add, drop-drop}
-use Rattle.misc.specs.Parse.{Bytes, part}
-use Rattle.misc.specs.Le.{leBytes}
+use Rattle.misc.specs.Parse.{Bytes, parsed, part}
+use Rattle.misc.specs.Le.{leBytes, leAt}
 use Rattle.misc.proofs.LeLaws.{length-leBytes}
-use Rattle.misc.proofs.Accepted.{part-is}
+use Rattle.misc.proofs.Accepted.{part-is, le-accepted}
 use Rattle.packets.specs.Gno.{Interval, interval}
 use Rattle.packets.specs.Key.{Key}
 use Rattle.previous_gtids_event.specs.Entry.{entry, uuidOf, tagOf}
@@ -102,17 +102,25 @@ module _ (s : List ℕ) (are-bytes : Bytes s) where
         m,
       )
 
--- an entry that was read, as its place says: its head, and the intervals as they stand
+  -- the count and the intervals are one part of the body
+  counted-bytes : (at n first : ℕ) (is : List Interval) → leAt 8 s at ≡ parsed n first → length is ≡ n → intervalsOf s n first ≡ is
+      → first + 16 * n ≤ length s → leBytes 8 (length is) ++ intervalsBytes is ≡ part s at (8 + 16 * n)
+  counted-bytes at n first is count all list room =
+      let c = le-accepted s at are-bytes 8 n first count in
+      ap (λ (m : ℕ). leBytes 8 m ++ intervalsBytes is) all
+      ∙ ap (λ (l : List Interval). leBytes 8 n ++ intervalsBytes l) (sym list)
+      ∙ rw (← c .0, c .1, intervals-bytes n (at + 8) (omega (arith, c .1))) (part-join s at 8 (16 * n))
+
+-- an entry that was read, as its place says: its key, and the count and the intervals as they stand
 pub entry-bytes : (tagged : Bool) (s : List ℕ) (at : ℕ) (r : WholeRead) (told : WholeTold tagged s at r) (tags : Bool)
     → Bytes s
     → entryBytes tags (entry (told .key) (told .list))
-    ≡ headRun (part s at 16) tags (part s (r .first - 8 - r .«tag_len») (r .«tag_len»)) (r .intervals) ++ part s (r .first) (r .next - r .first)
+    ≡ (part s at 16 ++ tagBytes tags (part s (r .first - 8 - r .«tag_len») (r .«tag_len»))) ++ part s (r .first - 8) (r .next - (r .first - 8))
 unfolding entryBytes
 entry-bytes tagged s at r told tags are-bytes =
     let there = told .there in
     let head = there .head in
-    let n = length (told .list) in
-    let size : r .next - r .first ≡ 16 * n = omega (arith, told .first, there .end) in
-    let laid = intervals-bytes s are-bytes n (there .first) (omega (arith, there .end, there .inside)) in
-    let list : intervalsBytes (told .list) ≡ part s (there .first) (16 * n) = ap intervalsBytes (sym (there .intervals)) ∙ laid in
-    rw (head .uuid, list, size, told .first, told .tag-len, told .count, head .tag .bytes) (simp append-assoc)
+    let rest = counted-bytes s are-bytes (there .first - 8) (length (told .list)) (there .first) (told .list) (head .count-is) refl (there .intervals)
+    (omega (arith, there .end, there .inside)) in
+    let size : r .next - (r .first - 8) ≡ 8 + 16 * length (told .list) = omega (arith, told .first, there .end, head .eight) in
+    rw (head .uuid, rest, size, told .first, told .tag-len, head .tag .bytes) (sym (append-assoc (part s at 16) _ _))

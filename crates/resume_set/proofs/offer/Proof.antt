@@ -15,7 +15,9 @@ use Rattle.resume_set.proofs.offer.Tie as tie
 
 -- the set, once it is one
 fits : (c : tie.Else3) → Fits (now (c .before .before .before .before .before .before .before .args .set)) (c .before .check .result)
-fits c = check-told (now (c .before .before .before .before .before .before .before .args .set)) (c .before .check .result) (c .before .check .ensures) (c .if3 .left)
+fits c =
+    let told = c .before in
+    check-told (now (told .before .before .before .before .before .before .args .set)) (told .check .result) (told .check .ensures) (c .if3 .left)
 
 read-named-requires : tie.Need-read-named-requires
 read-named-requires c κs = search needs
@@ -34,10 +36,13 @@ same-length c = search needs
 
 returns : tie.Need-returns
 returns c =
-    let a = c .before .before .before .before .before .before .before .before .before .before .before .before .before .before .before .args in
-    let (z, t) = and-true _ _ (c .before .before .before .before .before .before .before .before .before .before .if1 .taken) in
-    offer-joined (a .event-type) (now (a .body)) (c .before .before .before .before .before .before .before .before .before .before .before .read-named .result) (c .before .before .before .before .before .before .before .before .before .before .before .read-named .ensures) (eqb-true _ _ z) (now (a .set)) (now (a .out)) _ _ _
-    (eqb-false _ _ (not-true _ t)) (c .before .before .before .before .join-id .ensures) true (c .before .if2 .taken) (c .accepted .ensures)
+    let joined = c .before .before .before .before in
+    let event = joined .before .before .before .before .before .before in
+    let read = event .before in
+    let a = read .before .before .before .before .args in
+    let (z, t) = and-true _ _ (event .if1 .taken) in
+    offer-joined (a .event-type) (now (a .body)) (read .read-named .result) (read .read-named .ensures) (eqb-true _ _ z) (now (a .set)) (now (a .out)) _ _ _
+    (eqb-false _ _ (not-true _ t)) (joined .join-id .ensures) true (c .before .if2 .taken) (c .accepted .ensures)
 
 accepted-requires-2 : tie.Need-accepted-requires-2
 accepted-requires-2 c κs = search needs
@@ -47,10 +52,13 @@ same-length-2 c = search needs
 
 returns-2 : tie.Need-returns-2
 returns-2 c =
-    let a = c .before .before .before .before .before .before .before .before .before .before .before .before .before .before .before .args in
-    let (z, t) = and-true _ _ (c .before .before .before .before .before .before .before .before .before .before .if1 .taken) in
-    offer-joined (a .event-type) (now (a .body)) (c .before .before .before .before .before .before .before .before .before .before .before .read-named .result) (c .before .before .before .before .before .before .before .before .before .before .before .read-named .ensures) (eqb-true _ _ z) (now (a .set)) (now (a .out)) _ _ _
-    (eqb-false _ _ (not-true _ t)) (c .before .before .before .before .join-id .ensures) false (c .before .if2 .left) (c .accepted2 .ensures)
+    let joined = c .before .before .before .before in
+    let event = joined .before .before .before .before .before .before in
+    let read = event .before in
+    let a = read .before .before .before .before .args in
+    let (z, t) = and-true _ _ (event .if1 .taken) in
+    offer-joined (a .event-type) (now (a .body)) (read .read-named .result) (read .read-named .ensures) (eqb-true _ _ z) (now (a .set)) (now (a .out)) _ _ _
+    (eqb-false _ _ (not-true _ t)) (joined .join-id .ensures) false (c .before .if2 .left) (c .accepted2 .ensures)
 
 check-requires : tie.Need-check-requires
 check-requires c κs = search needs
@@ -63,8 +71,9 @@ returns-3 c =
 
 returns-4 : tie.Need-returns-4
 returns-4 c =
-    let a = c .before .before .before .before .before .before .before .before .args in
-    offer-broken (a .event-type) (now (a .body)) (c .before .before .before .before .read-named .result) (c .before .before .before .before .read-named .ensures) (now (a .set)) (now (a .out)) (fits (c .before) .lent)
+    let read = c .before .before .before .before in
+    let a = read .before .before .before .before .args in
+    offer-broken (a .event-type) (now (a .body)) (read .read-named .result) (read .read-named .ensures) (now (a .set)) (now (a .out)) (fits (c .before) .lent)
     (c .if4 .taken)
 
 write-bytes-requires : tie.Need-write-bytes-requires
@@ -78,12 +87,18 @@ same-length-3 c = search needs
 
 returns-5 : tie.Need-returns-5
 returns-5 c =
-    let a = c .before .before .before .before .before .before .before .before .before .before .before .before .before .args in
-    let f = fits (c .before .before .before .before .before .before) in
+    let wrote = c .before .before .before in
+    let whole = wrote .before .before in
+    let set = whole .before in
+    let other = set .before .before in
+    let read = other .before in
+    let a = read .before .before .before .before .args in
+    let f = fits set in
     let none : false ≡ not (eqb (a .event-type) 34) =
-    sym (c .before .before .before .before .before .before .before .before .if1 .left) ∙ ap (λ (b : Bool). b && not (eqb (a .event-type) 34)) (eq-eqb _ _ (c .before .before .before .before .before .if4 .left)) in
-    offer-none (a .event-type) (now (a .body)) (c .before .before .before .before .before .before .before .before .before .read-named .result) (c .before .before .before .before .before .before .before .before .before .read-named .ensures) (now (a .set)) (now (a .out)) (f .lent) (c .before .before .before .before .before .if4 .left)
-    _ _ _ (eqb-true _ _ (not-false _ (sym none))) (sym (f .set .written)) (c .before .before .before .write-bytes .ensures .0) (c .before .before .before .write-bytes .ensures .1) (c .accepted3 .ensures)
+    sym (other .if1 .left) ∙ ap (λ (b : Bool). b && not (eqb (a .event-type) 34)) (eq-eqb _ _ (whole .if4 .left)) in
+    offer-none (a .event-type) (now (a .body)) (read .read-named .result) (read .read-named .ensures) (now (a .set)) (now (a .out)) (f .lent)
+    (whole .if4 .left) _ _ _ (eqb-true _ _ (not-false _ (sym none))) (sym (f .set .written)) (wrote .write-bytes .ensures .0) (wrote .write-bytes .ensures .1)
+    (c .accepted3 .ensures)
 
 pub offer-spec : {M : Type 1} → statement M
 offer-spec =

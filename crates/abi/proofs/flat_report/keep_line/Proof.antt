@@ -27,7 +27,9 @@ put-line-requires : tie.Need-put-line-requires
 put-line-requires c κs = search needs
 
 add-put-u64-le : tie.Need-add-put-u64-le
-add-put-u64-le c = record { fits = omega (arith, there (c .before .before .before .before .before .before .before), c .before .before .before .before .number-at .ensures) }
+add-put-u64-le c =
+    let number = c .before .before .before .before in
+    record { fits = omega (arith, there (number .before .before .before), number .number-at .ensures) }
 
 put-u64-le-requires : tie.Need-put-u64-le-requires
 put-u64-le-requires c κs = search needs

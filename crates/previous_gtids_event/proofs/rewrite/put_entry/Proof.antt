@@ -23,43 +23,43 @@ whole-at-requires : tie.Need-whole-at-requires
 whole-at-requires c κs = search needs
 
 sub-tag-end : tie.Need-sub-tag-end
-sub-tag-end c = omega (arith, whole-order (told c))
+sub-tag-end c = omega (arith, whole-order (told (c .before)))
 
 sub-tag : tie.Need-sub-tag
-sub-tag c = omega (arith, whole-order (told (c .before)))
+sub-tag c = omega (arith, whole-order (told (c .before .before)))
 
 add-uuid-end : tie.Need-add-uuid-end
-add-uuid-end c = omega (arith, whole-order (told (c .before)))
+add-uuid-end c = record { fits = omega (arith, whole-order (told (c .before .before))) }
 
-sub-put-parts : tie.Need-sub-put-parts
-sub-put-parts c = search needs
+sub-put-key : tie.Need-sub-put-key
+sub-put-key c = search needs
 
-part-put-parts-start : tie.Need-part-put-parts-start
-part-put-parts-start c = search needs
+part-put-key-start : tie.Need-part-put-key-start
+part-put-key-start c = search needs
 
-part-put-parts-end : tie.Need-part-put-parts-end
-part-put-parts-end c = omega (arith, whole-order (told (c .before)))
+part-put-key-end : tie.Need-part-put-key-end
+part-put-key-end c = omega (arith, whole-order (told (c .before .before)))
 
-sub-put-parts-2 : tie.Need-sub-put-parts-2
-sub-put-parts-2 c = search needs
+sub-put-key-2 : tie.Need-sub-put-key-2
+sub-put-key-2 c = search needs
 
-part-put-parts-start-2 : tie.Need-part-put-parts-start-2
-part-put-parts-start-2 c = search needs
+part-put-key-start-2 : tie.Need-part-put-key-start-2
+part-put-key-start-2 c = search needs
 
-part-put-parts-end-2 : tie.Need-part-put-parts-end-2
-part-put-parts-end-2 c = omega (arith, whole-order (told (c .before .before)))
+part-put-key-end-2 : tie.Need-part-put-key-end-2
+part-put-key-end-2 c = omega (arith, whole-order (told (c .before .before .before)))
 
-put-parts-requires : tie.Need-put-parts-requires
-put-parts-requires c κs = search needs
+put-key-requires : tie.Need-put-key-requires
+put-key-requires c κs = search needs
 
 sub-put-bytes : tie.Need-sub-put-bytes
-sub-put-bytes c = omega (arith, whole-order (told (c .before .before .before .before .before .before .before)))
+sub-put-bytes c = omega (arith, whole-order (told (c .before .before .before .before .before .before .before .before)))
 
 part-put-bytes-start : tie.Need-part-put-bytes-start
-part-put-bytes-start c = omega (arith, whole-order (told (c .before .before .before .before .before .before .before)))
+part-put-bytes-start c = omega (arith, whole-order (told (c .before .before .before .before .before .before .before .before)))
 
 part-put-bytes-end : tie.Need-part-put-bytes-end
-part-put-bytes-end c = omega (arith, whole-order (told (c .before .before .before .before .before .before .before)))
+part-put-bytes-end c = omega (arith, whole-order (told (c .before .before .before .before .before .before .before .before)))
 
 put-bytes-requires : tie.Need-put-bytes-requires
 put-bytes-requires c κs = search needs
@@ -69,13 +69,13 @@ same-length c = search needs
 
 returns : tie.Need-returns
 returns c =
-    let intervals = c .before .before in
-    let head = intervals .before .before .before .before .before in
-    let place = head .before .before .before .before .before in
+    let rest = c .before .before in
+    let key = rest .before .before .before .before .before in
+    let place = key .before .before .before .before .before .before in
     let known = place .before .before in
     let a = known .before .args in
     entry-put (a .tagged) (now (a .body)) (a .from) _ (told place) (a .tags) (λ i. known .shared-slice-known .given i .fits)
-    (head .put-parts .ensures) (put-placed (intervals .put-bytes .ensures))
+    (key .put-key .ensures) (put-placed (rest .put-bytes .ensures))
 
 pub put-entry-spec : {M : Type 1} → statement M
 put-entry-spec =
@@ -85,13 +85,13 @@ put-entry-spec =
     sub-tag-end
     sub-tag
     add-uuid-end
-    sub-put-parts
-    part-put-parts-start
-    part-put-parts-end
-    sub-put-parts-2
-    part-put-parts-start-2
-    part-put-parts-end-2
-    put-parts-requires
+    sub-put-key
+    part-put-key-start
+    part-put-key-end
+    sub-put-key-2
+    part-put-key-start-2
+    part-put-key-end-2
+    put-key-requires
     sub-put-bytes
     part-put-bytes-start
     part-put-bytes-end

@@ -4,7 +4,7 @@ use native.Mathlib.Omega.{arith}
 use Prim.Native.Nat.{_+_, _≤_}
 use lib.ListN.{length}
 use borrow.Author.Needs.{needs}
-use Rattle.misc.proofs.OutputLaws.{put-there, put-short}
+use Rattle.misc.proofs.OutputLaws.{_also_, put-placed, put-there, put-short}
 use Rattle.previous_gtids_event.specs.Rewrite.{headRun}
 use Rattle.previous_gtids_event.proofs.Writing.{length-head}
 use Rattle.previous_gtids_event.proofs.rewrite.put_head.Statement.{statement}
@@ -32,23 +32,27 @@ returns c =
     put-short (now (a .out)) (headRun (now (a .uuid)) (a .tags) (now (a .tag)) (a .count)) (a .at)
     (omega (arith, size, c .if1 .taken, tag .left-behind-tag .ensures, uuid .left-of .ensures, here .left-at .ensures))
 
-put-parts-requires : tie.Need-put-parts-requires
-put-parts-requires c κs = search needs
+put-key-requires : tie.Need-put-key-requires
+put-key-requires c κs = search needs
+
+put-u64-le-requires : tie.Need-put-u64-le-requires
+put-u64-le-requires c κs = search needs
 
 same-length-2 : tie.Need-same-length-2
 same-length-2 c = search needs
 
 returns-2 : tie.Need-returns-2
 returns-2 c =
-    let parts = c .before .before in
-    let fits = parts .before .before in
+    let count = c .before .before in
+    let key = count .before .before .before .before in
+    let fits = key .before .before in
     let left = fits .before in
     let here = left .before .before in
     let a = here .before .before .before .before .before .args in
     let size = length-head (now (a .uuid)) (a .tags) (now (a .tag)) (a .count) in
     let room : a .at + length (headRun (now (a .uuid)) (a .tags) (now (a .tag)) (a .count)) ≤ length (now (a .out)) =
     omega (arith, size, fits .if1 .left, left .left-behind-tag .ensures, left .before .left-of .ensures, here .left-at .ensures) in
-    put-there room (parts .put-parts .ensures .placed room)
+    put-there room ((key .put-key .ensures also put-placed (count .put-u64-le .ensures)) .placed room)
 
 pub put-head-spec : {M : Type 1} → statement M
 put-head-spec =
@@ -59,6 +63,7 @@ put-head-spec =
     left-behind-tag-requires
     same-length
     returns
-    put-parts-requires
+    put-key-requires
+    put-u64-le-requires
     same-length-2
     returns-2)

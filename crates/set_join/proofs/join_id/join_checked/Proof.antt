@@ -53,10 +53,17 @@ same-length c = search needs
 
 returns-2 : tie.Need-returns-2
 returns-2 c =
-    let a = c .before .before .before .before .before .before .before .before .before .before .before .before .before .before .before .args in
-    id-already (setOf (now (a .set))) (now (a .uuid) ++ now (a .tag)) (a .gno) (now (a .out))
-    (sym (c .before .before .before .before .before .before .before .before .before .before .is-gno .ensures) ∙ not-false _ (c .before .before .before .before .before .before .before .before .before .if1 .left)) _ _ _ (c .before .before .before .before .before .before .before .plan-join .ensures .member ∙ sym (c .before .before .before .before .before .held-behind .ensures))
-    (now (a .set)) (c .before .before .before .before .if2 .taken) (sym (c .before .before .before .before .before .before .before .before .before .before .before .before .before .before .before .pre .0 .set .written)) (c .before .before .write-bytes .ensures .0) (c .before .before .write-bytes .ensures .1)
+    let wrote = c .before .before in
+    let there = wrote .before .before in
+    let held = there .before in
+    let plan = held .before .before in
+    let lawful = plan .before .before in
+    let gno = lawful .before in
+    let s = gno .before .before .before .before .before in
+    let a = s .args in
+    id-already (setOf (now (a .set))) (now (a .uuid) ++ now (a .tag)) (a .gno) (now (a .out)) (sym (gno .is-gno .ensures) ∙ not-false _ (lawful .if1 .left))
+    _ _ _ (plan .plan-join .ensures .member ∙ sym (held .held-behind .ensures)) (now (a .set)) (there .if2 .taken) (sym (s .pre .0 .set .written))
+    (wrote .write-bytes .ensures .0) (wrote .write-bytes .ensures .1)
 
 write-joined-requires : tie.Need-write-joined-requires
 write-joined-requires c κs =
@@ -68,10 +75,17 @@ same-length-2 c = search needs
 
 returns-3 : tie.Need-returns-3
 returns-3 c =
-    let a = c .before .before .before .before .before .before .before .before .before .before .before .before .before .before .before .args in
-    id-new (setOf (now (a .set))) (now (a .uuid) ++ now (a .tag)) (a .gno) (now (a .out))
-    (sym (c .before .before .before .before .before .before .before .before .before .before .is-gno .ensures) ∙ not-false _ (c .before .before .before .before .before .before .before .before .before .if1 .left)) _ _ _ (c .before .before .before .before .before .before .before .plan-join .ensures .member ∙ sym (c .before .before .before .before .before .held-behind .ensures))
-    (c .before .before .before .before .if2 .left) (c .before .before .write-joined .ensures .0) (c .before .before .write-joined .ensures .1)
+    let wrote = c .before .before in
+    let there = wrote .before .before in
+    let held = there .before in
+    let plan = held .before .before in
+    let lawful = plan .before .before in
+    let gno = lawful .before in
+    let s = gno .before .before .before .before .before in
+    let a = s .args in
+    id-new (setOf (now (a .set))) (now (a .uuid) ++ now (a .tag)) (a .gno) (now (a .out)) (sym (gno .is-gno .ensures) ∙ not-false _ (lawful .if1 .left))
+    _ _ _ (plan .plan-join .ensures .member ∙ sym (held .held-behind .ensures)) (there .if2 .left)
+    (wrote .write-joined .ensures .0) (wrote .write-joined .ensures .1)
 
 pub join-checked-spec : {M : Type 1} → statement M
 join-checked-spec =

@@ -23,8 +23,11 @@ entry-here-requires c κs = search needs
 
 put-wider-requires : tie.Need-put-wider-requires Inv-loop μ-loop
 put-wider-requires c κs =
-    let l = c .before .before .before .before .loop in
-    let w = wider (now (c .before .before .before .before .before .before .before .args .set)) _ _ _ (l .rest) (l .out) (l .put) (l .inv .1) (c .before .entry-here .result) (c .before .before .if1 .taken) (c .before .entry-here .ensures) in
+    let here = c .before in
+    let turn = here .before in
+    let l = turn .before .before .loop in
+    let set = now (turn .before .before .before .before .before .args .set) in
+    let w = wider set _ _ _ (l .rest) (l .out) (l .put) (l .inv .1) (here .entry-here .result) (turn .if1 .taken) (here .entry-here .ensures) in
     (w .order, w .inside)
 
 beyond-requires : tie.Need-beyond-requires Inv-loop μ-loop
@@ -35,12 +38,16 @@ loop-less c = rw (c .beyond .ensures) (omega (arith, c .before .before .before .
 
 loop-again : tie.Need-loop-again Inv-loop μ-loop
 loop-again c =
-    let l = c .before .before .before .before .before .before .before .before .loop in
-    let k = c .before .before .before .put-wider .kept .1 .1 .1 .0 in
+    let wider = c .before .before .before in
+    let here = wider .before .before in
+    let turn = here .before in
+    let l = turn .before .before .loop in
+    let set = now (turn .before .before .before .before .before .args .set) in
+    let k = wider .put-wider .kept .1 .1 .1 .0 in
     rw (c .beyond .ensures) (
       k ∙ l .inv .0,
-      widening-turn (now (c .before .before .before .before .before .before .before .before .before .before .before .args .set)) _ _ _ (l .rest) (l .out) (l .put) (l .inv .1) (c .before .before .before .before .before .entry-here .result) (c .before .before .before .before .before .before .if1 .taken)
-          (c .before .before .before .before .before .entry-here .ensures) _ _ (c .before .before .before .put-wider .ensures),
+      widening-turn set _ _ _ (l .rest) (l .out) (l .put) (l .inv .1) (here .entry-here .result) (turn .if1 .taken) (here .entry-here .ensures) _ _
+          (wider .put-wider .ensures),
     )
 
 same-length : tie.Need-same-length Inv-loop μ-loop

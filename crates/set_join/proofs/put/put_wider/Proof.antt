@@ -43,10 +43,13 @@ same-length c = search needs
 
 returns : tie.Need-returns
 returns c =
-    let a = c .before .before .before .before .before .before .before .before .before .before .before .before .before .before .before .before .args in
-    put-part (now (a .set)) (a .from) 16 (a .from + 16 - a .from) (omega arith) (put-placed (c .before .before .before .before .before .before .before .before .before .before .before .put-bytes .ensures))
-    also put-placed (c .before .before .before .before .before .before .before .put-varlen-uint .ensures)
-    also put-placed (c .before .before .put-bytes2 .ensures)
+    let rest = c .before .before in
+    let length = rest .before .before .before .before .before in
+    let uuid = length .before .before .before .before in
+    let a = uuid .before .before .before .before .before .args in
+    put-part (now (a .set)) (a .from) 16 (a .from + 16 - a .from) (omega arith) (put-placed (uuid .put-bytes .ensures))
+    also put-placed (length .put-varlen-uint .ensures)
+    also put-placed (rest .put-bytes2 .ensures)
 
 pub put-wider-spec : {M : Type 1} → statement M
 put-wider-spec =
