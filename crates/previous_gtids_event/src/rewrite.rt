@@ -16,7 +16,6 @@ use misc::put::put_u64_le;
 use misc::refusal::NO_ROOM;
 use misc::varlen::varlen_uint_size;
 ghost use mathlib.Core.Path.{_≡_};
-ghost use mathlib.Core.List.{_++_};
 ghost use Prim.Native.Nat.{_+_, _-_, _*_, _≤_};
 ghost use lib.ListN.{length};
 ghost use Rattle.misc.specs.Pick.{pick};
@@ -107,14 +106,6 @@ fn left_behind_tag(tag: &[u8], tags: bool, room: usize) -> usize
     room
 }
 
-// The key of an entry, its uuid and its tag: nothing is promised where there is no room for both.
-fn put_key(uuid: &[u8], tag: &[u8], tags: bool, out: &mut [u8], at: usize) -> usize
-    ensures { λ r. ⌜ WhereFits (now (out .entry)) at (now (uuid .entry) ++ tagBytes tags (now (tag .entry))) (now (out .exit)) r ⌝ }
-{
-    let after_uuid = put_bytes(uuid, out, at);
-    put_tag(tag, tags, out, after_uuid)
-}
-
 // The head of an entry: its uuid, its tag, and how many intervals follow.
 pub fn put_head(uuid: &[u8], tag: &[u8], tags: bool, count: u64, out: &mut [u8], at: usize) -> usize
     ensures { λ r. ⌜ r ≡ putEnd (now (out .entry)) at (headRun (now (uuid .entry)) tags (now (tag .entry)) count) ⌝ }
@@ -124,8 +115,9 @@ pub fn put_head(uuid: &[u8], tag: &[u8], tags: bool, count: u64, out: &mut [u8],
     if left_behind_tag(tag, tags, room) < 8 {
         return at;
     }
-    let after_key = put_key(uuid, tag, tags, out, at);
-    put_u64_le(count, out, after_key)
+    let after_uuid = put_bytes(uuid, out, at);
+    let after_tag = put_tag(tag, tags, out, after_uuid);
+    put_u64_le(count, out, after_tag)
 }
 
 // The entry at a place of the body, which has been read before: its key, and then the count and the intervals as they stand there.
@@ -139,8 +131,9 @@ fn put_entry(body: &[u8], from: usize, tagged: bool, tags: bool, out: &mut [u8],
     let tag_end = whole.first - 8;
     let tag = tag_end - whole.tag_len;
     let uuid_end = from + UUID_LEN;
-    let key = put_key(&body[from..uuid_end], &body[tag..tag_end], tags, out, at);
-    let put = put_bytes(&body[tag_end..next], out, key);
+    let after_uuid = put_bytes(&body[from..uuid_end], out, at);
+    let after_tag = put_tag(&body[tag..tag_end], tags, out, after_uuid);
+    let put = put_bytes(&body[tag_end..next], out, after_tag);
     Put { next, at: put }
 }
 

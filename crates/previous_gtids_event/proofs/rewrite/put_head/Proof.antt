@@ -32,8 +32,11 @@ returns c =
     put-short (now (a .out)) (headRun (now (a .uuid)) (a .tags) (now (a .tag)) (a .count)) (a .at)
     (omega (arith, size, c .if1 .taken, tag .left-behind-tag .ensures, uuid .left-of .ensures, here .left-at .ensures))
 
-put-key-requires : tie.Need-put-key-requires
-put-key-requires c κs = search needs
+put-bytes-requires : tie.Need-put-bytes-requires
+put-bytes-requires c κs = search needs
+
+put-tag-requires : tie.Need-put-tag-requires
+put-tag-requires c κs = search needs
 
 put-u64-le-requires : tie.Need-put-u64-le-requires
 put-u64-le-requires c κs = search needs
@@ -44,15 +47,17 @@ same-length-2 c = search needs
 returns-2 : tie.Need-returns-2
 returns-2 c =
     let count = c .before .before in
-    let key = count .before .before .before .before in
-    let fits = key .before .before in
+    let tag = count .before .before .before .before in
+    let uuid = tag .before .before .before .before in
+    let fits = uuid .before .before in
     let left = fits .before in
     let here = left .before .before in
     let a = here .before .before .before .before .before .args in
     let size = length-head (now (a .uuid)) (a .tags) (now (a .tag)) (a .count) in
     let room : a .at + length (headRun (now (a .uuid)) (a .tags) (now (a .tag)) (a .count)) ≤ length (now (a .out)) =
     omega (arith, size, fits .if1 .left, left .left-behind-tag .ensures, left .before .left-of .ensures, here .left-at .ensures) in
-    put-there room ((key .put-key .ensures also put-placed (count .put-u64-le .ensures)) .placed room)
+    put-there room
+    ((put-placed (uuid .put-bytes .ensures) also put-placed (tag .put-tag .ensures) also put-placed (count .put-u64-le .ensures)) .placed room)
 
 pub put-head-spec : {M : Type 1} → statement M
 put-head-spec =
@@ -63,7 +68,8 @@ put-head-spec =
     left-behind-tag-requires
     same-length
     returns
-    put-key-requires
+    put-bytes-requires
+    put-tag-requires
     put-u64-le-requires
     same-length-2
     returns-2)
