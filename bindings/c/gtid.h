@@ -60,8 +60,15 @@ extern "C" {
 #define GTID_MAX_INTERVALS 2560
 #define GTID_MAX_OF_ENTRY 1024
 
+/* The bytes of a uuid, of an interval, and of what stands before the intervals of an entry of a set: the uuid and their number, and in a
+ * set with tags the length of the tag, one byte, and the tag. */
+#define GTID_UUID_LEN 16
+#define GTID_INTERVAL_LEN 16
+#define GTID_ENTRY_HEAD (GTID_UUID_LEN + 8)
+#define GTID_TAGGED_HEAD (GTID_ENTRY_HEAD + 1)
+
 /* The longest set, in bytes: as many entries as a set can have, with the longest tags, and as many intervals; 62,856. */
-#define GTID_LONGEST_SET (8 + GTID_MAX_ENTRIES * (16 + 1 + GTID_MAX_TAG + 8) + GTID_MAX_INTERVALS * 16)
+#define GTID_LONGEST_SET (8 + GTID_MAX_ENTRIES * (GTID_TAGGED_HEAD + GTID_MAX_TAG) + GTID_MAX_INTERVALS * GTID_INTERVAL_LEN)
 
 /* The highest transaction number that a set can hold; the lowest is 1. An event of type 33 or 42 may carry others: it is read,
  * written and listed with them, and an offer of it is refused with 15. (Type 34 has no id, and its number isn't judged. One of
@@ -73,7 +80,7 @@ extern "C" {
 
 /* The longest body that gtid_write writes, in bytes; 156. It is a tagged one: version, size and last non-ignorable id (4),
  * flags (3), uuid (33), tag (34), seven numbers of 64 bits (10 each) and two of 32 bits (6 each). */
-#define GTID_LONGEST_EVENT (4 + 3 + (1 + 16 * 2) + (2 + GTID_MAX_TAG) + 7 * 10 + 2 * 6)
+#define GTID_LONGEST_EVENT (4 + 3 + (1 + GTID_UUID_LEN * 2) + (2 + GTID_MAX_TAG) + 7 * 10 + 2 * 6)
 
 /* Whether bytes are a set of transaction ids as this library saves it, and how many entries and intervals it has.
  * Refuses with 14, also what would be a set but for a limit; then both numbers are 0. */

@@ -1,5 +1,6 @@
 use crate::numbers::{
-    GTID_EVENT, GTID_TAGGED_LOG_EVENT, LONGEST_EVENT, MAX_TAG, RECORD_LEN, UNDEFINED_SERVER_VERSION,
+    GTID_EVENT, GTID_TAGGED_LOG_EVENT, LONGEST_EVENT, MAX_TAG, RECORD_LEN,
+    UNDEFINED_SERVER_VERSION, UUID_LEN,
 };
 use crate::sys;
 use crate::{Fields, Gtid, Refusal};
@@ -23,7 +24,7 @@ const LOGICAL_TIMESTAMP_TYPECODE: u8 = 2;
 pub struct GtidEvent {
     pub flags: u8,
     /// The uuid of the server that gave the id.
-    pub sid: [u8; 16],
+    pub sid: [u8; UUID_LEN],
     /// The transaction number.
     pub gno: u64,
     /// The tag's bytes, none where there is no tag.
@@ -108,7 +109,7 @@ impl GtidEvent {
     /// assert_eq!((marker.immediate_server_version, marker.original_server_version), (0, 0));
     /// ```
     #[must_use]
-    pub fn new(sid: [u8; 16], gno: u64) -> GtidEvent {
+    pub fn new(sid: [u8; UUID_LEN], gno: u64) -> GtidEvent {
         GtidEvent {
             flags: 0,
             sid,
@@ -140,7 +141,7 @@ impl GtidEvent {
     /// assert_eq!(GtidEvent::new_tagged([7; 16], b"UPPER", 1), Err(Refusal::BadTag));
     /// # Ok::<(), Refusal>(())
     /// ```
-    pub fn new_tagged(sid: [u8; 16], tag: &[u8], gno: u64) -> Result<GtidEvent, Refusal> {
+    pub fn new_tagged(sid: [u8; UUID_LEN], tag: &[u8], gno: u64) -> Result<GtidEvent, Refusal> {
         GtidEvent::new(sid, gno).without_lc_typecode().with_tag(tag)
     }
 
@@ -299,7 +300,7 @@ impl GtidEvent {
     /// assert_eq!(gtid_resume::GtidEvent::new([7; 16], 1).with_sid([9; 16]).sid, [9; 16]);
     /// ```
     #[must_use]
-    pub fn with_sid(mut self, sid: [u8; 16]) -> GtidEvent {
+    pub fn with_sid(mut self, sid: [u8; UUID_LEN]) -> GtidEvent {
         self.sid = sid;
         self
     }
@@ -370,7 +371,7 @@ impl GtidEvent {
 /// The tag rule stands in the archive alone: a new record with a tag, without a typecode, can be written just if the tag is one. (One
 /// without a tag could be, too; a server version, here 0, shuts it out, since without a typecode it has no place.)
 fn judge_tag(tag: &[u8]) -> Result<(), Refusal> {
-    let mut probe = GtidEvent::new([0; 16], 0)
+    let mut probe = GtidEvent::new([0; UUID_LEN], 0)
         .without_lc_typecode()
         .with_immediate_server_version(0);
     probe.tag = tag.to_vec();

@@ -1,3 +1,4 @@
+use crate::numbers::UUID_LEN;
 use std::fmt;
 
 /// The id of a transaction. It shows as in the listing: `uuid:gno`, or `uuid:tag:gno` where there is a tag.
@@ -15,7 +16,7 @@ use std::fmt;
 #[derive(Clone, Copy, Debug, PartialEq, Eq, PartialOrd, Ord, Hash)]
 pub struct Gtid<'a> {
     /// The uuid of the server that gave the id.
-    pub sid: [u8; 16],
+    pub sid: [u8; UUID_LEN],
     /// The tag's bytes, none where there is no tag.
     pub tag: &'a [u8],
     /// The transaction number.

@@ -141,6 +141,13 @@ pub const MAX_INTERVALS: usize = 2560;
 /// ```
 pub const MAX_OF_ENTRY: usize = 1024;
 
+// The bytes of a uuid, of an interval, and of what stands before the intervals of an entry: the uuid and their number, and in a set with
+// tags the length of the tag, one byte, and the tag.
+pub(crate) const UUID_LEN: usize = 16;
+pub(crate) const INTERVAL_LEN: usize = 16;
+pub(crate) const ENTRY_HEAD: usize = UUID_LEN + 8;
+pub(crate) const TAGGED_HEAD: usize = ENTRY_HEAD + 1;
+
 /// The bytes of the longest set: 384 entries with tags of 32 bytes, and 2,560 intervals.
 ///
 /// ```
@@ -148,7 +155,8 @@ pub const MAX_OF_ENTRY: usize = 1024;
 ///
 /// assert!(ResumeSet::empty().as_bytes().len() <= LONGEST_SET);
 /// ```
-pub const LONGEST_SET: usize = 8 + MAX_ENTRIES * (16 + 1 + MAX_TAG + 8) + MAX_INTERVALS * 16;
+pub const LONGEST_SET: usize =
+    8 + MAX_ENTRIES * (TAGGED_HEAD + MAX_TAG) + MAX_INTERVALS * INTERVAL_LEN;
 
 /// The bytes of the longest text of an event ([`list`](crate::list)): that of the longest set, with numbers of 19 digits.
 ///
@@ -170,7 +178,7 @@ pub const LONGEST_TEXT: usize = 42 + MAX_ENTRIES * 70 + MAX_INTERVALS * 40;
 /// assert!(GtidEvent::new([7; 16], 1).write()?.len() <= LONGEST_EVENT);
 /// # Ok::<(), gtid_resume::Refusal>(())
 /// ```
-pub const LONGEST_EVENT: usize = 4 + 3 + (1 + 16 * 2) + (2 + MAX_TAG) + 7 * 10 + 2 * 6;
+pub const LONGEST_EVENT: usize = 4 + 3 + (1 + UUID_LEN * 2) + (2 + MAX_TAG) + 7 * 10 + 2 * 6;
 
 /// The highest transaction number that a set can hold; the lowest is 1. An event of type 33 or 42 may carry others, and is read, written
 /// and listed with them; offered, it is refused with [`BadGno`]. (Type 34 has no id, and its number isn't judged. One of type 42

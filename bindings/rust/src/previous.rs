@@ -1,3 +1,4 @@
+use crate::numbers::{INTERVAL_LEN, UUID_LEN};
 use crate::sys;
 use crate::Refusal;
 
@@ -31,7 +32,7 @@ pub struct PreviousGtidsEvent<'a> {
 /// ```
 #[derive(Clone, Copy, Debug, PartialEq, Eq, Hash)]
 pub struct Entry<'a> {
-    uuid: &'a [u8; 16],
+    uuid: &'a [u8; UUID_LEN],
     tag: &'a [u8],
     /// Sixteen bytes each.
     intervals: &'a [u8],
@@ -127,7 +128,7 @@ impl<'a> Entry<'a> {
     /// assert_eq!(previous.sids().next().unwrap().uuid(), &body[8..24]);
     /// # Ok::<(), gtid_resume::Refusal>(())
     /// ```
-    pub fn uuid(&self) -> &'a [u8; 16] {
+    pub fn uuid(&self) -> &'a [u8; UUID_LEN] {
         self.uuid
     }
 
@@ -167,7 +168,7 @@ impl<'a> Entry<'a> {
     pub fn intervals(&self) -> impl ExactSizeIterator<Item = (u64, u64)> + 'a {
         let number = |bytes: &[u8]| u64::from_le_bytes(bytes.try_into().expect("eight bytes"));
         self.intervals
-            .chunks_exact(16)
+            .chunks_exact(INTERVAL_LEN)
             .map(move |pair| (number(&pair[..8]), number(&pair[8..])))
     }
 }
@@ -200,7 +201,7 @@ impl<'a> Iterator for Entries<'a> {
         assert_eq!(number, 0, "the whole body was read before");
         self.at = next;
         Some(Entry {
-            uuid: body[at..at + 16].try_into().expect("sixteen bytes"),
+            uuid: body[at..at + UUID_LEN].try_into().expect("sixteen bytes"),
             tag: &body[first - 8 - tag_len..first - 8],
             intervals: &body[first..next],
         })

@@ -1,4 +1,6 @@
-use crate::numbers::{ALREADY_THERE, LONGEST_SET, TAKEN};
+use crate::numbers::{
+    ALREADY_THERE, ENTRY_HEAD, INTERVAL_LEN, LONGEST_SET, MAX_TAG, TAGGED_HEAD, TAKEN, UUID_LEN,
+};
 use crate::sys;
 use crate::{Counts, Entry, PreviousGtidsEvent, Refusal, Report};
 
@@ -253,7 +255,8 @@ impl ResumeSet {
     pub fn offer(&mut self, event_type: u8, body: &[u8]) -> Result<Offer<'_>, Refusal> {
         let mut kind = 0;
         // a set grows by one entry at most, and by a byte for each entry where the first tag comes
-        let room = LONGEST_SET.min(self.bytes.len() + self.bytes.len() / 24 + 80);
+        let entry = TAGGED_HEAD + MAX_TAG + INTERVAL_LEN;
+        let room = LONGEST_SET.min(self.bytes.len() + self.bytes.len() / ENTRY_HEAD + entry);
         let next = sys::written(room, |out, len| unsafe {
             sys::gtid_offer(
                 self.bytes.as_ptr(),
@@ -285,7 +288,7 @@ impl ResumeSet {
     /// ```
     /// assert!(!gtid_resume::ResumeSet::empty().contains(&[0; 16], b"", 1));
     /// ```
-    pub fn contains(&self, sid: &[u8; 16], tag: &[u8], gno: u64) -> bool {
+    pub fn contains(&self, sid: &[u8; UUID_LEN], tag: &[u8], gno: u64) -> bool {
         let mut present = 0;
         let set = &self.bytes;
         let number = unsafe {

@@ -10,9 +10,11 @@ pub const MAX_TAG: usize = 32;
 pub const MAX_ENTRIES: usize = 384;
 pub const MAX_INTERVALS: usize = 2560;
 pub const MAX_OF_ENTRY: usize = 1024;
-pub const LONGEST_SET: usize = 8 + MAX_ENTRIES * (16 + 1 + MAX_TAG + 8) + MAX_INTERVALS * 16;
+pub const UUID_LEN: usize = 16;
+pub const INTERVAL_LEN: usize = 16;
+pub const LONGEST_SET: usize = 8 + MAX_ENTRIES * (UUID_LEN + 1 + MAX_TAG + 8) + MAX_INTERVALS * INTERVAL_LEN;
 pub const LONGEST_TEXT: usize = 42 + MAX_ENTRIES * 70 + MAX_INTERVALS * 40;
-pub const LONGEST_EVENT: usize = 4 + 3 + (1 + 16 * 2) + (2 + MAX_TAG) + 7 * 10 + 2 * 6;
+pub const LONGEST_EVENT: usize = 4 + 3 + (1 + UUID_LEN * 2) + (2 + MAX_TAG) + 7 * 10 + 2 * 6;
 pub const HIGHEST_GNO: u64 = i64::MAX as u64 - 1;
 
 pub const RECORD_LEN: usize = 116;

@@ -70,7 +70,8 @@ fn join_checked(
 
 // Joins the id of a uuid, the first bytes of a tag, so many of them, and a gno to a set, and writes the set with it, or as it is where it
 // has the id. Refused are, in this order, bytes that are no set (14), a gno outside its rule (15), an entry (17) or a set (16) that would
-// be too great, and an output that is too short (13).
+// be too great, and an output that is too short (13). The tag's rule isn't judged here: it was when an event was read, and with bytes that
+// are neither none nor a tag what is written is no set.
 pub fn join_id(
     set: &[u8],
     uuid: [u8; UUID_LEN],
