@@ -14,3 +14,4 @@ pub mod FormsRead
 pub mod Accepted
 pub mod NumberLaws
 pub mod Forward
+pub mod Clauses

@@ -2,6 +2,8 @@
 // length-encoded (the protocol). Readers take a slice and a place, wherever that is; writers write at the front of the output
 // that they are lent, those of `put` at a place of it. Every answer of a reader or a writer at the front begins with the number
 // of its refusal, 0 for none.
+#![tactic(auto)]
+
 ghost use Rattle.std.specs.Prelude.{◌≡◌};
 ghost use Rattle.misc.specs.Parse.{refused_uint};
 

@@ -25,7 +25,7 @@ use Rattle.gtid_sets.specs.Saved.{GoodEvent}
 use Rattle.gtid_sets.proofs.LimitLaws.{is_full-is}
 use Rattle.gtid_sets.proofs.LentLaws.{lent_is, longest}
 use Rattle.gtid_sets.proofs.RunLaws.{answer-cases, limits-after}
-use Rattle.gtid_sets.proofs.SavedLaws.{good-after, saved_after, saved-refused}
+use Rattle.gtid_sets.proofs.SavedLaws.{good-after, saved_after_lem, saved-refused}
 use Rattle.set_join.specs.Answers.{output_as}
 use Rattle.resume_set.specs.Answers.{offered_as}
 use Rattle.resume_set_laws.specs.History as history
@@ -72,7 +72,7 @@ module _ (set : List ℕ) (s : List Entry) (t : Turn) (lent : lent_set set ≡ f
         go no_id e = rw fits (front t.out grown fits)
         go already e = rw fits (front t.out grown fits)
         go taken e = rw fits (front t.out grown fits)
-        go (run.refused r) e = sym (saved-refused set s (said t) lent r e) ∙ saved_after set s (said t) lent
+        go (run.refused r) e = sym (saved-refused set s (said t) lent r e) ∙ saved_after_lem set s (said t) lent
 
     ids-told : (k : Key) (n : ℕ) → among (ids_in (comes_to ours set t)) k n ≡ is_member (answer s (said t)) && is_of (said t) k n
     ids-told k n = rw lent (go (answer s (said t)))

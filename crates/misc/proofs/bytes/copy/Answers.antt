@@ -1,0 +1,20 @@
+use mathlib.Core.Path.{◌≡◌, refl, ◌∙◌}
+use Prim.Native.Nat.{◌≤◌, ◌-◌}
+use native.Mathlib.Omega.{arith}
+use lib.ListN.{length, drop, length-set, drop_of_length-le}
+use Rattle.misc.specs.Output.{written}
+use Rattle.misc.proofs.OutputLaws.{written_none, copy-turn}
+use Rattle.misc.proofs.bytes.copy.Goals as goal
+
+pub loop-i-init : goal.loop-i-init
+loop-i-init c = (omega arith, refl, refl)
+
+pub loop-i-preserved : goal.loop-i-preserved
+loop-i-preserved c = let w = c.loop-i in
+    (omega arith, simp length-set w.invariant.1, copy-turn w.out _ w.i c.loop-i-test.true ∙ w.invariant.2)
+
+pub returns : goal.returns
+returns c = let w = c.loop-i in
+    let source = c.args.source.now in
+    let done = drop_of_length-le source {i = w.i} (omega arith) in
+    written_none w.out w.i ∙ rw done at w.invariant.2

@@ -1,0 +1,15 @@
+-- `misc::varlen::varlen_uint_size` meets its contract. The invariant: the sizes from `n` on have the answer.
+-- Assumes nothing.
+use mathlib.Core.Path.{◌≡◌, refl, sym, ◌∙◌}
+use Prim.Native.Nat.{ℕ, ◌-◌, ◌≤◌}
+use native.Mathlib.Omega.{arith}
+use Rattle.misc.specs.Varlen.{size_from, varlen_size, varlen_bytes}
+use lib.ListN.{length}
+use Rattle.misc.proofs.VarlenLaws.{size-found, size-passed, size-nine, size-range, length-varlen_bytes}
+use Rattle.misc.proofs.varlen.varlen_uint_size.Given as goal
+
+abbrev pub invariant-loop-n : goal.invariant-loop-n
+invariant-loop-n l = (1 ≤ l.n) × (l.n ≤ 9) × (size_from (9 - l.n) l.n l.value ≡ varlen_size l.value)
+
+abbrev pub decreases-loop-n : goal.decreases-loop-n
+decreases-loop-n l = 9 - l.n
