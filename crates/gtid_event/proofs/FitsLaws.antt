@@ -1,14 +1,15 @@
 -- Whatever record a function is handed fits its types.
 use Prim.Native.Nat.{ℕ, zero, suc}
-use mathlib.Core.Path.{◌≡◌, sym, ◌∙◌}
-use mathlib.Core.List.{List, [], ◌∷◌, map}
+use mathlib.Core.Path.{◌≡◌}
+use mathlib.Core.List.{List, [], ◌∷◌}
 use native.Mathlib.Omega.{arith}
-use lib.ListN.{length, length-map}
+use lib.ListN.{length}
 use denote.Array.{each}
 use denote.Laws.{Is}
 use denote.Shadow.{shadow}
 use denote.Struct.Declared.{row}
-use denote.Struct.Field.{u8-field, array_field}
+use denote.Builtin.{Array, u8}
+use denote.Struct.Field.{u8-field, row_field}
 use mir.Val.{Val}
 use Rattle.misc.specs.Parse.{Bytes}
 use Rattle.gtid_event.specs.Fits.{Fits}
@@ -16,14 +17,14 @@ use Rattle.gtid_event.specs.declared.GtidEvent.{GtidEvent}
 use Rattle.gtid_event.specs.contracts.GtidEvent as declared
 
 -- a field of n bytes
-bytes : (bs : List ℕ) (us : List Val) → shadow (each ℕ u8-field.row.own_val (map u8-field.into bs) us) → Bytes bs
+bytes : (bs : List ℕ) (us : List Val) → shadow (each ℕ u8-field.row.own_val bs us) → Bytes bs
 bytes [] us h i = omega arith
 bytes (b ∷ bs) [] h i = absurd h
 bytes (b ∷ bs) (u ∷ us) h zero = h.0.1
 bytes (b ∷ bs) (u ∷ us) h (suc i) = bytes bs us h.1 i
 
-field : (n : ℕ) (bs : List ℕ) (vs : List Val) → shadow ((array_field u8-field n).row.own_val (map u8-field.into bs) vs) → (length bs ≡ n) × Bytes bs
-field n bs vs h = (sym (length-map bs u8-field.into) ∙ h.1.0.1, bytes bs h.0 h.1.1)
+field : (n : ℕ) (bs : List ℕ) (vs : List Val) → shadow ((row_field (Array u8 tt n)).row.own_val bs vs) → (length bs ≡ n) × Bytes bs
+field n bs vs h = (h.1.0.1, bytes bs h.0 h.1.1)
 
 pub fits : (e : GtidEvent) (vs : List Val) → Is (row declared.the_type) e vs → Fits e
 fits e vs is =

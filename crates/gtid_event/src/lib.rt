@@ -1,5 +1,7 @@
 // The record of a GTID event, traditional or tagged, by value, and the steps that build it. Each step hands the changed record
 // back; a tag that breaks its rule is refusal 6 and hands back none.
+#![tactic(auto)]
+
 ghost use Rattle.std.specs.Prelude.{◌≡◌};
 ghost use Rattle.gtid_event.specs.Event.{fresh, no_event, new_untagged, new_tagged, with_tag, set_number, set_sid, set_typecode, tagged, type_of};
 

@@ -1,5 +1,7 @@
 // The rules of packets::{Tag, GnoInterval}: which bytes are a tag, which numbers are a gno and an interval of them; and the order
 // of keys, a key being the 16 bytes of a uuid followed by those of a tag, if there is one.
+#![tactic(auto)]
+
 ghost use Rattle.std.specs.Prelude.{◌≡◌, ◌+◌, ◌≤◌, min, length, take, drop};
 ghost use Rattle.packets.specs.Tag.{is_tag_byte, all_tag_bytes, is_tag, none_or_tag};
 ghost use Rattle.packets.specs.Gno.{is_gno, interval, is_interval};

@@ -1,0 +1,14 @@
+-- `packets::order_from` meets its contract. The loop's invariant: what is left from `i` on decides.
+use Prim.Native.Nat.{◌-◌}
+use mathlib.Core.Path.{refl, sym, ap}
+use native.Mathlib.Omega.{arith}
+use lib.ListN.{length, drop}
+use Rattle.packets.specs.Key.{order, order_read}
+use Rattle.packets.proofs.OrderWalk.{Decides, below-here, above-here, same_here, second-ends, first_ends, both_end}
+use Rattle.packets.proofs.order_from.Given as goal
+
+abbrev pub invariant-loop-i : goal.invariant-loop-i
+invariant-loop-i l = Decides (order (drop l.from l.a) (drop l.from l.b)) l.i l.a l.b
+
+abbrev pub decreases-loop-i : goal.decreases-loop-i
+decreases-loop-i l = length l.a - l.i

@@ -1,0 +1,14 @@
+-- `packets::word_at` meets its contract. The invariant: `word` is what the first `i` bytes from `at` on spell.
+use Prim.Native.Nat.{◌+◌, ◌-◌, ◌≤◌}
+use mathlib.Core.Path.{◌≡◌, refl}
+use native.Mathlib.Omega.{arith}
+use Rattle.misc.specs.Parse.{part}
+use Rattle.packets.specs.Word.{big_endian}
+use Rattle.packets.proofs.WordLaws.{word_room, word_more}
+use Rattle.packets.proofs.word_at.Given as goal
+
+abbrev pub invariant-loop-i : goal.invariant-loop-i
+invariant-loop-i l = (l.i ≤ 8) × (l.word ≡ big_endian (part l.s l.at l.i))
+
+abbrev pub decreases-loop-i : goal.decreases-loop-i
+decreases-loop-i l = 8 - l.i
