@@ -9,7 +9,7 @@ use misc::le::number_at;
 use misc::put::{put_bytes, put_u64_le};
 
 // Where a reader is, as numbers.
-#[derive(Drop)]
+#[derive(Clone, Copy)]
 pub(crate) struct PhaseNumbers {
     pub(crate) kind: u8,
     pub(crate) number: u8,
@@ -18,7 +18,7 @@ pub(crate) struct PhaseNumbers {
 }
 
 // What a call says, as numbers.
-#[derive(Drop)]
+#[derive(Clone, Copy)]
 pub(crate) struct SaidNumbers {
     pub(crate) refusal: u8,
     pub(crate) kind: u8,

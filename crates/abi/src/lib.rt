@@ -166,7 +166,7 @@ pub extern "C" fn gtid_list(input: &[u8], out: &mut [u8], len: &mut usize) -> u8
 }
 
 // What an offer comes to.
-#[derive(Drop)]
+#[derive(Clone, Copy)]
 struct OfferNumbers {
     refusal: u8,
     kind: u8,
@@ -271,7 +271,7 @@ pub extern "C" fn gtid_within(first: &[u8], second: &[u8], within: &mut u8) -> u
 }
 
 // Which of two sets contains the other.
-#[derive(Drop)]
+#[derive(Clone, Copy)]
 struct HeadNumbers {
     refusal: u8,
     head: u8,

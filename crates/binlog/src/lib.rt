@@ -25,7 +25,7 @@ pub const WORK: usize = MAX_BODY + TRAILER;
 const OPENING: [u8; 4] = *b"\xfebin";
 
 // Where in a file the reader is.
-#[derive(Drop)]
+#[derive(Clone, Copy)]
 pub enum Phase {
     // So many bytes of the opening have come.
     Opening(usize),
@@ -44,7 +44,7 @@ pub enum Phase {
 }
 
 // Where a walk through a chunk came to, and how many bytes of the chunk it used.
-#[derive(Drop)]
+#[derive(Clone, Copy)]
 pub struct Walked {
     pub phase: Phase,
     pub used: usize,
@@ -53,7 +53,7 @@ pub struct Walked {
 // ---- inside
 
 // An event that is read: its type, how many of its bytes are still to come, and how many came.
-#[derive(Drop)]
+#[derive(Clone, Copy)]
 pub(crate) struct Arriving {
     pub(crate) event_type: u8,
     pub(crate) left: usize,

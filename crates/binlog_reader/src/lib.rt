@@ -14,7 +14,7 @@ use resume_set::{Offered, check_set, offer};
 use two_sets::join::join;
 
 // What an event was told: an offer's three answers, or that its ids were joined (type 35).
-#[derive(Drop)]
+#[derive(Clone, Copy)]
 pub enum Told {
     NoId,
     AlreadyThere,
@@ -24,7 +24,7 @@ pub enum Told {
 
 // What a step says: the chunk is used up and more bytes are wanted; the end was named; what an event was told, its type, and the length of
 // its body, which stands at the front of the work bytes; or the number of a refusal and, for 13, the length needed.
-#[derive(Drop)]
+#[derive(Clone, Copy)]
 pub enum Said {
     MoreWanted,
     Ended,
@@ -33,7 +33,7 @@ pub enum Said {
 }
 
 // Where in the file the reader is, whether checksums end the events, and the length of the set at the front of its buffer.
-#[derive(Drop)]
+#[derive(Clone, Copy)]
 pub struct Reader {
     pub phase: Phase,
     pub checksums: bool,
@@ -41,7 +41,7 @@ pub struct Reader {
 }
 
 // What a step says, how many bytes of the chunk it used, and the reader after it.
-#[derive(Drop)]
+#[derive(Clone, Copy)]
 pub struct Answer {
     pub said: Said,
     pub used: usize,
@@ -52,7 +52,7 @@ pub struct Answer {
 
 // What judging an event comes to: the number of a refusal, or 0, what it was told, and the length of the set that was written, or of what is
 // needed for it.
-#[derive(Drop)]
+#[derive(Clone, Copy)]
 pub(crate) struct Acted {
     pub(crate) refusal: u8,
     pub(crate) told: Told,

@@ -1,7 +1,7 @@
 // What a follower does at a GTID event. README.md shows this file.
 use resume_set::{Offered, offer};
 
-#[derive(Drop)]
+#[derive(Clone, Copy)]
 pub enum Then {
     // Copy the transaction and commit it; only then save so many bytes of `next` as the set.
     Copy(usize),

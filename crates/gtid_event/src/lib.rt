@@ -37,7 +37,7 @@ pub const MOST_OF_BYTE: u64 = 0xff;
 pub const MOST_OF_VERSION: u64 = 0xffff_ffff;
 
 // A GTID event. The tag stands in the first tag_len bytes of its field; 0 is no tag. Typecode 0 is none.
-#[derive(Drop)]
+#[derive(Clone, Copy)]
 pub struct GtidEvent {
     pub flags: u8,
     pub sid: [u8; UUID_LEN],
@@ -56,7 +56,7 @@ pub struct GtidEvent {
 }
 
 // A changed record, or a refusal and zeros.
-#[derive(Drop)]
+#[derive(Clone, Copy)]
 pub struct EventStep {
     pub refusal: u8,
     pub event: GtidEvent,

@@ -19,14 +19,14 @@ use misc::{ReadUint, UUID_LEN};
 use packets::{MAX_TAG, is_tag, tag_bytes};
 
 // The fields after one more was read, and the place behind it; or a refusal.
-#[derive(Drop)]
+#[derive(Clone, Copy)]
 pub(crate) struct FieldsRead {
     pub refusal: u8,
     pub fields: Fields,
     pub next: usize,
 }
 
-#[derive(Drop)]
+#[derive(Clone, Copy)]
 pub(crate) struct UuidRead {
     pub refusal: u8,
     pub uuid: [u8; UUID_LEN],
@@ -34,7 +34,7 @@ pub(crate) struct UuidRead {
 }
 
 // Bytes from `start` to `end`.
-#[derive(Drop)]
+#[derive(Clone, Copy)]
 pub(crate) struct StringRead {
     pub refusal: u8,
     pub start: usize,

@@ -14,7 +14,7 @@ mod untagged;
 
 // A record that was read and the bytes used, and of a tagged event which of the twelve fields were there: bit k tells of the field with
 // the id k. Or a refusal and zeros.
-#[derive(Drop)]
+#[derive(Clone, Copy)]
 pub struct GtidRead {
     pub refusal: u8,
     pub used: usize,
@@ -24,7 +24,7 @@ pub struct GtidRead {
 
 // The fields of a tagged event that were read so far: the numbers by the ids of their fields, the uuid and the tag, and which
 // of the twelve fields were there.
-#[derive(Drop)]
+#[derive(Clone, Copy)]
 pub struct Fields {
     pub numbers: [u64; field_id::FIELDS],
     pub sid: [u8; UUID_LEN],

@@ -23,7 +23,7 @@ const GNO_PLACE: usize = 1 + ENCODED_SID_LENGTH;
 const OPENING_LENGTH: usize = GNO_PLACE + 8;
 
 // The immediate and the original commit timestamp.
-#[derive(Drop)]
+#[derive(Clone, Copy)]
 pub(crate) struct Timestamps {
     pub refusal: u8,
     pub immediate: u64,
@@ -32,7 +32,7 @@ pub(crate) struct Timestamps {
 }
 
 // The immediate and the original server version.
-#[derive(Drop)]
+#[derive(Clone, Copy)]
 pub(crate) struct Versions {
     pub refusal: u8,
     pub immediate: u32,

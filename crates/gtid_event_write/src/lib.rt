@@ -7,7 +7,7 @@ pub mod writable;
 pub mod write;
 
 // How many bytes the record has when it is written; 0 on a refusal.
-#[derive(Drop)]
+#[derive(Clone, Copy)]
 pub struct EventLength {
     pub refusal: u8,
     pub len: usize,

@@ -17,7 +17,7 @@ const LINE_ROOM: usize = 128;
 const WORD: usize = 5;
 
 // How many bytes of lines wait to be written, and whether all before could be. If not, nothing more is written.
-#[derive(Drop)]
+#[derive(Clone, Copy)]
 pub(crate) struct Lines {
     pub(crate) waiting: usize,
     pub(crate) heard: bool,

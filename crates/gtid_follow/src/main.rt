@@ -23,7 +23,7 @@ const CHUNK: usize = 65_536;
 
 // Where the walk is: the reader, the lines, how many events were answered, how many bytes of the chunk were used, and whether there is more
 // to do.
-#[derive(Drop)]
+#[derive(Clone, Copy)]
 struct Walk {
     reader: Reader,
     lines: Lines,

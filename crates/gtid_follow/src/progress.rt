@@ -6,7 +6,7 @@ const STRETCH_MIB: u64 = 64;
 const STRETCH: u64 = STRETCH_MIB * 1024 * 1024;
 
 // How many MiB were told, and how many bytes came since.
-#[derive(Drop)]
+#[derive(Clone, Copy)]
 pub(crate) struct Progress {
     mib: u64,
     since: u64,

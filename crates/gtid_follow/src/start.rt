@@ -4,7 +4,7 @@ ghost use Rattle.std.specs.Prelude.{◌≡◌, ◌≤◌, length};
 use misc::le::read_u32_le;
 
 // The set's length; 0, and so no set, where it doesn't fit or doesn't come whole.
-#[derive(Drop)]
+#[derive(Clone, Copy)]
 pub(crate) struct Start {
     pub(crate) checksums: bool,
     pub(crate) len: usize,

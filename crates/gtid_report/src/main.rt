@@ -16,14 +16,14 @@ const SET_ROOM: usize = LONGEST_SET + 1;
 const TEXT_ROOM: usize = LONGEST_REPORT;
 
 // How many bytes of a file were read; `more` is false where there was none.
-#[derive(Drop)]
+#[derive(Clone, Copy)]
 struct Got {
     more: bool,
     len: usize,
 }
 
 // The report so far, and whether there may be a file more.
-#[derive(Drop)]
+#[derive(Clone, Copy)]
 struct Turn {
     more: bool,
     report: Report,

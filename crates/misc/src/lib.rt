@@ -25,7 +25,7 @@ pub const UUID_LEN: usize = 16;
 pub const INTERVAL_LEN: usize = 16;
 
 // What reading a number finds: its value and the place after it, both 0 on a refusal.
-#[derive(Drop)]
+#[derive(Clone, Copy)]
 pub struct ReadUint {
     pub refusal: u8,
     pub value: u64,
@@ -33,7 +33,7 @@ pub struct ReadUint {
 }
 
 // What reading a signed number finds.
-#[derive(Drop)]
+#[derive(Clone, Copy)]
 pub struct ReadInt {
     pub refusal: u8,
     pub value: i64,
@@ -42,7 +42,7 @@ pub struct ReadInt {
 
 // What writing does: `len` bytes now stand at the front of the output. On refusal 13 `len` is what is needed; nothing was
 // written then. On any other refusal it is 0.
-#[derive(Drop)]
+#[derive(Clone, Copy)]
 pub struct Wrote {
     pub refusal: u8,
     pub len: usize,

@@ -79,7 +79,7 @@ pub fn is_interval(start: u64, end: u64) -> bool
 }
 
 // How a key stands to another.
-#[derive(Drop)]
+#[derive(Clone, Copy)]
 pub enum KeyOrder {
     Before,
     Same,

@@ -21,7 +21,7 @@ pub(crate) const TOP_ONE: u64 = 0x100_0000_0000_0000;
 pub(crate) const COUNT_TOP: u64 = 0x1_0000_0000_0000;
 
 // How many entries a body has, and how many bytes they took.
-#[derive(Drop)]
+#[derive(Clone, Copy)]
 pub struct PreviousRead {
     pub refusal: u8,
     pub used: usize,
@@ -29,7 +29,7 @@ pub struct PreviousRead {
 }
 
 // What a body's header says: whether its entries have tags, and how many there are.
-#[derive(Drop)]
+#[derive(Clone, Copy)]
 pub struct HeaderRead {
     pub refusal: u8,
     pub tagged: bool,
@@ -38,7 +38,7 @@ pub struct HeaderRead {
 
 // One entry: the uuid, the tag in the first tag_len bytes of its field, the number of intervals, the places of the first
 // and behind the last.
-#[derive(Drop)]
+#[derive(Clone, Copy)]
 pub struct EntryRead {
     pub refusal: u8,
     pub uuid: [u8; UUID_LEN],
@@ -50,7 +50,7 @@ pub struct EntryRead {
 }
 
 // One interval: the numbers from start up to, and without, end.
-#[derive(Drop)]
+#[derive(Clone, Copy)]
 pub struct IntervalRead {
     pub refusal: u8,
     pub start: u64,
@@ -60,7 +60,7 @@ pub struct IntervalRead {
 // ---- inside
 
 // A tag with its length: how many bytes it has, and the place behind them.
-#[derive(Drop)]
+#[derive(Clone, Copy)]
 pub(crate) struct TagRead {
     pub(crate) refusal: u8,
     pub(crate) len: usize,
@@ -69,7 +69,7 @@ pub(crate) struct TagRead {
 
 // The head of an entry: how long its tag is, how many intervals it announces, and the place of the first. The count
 // stands in the eight bytes before that place, and the tag before the count.
-#[derive(Drop)]
+#[derive(Clone, Copy)]
 pub(crate) struct HeadRead {
     pub(crate) refusal: u8,
     pub(crate) tag_len: usize,
@@ -78,7 +78,7 @@ pub(crate) struct HeadRead {
 }
 
 // Where a whole entry lies: its head, and the place behind its last interval.
-#[derive(Drop)]
+#[derive(Clone, Copy)]
 pub(crate) struct WholeRead {
     pub(crate) refusal: u8,
     pub(crate) tag_len: usize,
@@ -89,7 +89,7 @@ pub(crate) struct WholeRead {
 
 // Entries that are to be written: how many there are, whether one of them has a tag, and how many bytes they take without
 // tags and with.
-#[derive(Drop)]
+#[derive(Clone, Copy)]
 pub(crate) struct Sizes {
     pub(crate) refusal: u8,
     pub(crate) entries: u64,
@@ -99,7 +99,7 @@ pub(crate) struct Sizes {
 }
 
 // Where an entry that was written ends, in the body and in the output.
-#[derive(Drop)]
+#[derive(Clone, Copy)]
 pub(crate) struct Put {
     pub(crate) next: usize,
     pub(crate) at: usize,

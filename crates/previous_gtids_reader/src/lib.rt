@@ -11,7 +11,7 @@ use previous_gtids_event::read::{entry_at, header_of};
 
 // Where the next entry lies, and how many are left. The refusal tells whoever makes a reader that its body could not be begun. No step
 // goes by it: each judges the body's header itself, so that the number of its refusal is the body's at any cursor.
-#[derive(Drop)]
+#[derive(Clone, Copy)]
 pub struct Cursor {
     pub refusal: u8,
     pub at: usize,
@@ -21,7 +21,7 @@ pub struct Cursor {
 // One step: whether it hands out an entry, the entry, and the cursor behind it. A caller moves on only if it does. Else the
 // entry is all zero but for its refusal, which tells a refusal from the end: at the end it is 0, and the cursor has the place
 // that was asked at; with a refusal the cursor too is all zero.
-#[derive(Drop)]
+#[derive(Clone, Copy)]
 pub struct Step {
     pub more: bool,
     pub entry: EntryRead,
@@ -112,7 +112,7 @@ pub fn step_at(body: &[u8], cursor: Cursor) -> Step
 
 // Holds a body, and hands out its entries: `next` gives a step, and `moved` takes the reader to that step's cursor. After a
 // step that hands out no entry the caller keeps its reader as it is.
-#[derive(Drop)]
+#[derive(Clone, Copy)]
 pub struct Reader<'a> {
     pub body: &'a [u8],
     pub cursor: Cursor,

@@ -8,7 +8,7 @@ use probe_lines::request::Request;
 pub const HEAD_LEN: usize = 24;
 
 // Which call it is, how long its parts are, one by one and all together, and its output.
-#[derive(Drop)]
+#[derive(Clone, Copy)]
 pub struct Head {
     pub request: Request,
     pub a_len: usize,

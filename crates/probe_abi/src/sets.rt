@@ -5,7 +5,7 @@ use probe_lines::checks::MARK;
 use resume_set::Offered;
 
 // What the archive should say of an offer: 0 refused, 1 taken, 2 already there, 3 no id.
-#[derive(Drop)]
+#[derive(Clone, Copy)]
 struct Numbers {
     refusal: u8,
     kind: u8,

@@ -9,7 +9,7 @@ use probe_lines::parts::{part_end, u32_at};
 use report::{Counts, Line, Report, refused_line};
 
 // The library's report so far, the place of the next set, and whether the archive said something else of one of those before it.
-#[derive(Drop)]
+#[derive(Clone, Copy)]
 struct Beside {
     report: Report,
     at: usize,

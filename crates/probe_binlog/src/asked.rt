@@ -6,7 +6,7 @@ use probe_lines::parts::{byte_at, u64_at};
 use set_check::LONGEST_SET;
 
 // Which of the two is asked, both readers, of which only that one goes on, and what it said last.
-#[derive(Drop)]
+#[derive(Clone, Copy)]
 pub(crate) struct Asked {
     archive: bool,
     reader: Reader,

@@ -19,7 +19,7 @@ pub const TWIN_ROOM: usize = 140_000;
 const THE_END: u32 = 0xffff_ffff;
 
 // The reader, how many bytes of A were fed, and what is noted for the line.
-#[derive(Drop)]
+#[derive(Clone, Copy)]
 struct Run {
     asked: Asked,
     at: usize,
@@ -27,7 +27,7 @@ struct Run {
 }
 
 // Where a line ends, and the sum of what was told beside it.
-#[derive(Drop)]
+#[derive(Clone, Copy)]
 struct Line {
     end: usize,
     told: usize,

@@ -20,7 +20,7 @@ pub const ENDED: u8 = 6;
 
 // What a call said: the refusal, 0 for none; the kind of the answer; the event's type; the length of its body, or the one that a refusal
 // names; how many bytes of the chunk were used; and the length of the set.
-#[derive(Drop)]
+#[derive(Clone, Copy)]
 pub struct Heard {
     pub refusal: u8,
     pub kind: u8,
@@ -36,7 +36,7 @@ const STATES_ROOM: usize = 100;
 const ENDED_WELL: u8 = 255;
 
 // The front of the bytes, up to the end, is the states' text.
-#[derive(Drop)]
+#[derive(Clone, Copy)]
 pub struct States {
     bytes: [u8; STATES_ROOM],
     end: usize,
@@ -44,7 +44,7 @@ pub struct States {
 
 // What is noted of a run: where the events' letters on the line begin and end; the last state, and the text of all states; the sum of all
 // types and lengths that were told; and whether a refusal other than 13 named a length.
-#[derive(Drop)]
+#[derive(Clone, Copy)]
 pub struct Notes {
     letters_at: usize,
     letters_end: usize,

@@ -5,7 +5,7 @@ use gtid_event::{EventStep, GtidEvent};
 use probe_lines::parts::{byte_at, from_on, u32_at, u64_at};
 
 // What a step makes, and how many bytes its argument has; or a refusal.
-#[derive(Drop)]
+#[derive(Clone, Copy)]
 pub(crate) struct Built {
     pub refusal: u8,
     pub event: GtidEvent,

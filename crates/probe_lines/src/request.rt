@@ -1,5 +1,5 @@
 // The numbers of a request: which call it is, and the two that some calls take.
-#[derive(Drop)]
+#[derive(Clone, Copy)]
 pub struct Request {
     pub call: u8,
     pub event_type: u8,

@@ -8,7 +8,7 @@ use report::{Line, Report};
 
 // The report so far, the place of the next set, the end of what is said of those before it, and whether a refused one of these has a
 // number that isn't zero.
-#[derive(Drop)]
+#[derive(Clone, Copy)]
 struct Said {
     report: Report,
     at: usize,

@@ -28,7 +28,7 @@ pub const LONGEST_REPORT: usize = MAX_SETS * 38 + 44;
 // A set's line: how many entries, intervals and ids it has, or the number of its refusal and zeros. The ids are `high` times 2^64, and `low`.
 // By the set limits there are at most 384 entries with fewer than 2^63 ids each, and 2,560 intervals; so these types hold every
 // set's numbers, and no sum of 64 lines overflows, whatever they hold.
-#[derive(Drop)]
+#[derive(Clone, Copy)]
 pub struct Line {
     pub refusal: u8,
     pub entries: u32,
@@ -38,7 +38,7 @@ pub struct Line {
 }
 
 // The four numbers of a line, or of all lines together; the ids as in a line.
-#[derive(Drop)]
+#[derive(Clone, Copy)]
 pub struct Counts {
     pub entries: u64,
     pub intervals: u64,
@@ -47,14 +47,14 @@ pub struct Counts {
 }
 
 // A report: how many sets it is over, and their lines at the front.
-#[derive(Drop)]
+#[derive(Clone, Copy)]
 pub struct Report {
     pub sets: usize,
     pub lines: [Line; MAX_SETS],
 }
 
 // What adding a set comes to: its line, whose refusal is the answer, and the report with it.
-#[derive(Drop)]
+#[derive(Clone, Copy)]
 pub struct Added {
     pub line: Line,
     pub report: Report,
@@ -63,7 +63,7 @@ pub struct Added {
 // ---- inside
 
 // A number in two words.
-#[derive(Drop)]
+#[derive(Clone, Copy)]
 pub(crate) struct Wide {
     pub(crate) high: u64,
     pub(crate) low: u64,

@@ -14,7 +14,7 @@ use set_check::check::check;
 use set_join::join_id::join_id;
 
 // Whether bytes are a set (0, else 14), and how many entries and intervals it has.
-#[derive(Drop)]
+#[derive(Clone, Copy)]
 pub struct SetRead {
     pub refusal: u8,
     pub entries: u64,
@@ -22,7 +22,7 @@ pub struct SetRead {
 }
 
 // What an offer comes to, with the length of the set that was written; or the number of its refusal and, for 13, the length needed.
-#[derive(Drop)]
+#[derive(Clone, Copy)]
 pub enum Offered {
     NoId(usize),
     AlreadyThere(usize),
@@ -33,7 +33,7 @@ pub enum Offered {
 // ---- inside
 
 // An event that isn't refused: it has no id, one that is there, or one that is taken.
-#[derive(Drop)]
+#[derive(Clone, Copy)]
 pub(crate) enum Kind {
     NoId,
     AlreadyThere,

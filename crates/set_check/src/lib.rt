@@ -28,7 +28,7 @@ pub const LONGEST_SET: usize = SET_HEADER
     + MAX_INTERVALS * INTERVAL_LEN;
 
 // What a lent set is: refused with 14, or in set form and within the limits.
-#[derive(Drop)]
+#[derive(Clone, Copy)]
 pub struct Checked {
     pub refusal: u8,
     pub tagged: bool,
@@ -37,7 +37,7 @@ pub struct Checked {
 }
 
 // The entries of a set that are left: whether they have tags, where they begin, and how many there are.
-#[derive(Drop)]
+#[derive(Clone, Copy)]
 pub struct Cursor {
     pub tagged: bool,
     pub at: usize,
@@ -45,7 +45,7 @@ pub struct Cursor {
 }
 
 // Where an entry stands: where its tag begins and how long it is, how many intervals it has, where they begin and where they end.
-#[derive(Drop)]
+#[derive(Clone, Copy)]
 pub struct EntryPlace {
     pub tag_at: usize,
     pub tag_len: usize,
@@ -57,7 +57,7 @@ pub struct EntryPlace {
 // ---- inside
 
 // The two parts of a key in a set: its uuid, and its tag.
-#[derive(Drop)]
+#[derive(Clone, Copy)]
 pub(crate) struct KeyPlace {
     pub(crate) at: usize,
     pub(crate) len: usize,
@@ -66,7 +66,7 @@ pub(crate) struct KeyPlace {
 }
 
 // The header of a set: whether its entries have tags, and how many there are.
-#[derive(Drop)]
+#[derive(Clone, Copy)]
 pub(crate) struct Header {
     pub(crate) ok: bool,
     pub(crate) tagged: bool,
@@ -74,7 +74,7 @@ pub(crate) struct Header {
 }
 
 // The entries of a set: whether they are in set form, and how many intervals they have together.
-#[derive(Drop)]
+#[derive(Clone, Copy)]
 pub(crate) struct Entries {
     pub(crate) ok: bool,
     pub(crate) intervals: usize,

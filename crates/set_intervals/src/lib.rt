@@ -11,7 +11,7 @@ use misc::le::number_at;
 use packets::is_interval;
 
 // How an interval goes into others: how many stand before it, how many it takes up, and from where to where it then reaches.
-#[derive(Drop)]
+#[derive(Clone, Copy)]
 pub struct Splice {
     pub before: usize,
     pub taken: usize,
@@ -20,7 +20,7 @@ pub struct Splice {
 }
 
 // How many intervals one that ends at a number takes up, and the end that it comes to.
-#[derive(Drop)]
+#[derive(Clone, Copy)]
 struct Reach {
     taken: usize,
     end: u64,

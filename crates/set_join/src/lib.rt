@@ -20,14 +20,14 @@ mod put;
 pub mod take_in;
 
 // Whether a set has an id. The set is refused (14) if it is none.
-#[derive(Drop)]
+#[derive(Clone, Copy)]
 pub struct Contained {
     pub refusal: u8,
     pub present: bool,
 }
 
 // An id joined to a set: whether it was there already, and what was written.
-#[derive(Drop)]
+#[derive(Clone, Copy)]
 pub struct Joined {
     pub already: bool,
     pub wrote: Wrote,
@@ -37,7 +37,7 @@ pub struct Joined {
 
 // Where a key stands in a set: how many entries are before it, and where they end; its intervals, none if it isn't there; and where the
 // entries after it begin.
-#[derive(Drop)]
+#[derive(Clone, Copy)]
 pub(crate) struct Found {
     pub(crate) index: usize,
     pub(crate) at: usize,
@@ -48,14 +48,14 @@ pub(crate) struct Found {
 }
 
 // An interval that is to be joined: its start, and its end, which it doesn't hold.
-#[derive(Drop)]
+#[derive(Clone, Copy)]
 pub(crate) struct Span {
     pub(crate) start: u64,
     pub(crate) end: u64,
 }
 
 // Entries that stand one after another: from where to where, and how many.
-#[derive(Drop)]
+#[derive(Clone, Copy)]
 pub(crate) struct Run {
     pub(crate) from: usize,
     pub(crate) to: usize,
@@ -63,7 +63,7 @@ pub(crate) struct Run {
 }
 
 // A set in a work buffer: whether it has tags; how many entries, intervals, and entries with too many intervals it has; and its length.
-#[derive(Drop)]
+#[derive(Clone, Copy)]
 pub(crate) struct Held {
     pub(crate) tagged: bool,
     pub(crate) entries: usize,
@@ -74,7 +74,7 @@ pub(crate) struct Held {
 
 // How a set grows by an interval: whether it then has tags, and had none; its counts, that of the key's own intervals, and its length; and
 // where the interval goes.
-#[derive(Drop)]
+#[derive(Clone, Copy)]
 pub(crate) struct Plan {
     pub(crate) tags: bool,
     pub(crate) widen: bool,

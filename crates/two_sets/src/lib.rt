@@ -22,7 +22,7 @@ mod pairs;
 mod write;
 
 // Whether all ids of a set are in another. Either is refused (14) if it is none.
-#[derive(Drop)]
+#[derive(Clone, Copy)]
 pub struct AllWithin {
     pub refusal: u8,
     pub all: bool,
@@ -30,7 +30,7 @@ pub struct AllWithin {
 
 // Which of two sets has all ids of the other: the first where it has, also where they are equal, else the second. Refused are bytes that
 // are no set (14), the first before the second, and two sets of which each has an id that the other lacks (22).
-#[derive(Drop)]
+#[derive(Clone, Copy)]
 pub enum Choice {
     First,
     Second,
@@ -40,7 +40,7 @@ pub enum Choice {
 // ---- inside
 
 // Which ids are kept.
-#[derive(Drop)]
+#[derive(Clone, Copy)]
 pub(crate) enum Operation {
     Either,
     Both,
@@ -48,35 +48,35 @@ pub(crate) enum Operation {
 }
 
 // What a pass over both sets has to do: which ids are kept, and whether entries are written with tags.
-#[derive(Drop)]
+#[derive(Clone, Copy)]
 pub(crate) struct Work {
     pub(crate) operation: Operation,
     pub(crate) tags: bool,
 }
 
 // The marks of an entry that are left, the starts and ends of its intervals: where they stand, and how many there are.
-#[derive(Drop)]
+#[derive(Clone, Copy)]
 pub(crate) struct Side {
     pub(crate) at: usize,
     pub(crate) left: usize,
 }
 
 // Those of an entry of the first set, and of one of the second.
-#[derive(Drop)]
+#[derive(Clone, Copy)]
 pub(crate) struct Sides {
     pub(crate) one: Side,
     pub(crate) two: Side,
 }
 
 // A mark that was passed, and what is left behind it.
-#[derive(Drop)]
+#[derive(Clone, Copy)]
 pub(crate) struct Step {
     pub(crate) sides: Sides,
     pub(crate) mark: u64,
 }
 
 // The same, and whether it is one of the result.
-#[derive(Drop)]
+#[derive(Clone, Copy)]
 pub(crate) struct Turn {
     pub(crate) sides: Sides,
     pub(crate) flips: bool,
@@ -84,21 +84,21 @@ pub(crate) struct Turn {
 }
 
 // The entries that are left of the first set, and of the second.
-#[derive(Drop)]
+#[derive(Clone, Copy)]
 pub(crate) struct Cursors {
     pub(crate) first: Cursor,
     pub(crate) second: Cursor,
 }
 
 // Where the walk over two sets begins, or the refusal of what is none.
-#[derive(Drop)]
+#[derive(Clone, Copy)]
 pub(crate) struct Beginning {
     pub(crate) refusal: u8,
     pub(crate) from: Cursors,
 }
 
 // Where a key stands: in the first set or the second, its uuid and its tag.
-#[derive(Drop)]
+#[derive(Clone, Copy)]
 pub(crate) struct KeyPlace {
     pub(crate) of_first: bool,
     pub(crate) at: usize,
@@ -107,7 +107,7 @@ pub(crate) struct KeyPlace {
 }
 
 // The next key of two sets: where it stands, its marks in either, none where a set doesn't have it, and the entries after it.
-#[derive(Drop)]
+#[derive(Clone, Copy)]
 pub(crate) struct Pair {
     pub(crate) key: KeyPlace,
     pub(crate) sides: Sides,
@@ -115,7 +115,7 @@ pub(crate) struct Pair {
 }
 
 // Whether the first set has an id of its own, one that the second lacks, and whether the second has one that the first lacks.
-#[derive(Drop)]
+#[derive(Clone, Copy)]
 pub(crate) struct Own {
     pub(crate) first: bool,
     pub(crate) second: bool,
@@ -123,7 +123,7 @@ pub(crate) struct Own {
 
 // How large a result is: whether it has tags; how many entries, intervals, and entries with too many intervals it has; and the place behind
 // its entries.
-#[derive(Drop)]
+#[derive(Clone, Copy)]
 pub(crate) struct Made {
     pub(crate) tagged: bool,
     pub(crate) entries: usize,
