@@ -1,5 +1,7 @@
 // The body of a Previous-GTIDs event (type 35): read from left to right, handed out entry by entry, written anew.
 // Every answer begins with the number of its refusal, 0 for none, and is zero in every other part then (13 tells the length needed).
+#![tactic(auto)]
+
 use misc::UUID_LEN;
 use packets::MAX_TAG;
 

@@ -1,5 +1,7 @@
 // Hands out the entries of a Previous-GTIDs body (type 35) one after another. Every answer has the number of its refusal, 0
 // for none. A refused answer is all zero but for its number and leaves the reader where it was, so asking again repeats it.
+#![tactic(auto)]
+
 ghost use Rattle.std.specs.Prelude.{◌≡◌};
 ghost use Rattle.previous_gtids_reader.specs.Steps.{start_of, empty_step, step_of, step_after};
 ghost use Rattle.previous_gtids_reader.specs.Held.{reader_at};

@@ -42,7 +42,7 @@ pub zeros : (r : Refusal) → Zeros r
 unfolding output_of answer_of with_tag new_tagged length_of le_bytes flat_identity flat_clock flat_rest flat
 zeros r =
     record {
-      no_event = refl;
+      no_event_is = refl;
       uint = refl;
       int = refl;
       event = refl;

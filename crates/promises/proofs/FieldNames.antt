@@ -115,11 +115,15 @@ HasNamed f (FieldsLaid.ignored rest form new over) = ⊥
 HasNamed f (FieldsLaid.field form value rest) = (field_of value ≡ f) ⊎ HasNamed f rest
 
 to-name : (f : Field) {last : ℕ} {told : List Sent} {bs : List ℕ} (laid : FieldsLaid last told bs) → Has (field_id f) laid → HasNamed f laid
+to-name f FieldsLaid.end h = elim h [ ]
+to-name f (FieldsLaid.ignored rest form new over) h = elim h [ ]
 to-name f (FieldsLaid.field form value rest) (inl is) =
     inl (sym (back (field_of value)) ∙ ap (λ (k : ℕ). get_or by_id k Field.gtid_flags) (value-name value ∙ is) ∙ back f)
 to-name f (FieldsLaid.field form value rest) (inr more) = inr (to-name f rest more)
 
 to-id : (f : Field) {last : ℕ} {told : List Sent} {bs : List ℕ} (laid : FieldsLaid last told bs) → HasNamed f laid → Has (field_id f) laid
+to-id f FieldsLaid.end h = elim h [ ]
+to-id f (FieldsLaid.ignored rest form new over) h = elim h [ ]
 to-id f (FieldsLaid.field form value rest) (inl is) = inl (sym (value-name value) ∙ ap field_id is)
 to-id f (FieldsLaid.field form value rest) (inr more) = inr (to-id f rest more)
 

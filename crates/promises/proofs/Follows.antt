@@ -63,7 +63,7 @@ module _ (s : List ℕ) (are : Bytes s) (long : body_limit < length s) where
   long-take-in x out = ((x.take_in s out are 11 0).1 (WriteFault.itself (TakeInFault.bad_body (BodyFault.too_long s long)))).0
 
   pub long-set : Rules → SetFault s 14
-  long-set x = SetFault.no_set (λ es laid. omega (arith, long, (x.sets_are_bodies s es laid).0, x.longest_set, x.longest_body))
+  long-set x = SetFault.no_set (λ es laid. omega (arith, long, (x.sets_are_bodies s es laid).0, x.longest_set_is, x.longest_body))
 
 -- 9 before 1: a payload smaller than its envelope, however many bytes there are
 pub small-first : EventsExact → {size last : ℕ} {a b : List ℕ} (rest : List ℕ) → Form size a → Form last b → size < length (2 ∷ (a ++ b))
@@ -128,13 +128,16 @@ naming-alone : {type n : ℕ} {body : List ℕ} → NamingFault type body n → 
 naming-alone (NamingFault.own fault) this = absurd (omega (arith, small-event fault))
 naming-alone (NamingFault.no_id laid is none) this = is
 
+short-alone : {X : Type 0} {bs : List ℕ} {room n len : ℕ} → ShortFault bs room n len → n ≡ 21 → X
+short-alone (ShortFault.short _) this = absurd (omega arith)
+
 offer-alone : {set : List ℕ} {type : ℕ} {body : List ℕ} {room n len : ℕ} → OfferFault set type body room n len → n ≡ 21 → type ≡ 42
 offer-alone (OfferFault.bad_set (SetFault.no_set _)) this = absurd (omega arith)
 offer-alone (OfferFault.bad_event _ fault) this = naming-alone fault this
 offer-alone (OfferFault.gno_rule _ _ _) this = absurd (omega arith)
 offer-alone (OfferFault.crowded_entry _ _ _ _ _) this = absurd (omega arith)
 offer-alone (OfferFault.over_limits _ _ _ _ _) this = absurd (omega arith)
-offer-alone (OfferFault.no_room _ _ (ShortFault.short _)) this = absurd (omega arith)
+offer-alone (OfferFault.no_room _ _ short) this = short-alone short this
 
 -- the refusal in an offer's answer, 0 for none
 abbrev refusal_of : Offered → ℕ

@@ -44,10 +44,12 @@ use Rattle.promises.proofs.BesidesHold.{no-gno, zeros}
 
 module _ (end : ℕ) (over : gno_top < end) where
   none-proper : (is : List Interval) → Proper is → EndsAt end is → ⊥
+  none-proper [] p h = elim h [ ]
   none-proper (interval a b ∷ is) p (inl here) = omega arith
   none-proper (interval a b ∷ is) p (inr there) = none-proper is p.3 there
 
   none-lawful : (es : List Entry) → Lawful es → HasEnd end es → ⊥
+  none-lawful [] l h = elim h [ ]
   none-lawful (entry k is ∷ es) l (inl here) = none-proper is l.0 here
   none-lawful (entry k is ∷ es) l (inr there) = none-lawful es l.1 there
 

@@ -51,6 +51,8 @@ sent-has k (FieldsLaid.field {x = x} form value rest) h = split (eqb (id_of x) k
     (λ other. inr (sent-has k rest (rw other at h)))
 
 has-sent : (k : ℕ) {last : ℕ} {told : List Sent} {bs : List ℕ} (laid : FieldsLaid last told bs) → Has k laid → sends k told ≡ true
+has-sent k FieldsLaid.end h = elim h [ ]
+has-sent k (FieldsLaid.ignored rest form new over) h = elim h [ ]
 has-sent k (FieldsLaid.field {x = x} form value rest) (inl is) = rw (eq-eqb (id_of x) k (value-id value ∙ is))
 has-sent k (FieldsLaid.field {x = x} form value rest) (inr more) = rw (has-sent k rest more) (or-true (eqb (id_of x) k))
 

@@ -20,7 +20,7 @@ use Rattle.gtid_sets.specs.Limits.{intervals, crowds, EntryOver}
 use Rattle.gtid_sets.specs.Lent.{form, unfit, GoodKeys, SetLaid}
 use Rattle.gtid_sets.proofs.LimitLaws.{longest_set-is}
 use Rattle.gtid_sets.proofs.LentLaws.{read_back, older-lent, older-unfit, lent_is, is-lent, lent-short}
-use Rattle.listing.proofs.Longest.{longest_text-is, longest_text}
+use Rattle.listing.proofs.Longest.{longest_text-is, longest_text_lem}
 use Rattle.promises.specs.Exact.{Exactly}
 use Rattle.promises.specs.SetFaults.{SetFault}
 use Rattle.promises.specs.Rules.{Rules}
@@ -59,13 +59,13 @@ rules = record {
     λ h. let (least, rises, most) = interval-says start end h in (least, rises, omega (arith, gno_top-is)),
     λ (least, rises, most). interval-from start end least rises (omega (arith, gno_top-is)),
   );
-  gno_top = gno_top-is;
+  gno_top_is = gno_top-is;
   set_limits = set_limits;
   entry_limit = entry_limit;
   other_limits = other_limits;
-  longest_set = longest_set-is;
-  longest_text = longest_text-is;
-  texts = longest_text;
+  longest_set_is = longest_set-is;
+  longest_text_is = longest_text-is;
+  texts = longest_text_lem;
   longest_body = body_limit-is;
   sets_are_bodies = λ set s laid. (
     lent-short set s (is-lent set s laid),

@@ -198,6 +198,13 @@ module _ (set : List ℕ) (type : ℕ) (body : List ℕ) (out : List ℕ) (are :
     accepts (Accepts.already n good there) = rw (is-lent set s laid, event-named type body n, good, there) (refl, refl)
     accepts (Accepts.taken n good new within) = rw (is-lent set s laid, event-named type body n, good, new, within) (refl, refl)
 
+  short-forced : {case : ℕ → Offered} (after : List Entry) (n len : ℕ) → ShortFault (body_bytes after) (length out) n len
+      → offered (lent_set set) (event_of type body) (length out) ≡ fitting case (length (body_bytes after)) (length out)
+      → output (lent_set set) (event_of type body) ≡ bytes (body_bytes after) → Ours (Refused n len) out
+  short-forced after n len (ShortFault.short over) answered left =
+      let no : leb (length (body_bytes after)) (length out) ≡ false = lt-leb _ _ over in
+      (answered ∙ rw no, ap (output_of out) left ∙ out-short (body_bytes after) out no)
+
   fault-forced : (n len : ℕ) → OfferFault set type body (length out) n len → Ours (Refused n len) out
   fault-forced n len (OfferFault.bad_set fault) =
       let (this, lent) = fault-unfit set n fault in
@@ -212,10 +219,9 @@ module _ (set : List ℕ) (type : ℕ) (body : List ℕ) (out : List ℕ) (are :
       rw (is-lent set s laid, event-named type body named, good, new, judged) (refl, out-refused out crowded)
   fault-forced n len (OfferFault.over_limits {s = s} laid named good new over) =
       rw (is-lent set s laid, event-named type body named, good, new, over) (refl, out-refused out full)
-  fault-forced n len (OfferFault.no_room {after = after} laid ok (ShortFault.short over)) =
+  fault-forced n len (OfferFault.no_room {after = after} laid ok short) =
       let (answered, left) = accepts laid ok in
-      let no : leb (length (body_bytes after)) (length out) ≡ false = lt-leb _ _ over in
-      (answered ∙ rw no, ap (output_of out) left ∙ out-short (body_bytes after) out no)
+      short-forced after n len short answered left
 
   answer-forced : (a : Offered) (l : List ℕ) → OfferAnswer set type body out a l → Ours a l
   answer-forced a l (OfferAnswer.refused fault) = fault-forced _ _ fault

@@ -25,7 +25,7 @@ use Rattle.abi.specs.Flat.{flat}
 
 pub record Zeros (r : Refusal) : Type 0 where
   -- the record that it hands out: laid out for Rust and C it is 116 zeros
-  pub no_event : flat no_event ≡ replicate 116 0
+  pub no_event_is : flat no_event ≡ replicate 116 0
   -- calls that read
   pub uint : uint_read (refuse r) ≡ record { refusal = number r; value = 0; next = 0 }
   pub int : int_read (refuse r) ≡ record { refusal = number r; value = pos 0; next = 0 }

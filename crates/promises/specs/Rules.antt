@@ -23,15 +23,15 @@ pub record Rules : Type 0 where
   -- a member's gno lies in 1 to 2^63-2, and an interval has 1 <= start < end <= 2^63-1 (CR 4); the first number too great for a gno is 2^63-1
   pub gno : (n : ℕ) → Exactly (is_gno n ≡ true) ((1 ≤ n) × (n ≤ 2 ^ 63 - 2))
   pub gnos : (start end : ℕ) → Exactly (is_interval (interval start end) ≡ true) ((1 ≤ start) × (start < end) × (end ≤ 2 ^ 63 - 1))
-  pub gno_top : gno_top ≡ 2 ^ 63 - 1
+  pub gno_top_is : gno_top ≡ 2 ^ 63 - 1
   -- 384 entries, 2,560 intervals together and 1,024 in any one entry (CR 11). 17 is given for an entry with more, and 16 for the others where there
   -- is none
   pub set_limits : (s : List Entry) → Exactly (limits s ≡ fine) ((EntryOver 1024 s → ⊥) × (length s ≤ 384) × (intervals s ≤ 2560))
   pub entry_limit : (s : List Entry) → Exactly (limits s ≡ breaks crowded) (EntryOver 1024 s)
   pub other_limits : (s : List Entry) → Exactly (limits s ≡ breaks full) ((EntryOver 1024 s → ⊥) × ((384 < length s) ⊎ (2560 < intervals s)))
   -- thus a set has at most 62,856 bytes, and a listing 129,322; a body has at most 65,536 bytes, so that every set is read as one
-  pub longest_set : longest_set ≡ 62856
-  pub longest_text : longest_text ≡ 129322
+  pub longest_set_is : longest_set ≡ 62856
+  pub longest_text_is : longest_text ≡ 129322
   pub texts : (input : List ℕ) → Bytes input → length (listing input) ≤ longest_text
   pub longest_body : body_limit ≡ 65536
   pub sets_are_bodies : (set : List ℕ) (s : List Entry) → SetLaid set s → (length set ≤ longest_set) × (previous set ≡ parsed s (length set))

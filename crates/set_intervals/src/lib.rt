@@ -1,5 +1,7 @@
 // The intervals of an entry, in the bytes that they are: sixteen to each, the start and then the end. Whether they are in written form,
 // whether they hold a number, and where a new one goes. The functions take any bytes; fewer than sixteen at the end are no interval.
+#![tactic(auto)]
+
 ghost use Rattle.std.specs.Prelude.{◌≡◌, ◌≤◌, max, length, drop};
 ghost use Rattle.gtid_sets.specs.Interval.{gapped};
 ghost use Rattle.gtid_sets.specs.Splice.{earlier, from};

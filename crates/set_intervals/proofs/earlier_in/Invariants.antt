@@ -1,0 +1,12 @@
+-- `set_intervals::earlier_in` meets its contract.
+use Prim.Native.Nat.{◌-◌, ◌≤◌}
+use native.Mathlib.Omega.{arith}
+use lib.ListN.{length}
+use Rattle.set_intervals.proofs.Walks.{Earlier, earlier-all, earlier-stops, earlier-turn}
+use Rattle.set_intervals.proofs.earlier_in.Given as goal
+
+abbrev pub invariant-loop-at : goal.invariant-loop-at
+invariant-loop-at l = (l.at ≤ length l.intervals) × Earlier l.intervals l.a l.at
+
+abbrev pub decreases-loop-at : goal.decreases-loop-at
+decreases-loop-at l = length l.intervals - l.at
