@@ -1,6 +1,8 @@
 // The listing program: one type byte and a body on standard input, text on standard output. Nothing of a longer input is read than tells
 // that the body is too long. That the rooms for both are enough is proved: `text_of` asks for as much, and promises the listing of the
 // whole input.
+#![tactic(auto)]
+
 ghost use Rattle.std.specs.Prelude.{◌≤◌, length, take};
 ghost use Rattle.listing.specs.EventText.{enough_input, longest_text};
 ghost use Rattle.gtid_list.specs.Program.{Listed};

@@ -137,7 +137,7 @@ offer-alone (OfferFault.bad_event _ fault) this = naming-alone fault this
 offer-alone (OfferFault.gno_rule _ _ _) this = absurd (omega arith)
 offer-alone (OfferFault.crowded_entry _ _ _ _ _) this = absurd (omega arith)
 offer-alone (OfferFault.over_limits _ _ _ _ _) this = absurd (omega arith)
-offer-alone (OfferFault.no_room _ _ short) this = short-alone short this
+offer-alone (OfferFault.no_room _ _ lacks) this = short-alone lacks this
 
 -- the refusal in an offer's answer, 0 for none
 abbrev refusal_of : Offered → ℕ

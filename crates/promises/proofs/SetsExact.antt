@@ -198,10 +198,10 @@ module _ (set : List ℕ) (type : ℕ) (body : List ℕ) (out : List ℕ) (are :
     accepts (Accepts.already n good there) = rw (is-lent set s laid, event-named type body n, good, there) (refl, refl)
     accepts (Accepts.taken n good new within) = rw (is-lent set s laid, event-named type body n, good, new, within) (refl, refl)
 
-  short-forced : {case : ℕ → Offered} (after : List Entry) (n len : ℕ) → ShortFault (body_bytes after) (length out) n len
+  short-forced : (case : ℕ → Offered) (after : List Entry) (n len : ℕ) → ShortFault (body_bytes after) (length out) n len
       → offered (lent_set set) (event_of type body) (length out) ≡ fitting case (length (body_bytes after)) (length out)
       → output (lent_set set) (event_of type body) ≡ bytes (body_bytes after) → Ours (Refused n len) out
-  short-forced after n len (ShortFault.short over) answered left =
+  short-forced case after n len (ShortFault.short over) answered left =
       let no : leb (length (body_bytes after)) (length out) ≡ false = lt-leb _ _ over in
       (answered ∙ rw no, ap (output_of out) left ∙ out-short (body_bytes after) out no)
 
@@ -219,9 +219,9 @@ module _ (set : List ℕ) (type : ℕ) (body : List ℕ) (out : List ℕ) (are :
       rw (is-lent set s laid, event-named type body named, good, new, judged) (refl, out-refused out crowded)
   fault-forced n len (OfferFault.over_limits {s = s} laid named good new over) =
       rw (is-lent set s laid, event-named type body named, good, new, over) (refl, out-refused out full)
-  fault-forced n len (OfferFault.no_room {after = after} laid ok short) =
+  fault-forced n len (OfferFault.no_room {after = after} {case = case} laid ok lacks) =
       let (answered, left) = accepts laid ok in
-      short-forced after n len short answered left
+      short-forced case after n len lacks answered left
 
   answer-forced : (a : Offered) (l : List ℕ) → OfferAnswer set type body out a l → Ours a l
   answer-forced a l (OfferAnswer.refused fault) = fault-forced _ _ fault

@@ -2,6 +2,8 @@
 // one, and `offer` gives a set an event and writes the set after it. What they answer is said by `set_read` and `offer_answers` of
 // specs/Answers.antt, and what is written by `offer_leaves`, on `lent_set` of gtid_sets. What needs no event is in set_join: a set begins
 // with its `take_in`.
+#![tactic(auto)]
+
 ghost use Rattle.std.specs.Prelude.{◌≡◌};
 ghost use Rattle.gtid_sets.specs.Lent.{lent_set};
 ghost use Rattle.resume_set.specs.Answers.{set_read, offer_answers, offer_leaves, accepted_as};
