@@ -5,9 +5,6 @@ use mathlib.Core.Bool.{Bool}
 use mathlib.Core.List.{List, [], ◌∷◌}
 use native.Mathlib.Omega.{arith}
 use lib.ListN.{length, take}
-use denote.Enum.Declared.{tag_of}
-use types.Run.{OneOf, miss}
-use Rattle.binlog.specs.contracts.Phase.{the_type}
 use Rattle.binlog.proofs.PhaseLaws.{front-none}
 use Rattle.binlog.specs.Place.{Place, opening, heading, inside, passing, whole, ended, stopped}
 use Rattle.binlog.specs.Run.{Done, did, fails, answered}
@@ -36,10 +33,10 @@ Steps reader wanted r set set' spare spare' work =
 
 -- every variant but that of an event that is whole
 abbrev NotWhole : Phase → Type 0
-NotWhole here = OneOf (0 ∷ 1 ∷ 2 ∷ 3 ∷ 5 ∷ 6 ∷ []) (tag_of the_type here)
+NotWhole here = (type n : ℕ) → here ≡ phase.Whole type n → ⊥
 
 never : {X : Type 0} → (type n : ℕ) → NotWhole (phase.Whole type n) → X
-never type n h = absurd (miss (0 ∷ 1 ∷ 2 ∷ 3 ∷ 5 ∷ 6 ∷ []) 4 tt h)
+never type n h = absurd (h type n refl)
 
 module _ (reader : Reader) (room t : ℕ) (set buffer spare work : List ℕ) where
   rests-at : (p : Place) (used : ℕ) → NotWhole (phase_of p) → Front (held_at p) work

@@ -2,6 +2,8 @@
 // joined to it, as soon as it is whole. The reader is a small value; its work bytes, the buffer of its set and the room for the set after an
 // event are lent with each call. What the calls answer and leave is said by `begin_answers`, `step_answers`, `step_leaves`, `step_holds` and
 // `end_answers_of` of specs/Step.antt, on the run over a file's bytes of the crate `binlog`.
+#![tactic(auto)]
+
 ghost use Rattle.std.specs.Prelude.{◌≡◌, length};
 ghost use Rattle.binlog.specs.Held.{Front};
 ghost use Rattle.binlog_reader.specs.Does.{acts, acted_as, ActedIs};

@@ -1,6 +1,8 @@
 // The report program: sets on standard input, each behind its length in four bytes, and the report's text on standard output. Sets behind
 // the 64th are not read. That the rooms for a set and for the text are enough is proved: `with_file` and `text_of` ask for as much;
 // `with_file` promises the report with the whole file, of a longer one too, and `text_of` the whole text.
+#![tactic(auto)]
+
 ghost use Rattle.std.specs.Prelude.{◌≡◌, ◌≤◌, ◌<◌, length, take};
 ghost use Rattle.gtid_sets.specs.Limits.{longest_set};
 ghost use Rattle.report.specs.Text.{longest_report};

@@ -19,10 +19,10 @@ returns-then-not-fine c = let l = c.loop-at in
 
 pub loop-at-preserved : goal.loop-at-preserved
 loop-at-preserved c = let l = c.loop-at in (
-      omega arith,
-      gapped-turn _ _ _ l.invariant.1 (omega arith) _ _ c.number_at-start.ensures c.number_at-end.ensures _
-          c.is_interval.ensures c.if-not-fine.false,
-    )
+  omega arith,
+  gapped-turn _ _ _ l.invariant.1 (omega arith) _ _ c.number_at-start.ensures c.number_at-end.ensures _
+      c.is_interval.ensures c.if-not-fine.false,
+)
 
 pub returns : goal.returns
 returns c = gapped-all _ _ _ c.loop-at.invariant.1 (omega arith)

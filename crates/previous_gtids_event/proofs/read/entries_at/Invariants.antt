@@ -12,7 +12,7 @@ use Rattle.previous_gtids_event.proofs.Reading.{whole-told, whole-refused}
 use Rattle.previous_gtids_event.proofs.read.entries_at.Given as goal
 
 abbrev pub invariant-loop-done : goal.invariant-loop-done
-invariant-loop-done l =    (l.done ≤ l.count) × SoFar read_after (entry_at l.tagged l.body) l.count (previous_read (many (entry_at l.tagged l.body) l.count l.from)) l.done l.at l.done
+invariant-loop-done l = (l.done ≤ l.count) × SoFar read_after (entry_at l.tagged l.body) l.count (previous_read (many (entry_at l.tagged l.body) l.count l.from)) l.done l.at l.done
 
 abbrev pub decreases-loop-done : goal.decreases-loop-done
 decreases-loop-done l = l.count - l.done

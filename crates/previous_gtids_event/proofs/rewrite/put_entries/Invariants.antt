@@ -10,7 +10,7 @@ use Rattle.previous_gtids_event.proofs.Rewriting.{PutSoFar, put_whole, put_next,
 use Rattle.previous_gtids_event.proofs.rewrite.put_entries.Given as goal
 
 abbrev pub invariant-loop-done : goal.invariant-loop-done
-invariant-loop-done l =    (l.done ≤ l.count)
+invariant-loop-done l = (l.done ≤ l.count)
     × (length l.out ≡ length l.initial.out)
     × PutSoFar (entry_at l.tagged l.body) l.tags l.initial.out l.at (entries_bytes_of l.tags (many (entry_at l.tagged l.body) l.count 8)) (l.count - l.done) l.next l.out l.put
 

@@ -110,7 +110,7 @@ loop-done-preserved c = let order : let r = c.whole_at-whole.result in
           (omega arith)
           m.entry _ m.is
           (gathered (l.done + 1) (l.any || ltb 0 r.tag_len) (l.plain + (24 + 16 * r.intervals))
-            (l.full + (24 + 16 * r.intervals + c.varlen_uint_size.result + r.tag_len)))
+          (l.full + (24 + 16 * r.intervals + c.varlen_uint_size.result + r.tag_len)))
           (m.more l.done l.any l.plain l.full),
     )
 

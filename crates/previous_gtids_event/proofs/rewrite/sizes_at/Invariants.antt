@@ -12,7 +12,7 @@ use Rattle.previous_gtids_event.proofs.Reading.{whole-told, whole-refused, whole
 use Rattle.previous_gtids_event.proofs.rewrite.sizes_at.Given as goal
 
 abbrev pub invariant-loop-done : goal.invariant-loop-done
-invariant-loop-done l =    (l.done ≤ l.count) × (l.at ≤ length l.body) × (l.done ≤ l.at) × (l.plain ≤ l.at) × (l.full ≤ 2 * l.at)
+invariant-loop-done l = (l.done ≤ l.count) × (l.at ≤ length l.body) × (l.done ≤ l.at) × (l.plain ≤ l.at) × (l.full ≤ 2 * l.at)
     × SoFar sizes_after (entry_at l.tagged l.body) l.count (sizes_of (many (entry_at l.tagged l.body) l.count l.from)) (gathered l.done l.any l.plain l.full) l.at l.done
 
 abbrev pub decreases-loop-done : goal.decreases-loop-done

@@ -22,8 +22,7 @@ hex_digit-requires c = omega (arith, c.type_inv.source c.loop-i.i)
 pub loop-i-preserved : goal.loop-i-preserved
 loop-i-preserved c = let l = c.loop-i in
     let source = c.args.source.now in
-    let text = hex-more source l.i _ _ (omega arith) c.hex_digit.ensures c.hex_digit-in-loop-i.ensures in
-    (
+    let text = hex-more source l.i _ _ (omega arith) c.hex_digit.ensures c.hex_digit-in-loop-i.ensures in (
       c.put_bytes-end.auto.out ∙ l.invariant.0,
       putting-turn l.invariant.1 _ (hex (drop (l.i + 1) source)) text _ _ (put-placed (c.put_bytes-end.ensures.value, c.put_bytes-end.ensures.out_after)),
       λ none. absurd (omega arith),

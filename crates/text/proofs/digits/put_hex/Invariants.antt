@@ -10,7 +10,7 @@ use Rattle.text.proofs.DigitLaws.{hex-none, hex-more, hex-long, hex-put}
 use Rattle.text.proofs.digits.put_hex.Given as goal
 
 abbrev pub invariant-loop-i : goal.invariant-loop-i
-invariant-loop-i l =    (length l.out ≡ length l.initial.out) × Putting (hex l.source) l.initial.out l.at (hex (drop l.i l.source)) l.out l.end × (length l.source ≡ 0 → (l.end ≡ l.at) × (l.out ≡ l.initial.out))
+invariant-loop-i l = (length l.out ≡ length l.initial.out) × Putting (hex l.source) l.initial.out l.at (hex (drop l.i l.source)) l.out l.end × (length l.source ≡ 0 → (l.end ≡ l.at) × (l.out ≡ l.initial.out))
 
 abbrev pub decreases-loop-i : goal.decreases-loop-i
 decreases-loop-i l = length l.source - l.i
