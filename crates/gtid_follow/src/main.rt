@@ -17,6 +17,7 @@ use binlog_reader::{Reader, Said, begin, end};
 use listing::LONGEST_TEXT;
 use listing::set_text::list_set;
 use set_check::LONGEST_SET;
+use std::io::{Read, Stdin};
 
 // How much is read at once.
 const CHUNK: usize = 65_536;
@@ -147,9 +148,20 @@ fn through(
     here
 }
 
+// Reads what has come, as much as fits, and returns its length: 0 at the end of the input, or where it can't be read.
+fn read_chunk(input: &mut Stdin, chunk: &mut [u8]) -> usize
+    ensures { result ≤ length chunk.new }
+{
+    match input.read(chunk) {
+        Ok(len) => len,
+        Err(_) => 0,
+    }
+}
+
 // Writes the lines that wait, and then reads a chunk and walks through it.
 fn next_chunk(
     walk: Walk,
+    input: &mut Stdin,
     chunk: &mut [u8],
     work: &mut [u8],
     set: &mut [u8],
@@ -172,7 +184,7 @@ fn next_chunk(
             on: false,
         };
     }
-    let len = io::count(libc::read(0, chunk), chunk);
+    let len = read_chunk(input, chunk);
     let here = Walk {
         reader,
         lines,
@@ -186,6 +198,7 @@ fn next_chunk(
 // Walks to the end of the input, or of the walk. A proved loop has to end, so it counts its turns down from a number that no run uses up.
 fn walked(
     walk: Walk,
+    input: &mut Stdin,
     chunk: &mut [u8],
     work: &mut [u8],
     set: &mut [u8],
@@ -200,7 +213,7 @@ fn walked(
     let mut so_far = progress::none();
     let mut turns = u64::MAX;
     while 0 < turns && here.on {
-        here = next_chunk(here, chunk, work, set, spare, text);
+        here = next_chunk(here, input, chunk, work, set, spare, text);
         so_far = progress::told(so_far, here.used, here.events);
         turns -= 1;
     }
@@ -237,23 +250,31 @@ fn finish(walk: Walk, set: &[u8], text: &mut [u8])
     }
 }
 
-fn follow(chunk: &mut [u8], work: &mut [u8], set: &mut [u8], spare: &mut [u8], text: &mut [u8])
+fn follow(
+    input: &mut Stdin,
+    chunk: &mut [u8],
+    work: &mut [u8],
+    set: &mut [u8],
+    spare: &mut [u8],
+    text: &mut [u8],
+)
     requires { longest_text ≤ length text.old }
 {
     let start = start::read_start(set);
     let len = start.len;
     let walk = begun(&set[..len], start.checksums);
-    let last = walked(walk, chunk, work, set, spare, text);
+    let last = walked(walk, input, chunk, work, set, spare, text);
     let reader = last.reader;
     let end = reader.len;
     finish(last, &set[..end], text);
 }
 
-fn main() {
+fn main(rt: HostRuntime) {
+    let mut input = rt.stdin();
     let mut chunk = [0u8; CHUNK];
     let mut work = [0u8; WORK];
     let mut set = [0u8; LONGEST_SET];
     let mut spare = [0u8; LONGEST_SET];
     let mut text = [0u8; LONGEST_TEXT];
-    follow(&mut chunk, &mut work, &mut set, &mut spare, &mut text);
+    follow(&mut input, &mut chunk, &mut work, &mut set, &mut spare, &mut text);
 }

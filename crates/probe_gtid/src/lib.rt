@@ -1,4 +1,6 @@
 // Call 9 and calls 16 to 22 of the test program: the GTID record.
+#![tactic(auto)]
+
 mod build;
 
 use gtid_event_read::GtidRead;
