@@ -1,5 +1,7 @@
 // The binlog file, read as it arrives: bytes in chunks that end anywhere, from which whole events come out one after another. The reader is
 // a small value; its work bytes are lent with each call.
+#![tactic(auto)]
+
 ghost use Rattle.std.specs.Prelude.{◌≡◌, true, false, ◌++◌, ◌+◌, ◌-◌, ◌≤◌, ◌<◌, length, take, drop, get_or};
 ghost use Rattle.binlog.specs.Format.{trailer, the_opening, type_in, size_in, is_read};
 ghost use Rattle.binlog.specs.Place.{passed, judged};

@@ -207,7 +207,8 @@ module _ (last : ℕ) (s : List ℕ) (f : Fields) (at : ℕ) where
     pub fields-end : length s ≤ at → fields_of last s ≡ parsed f at
     fields-end h = so_far.is ∙ no_more so_far.bound h
 
-    turn : at < length s → (n : ℕ) × (length s - at ≤ suc n) × (fields_of last s ≡ and_then (field_at last s f at) (λ more next. fields_from n last s more next))
+    turn : at < length s
+        → (n : ℕ) × (length s - at ≤ suc n) × (fields_of last s ≡ and_then (field_at last s f at) (λ more next. fields_from n last s more next))
     turn h = go so_far.bound so_far.enough so_far.is
       where
         go : (b : ℕ) → length s - at ≤ b → fields_of last s ≡ fields_from b last s f at

@@ -21,7 +21,8 @@ use Rattle.packets.proofs.Tests as tests
 use Rattle.gtid_event.specs.Event.{undefined_version}
 use Rattle.gtid_event.specs.declared.GtidEvent.{GtidEvent}
 use Rattle.gtid_event_read.specs.Seen.{Seen, untagged_seen}
-use Rattle.gtid_event_read.specs.Untagged.{Pair, pair, original_after, pair_at, if_left, timestamps_at, length_at, versions_at, opening_at, clock_at, typecode_at}
+use Rattle.gtid_event_read.specs.Untagged.{Pair, pair, original_after, pair_at, if_left, timestamps_at, length_at, versions_at, opening_at, clock_at}
+use Rattle.gtid_event_read.specs.Untagged.{typecode_at}
 use Rattle.gtid_event_read.specs.Untagged.{untagged}
 use Rattle.gtid_event_read.specs.Tagged.{tagged}
 use Rattle.gtid_event_read.specs.Read.{seen, record_in, gtid, gtid_read}

@@ -1,4 +1,6 @@
 // Reading a GTID event: types 33 and 34 untagged, 42 tagged.
+#![tactic(auto)]
+
 ghost use Rattle.std.specs.Prelude.{◌≡◌};
 ghost use Rattle.misc.specs.Body.{used_of, unread_of, onward};
 ghost use Rattle.gtid_event_read.specs.Read.{seen, gtid, named, refused_read, gtid_read, tells_id};

@@ -74,8 +74,8 @@ greatest-fits : (k : ℕ) → k ≤ 32 → Fits (greatest k)
 greatest-fits k few = sample-fits k 255 (2 ^ 63 - 1) (2 ^ 64 - 1) (2 ^ 32 - 1) few (omega arith) (omega arith) (omega arith) (omega arith)
 
 pub totals : Totals
-unfolding le_bytes size_from varlen_size item_of varlen_bytes padded all_tag_bytes is_tag size_with payload_size signed_top all_zero writable items_bytes identity_bytes
-    clock_bytes rest_bytes field_bytes tagged_bytes event_bytes
+unfolding le_bytes size_from varlen_size item_of varlen_bytes padded all_tag_bytes is_tag size_with payload_size signed_top all_zero writable
+    items_bytes identity_bytes clock_bytes rest_bytes field_bytes tagged_bytes event_bytes
 totals = record {
   least = least;
   most = most;

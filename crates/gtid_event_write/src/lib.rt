@@ -1,4 +1,6 @@
 // Writing a GTID record, and its length.
+#![tactic(auto)]
+
 mod put;
 pub mod size;
 mod tagged;

@@ -1,4 +1,6 @@
 // Calls 32 and 33 of the test program: Previous-GTIDs.
+#![tactic(auto)]
+
 use previous_gtids_event::read::{interval_at, read, unread};
 use previous_gtids_event::rewrite::rewrite;
 use previous_gtids_event::{EntryRead, PreviousRead};

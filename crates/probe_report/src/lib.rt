@@ -1,4 +1,6 @@
 // Call 57 of the test program: a report. A has the sets one behind the other, B their lengths, four bytes each.
+#![tactic(auto)]
+
 ghost use Rattle.std.specs.Prelude.{◌≤◌, length};
 
 use probe_lines::line::{push_byte, push_decimal, push_text_if};

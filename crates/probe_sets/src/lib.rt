@@ -1,4 +1,6 @@
 // Calls 48 to 50 and 66 of the test program: the resume set.
+#![tactic(auto)]
+
 use misc::Wrote;
 use probe_lines::line::{push_decimal, push_text};
 use probe_lines::request::Request;

@@ -1,4 +1,6 @@
 // Calls 52 to 56 of the test program: two sets.
+#![tactic(auto)]
+
 use misc::Wrote;
 use probe_lines::line::{push_text, push_text_if};
 use probe_lines::{answers, checks};

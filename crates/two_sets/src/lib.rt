@@ -2,6 +2,8 @@
 // are in the second; and which of the two has all of the other. What they answer is said by `combine_answers`, `within_answers` and
 // `which_answers` of specs/Answers.antt, and what is written by `combine_leaves`, on `lent_set` and `combined` of gtid_sets. Both sets are
 // only read, so that they may be the same bytes. `join` gives a set all ids of a Previous-GTIDs body.
+#![tactic(auto)]
+
 ghost use Rattle.std.specs.Prelude.{◌≡◌};
 ghost use Rattle.gtid_sets.specs.Combine.{either, both, without};
 ghost use Rattle.two_sets.specs.Marks.{said_by};

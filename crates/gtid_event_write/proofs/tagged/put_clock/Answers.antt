@@ -1,0 +1,17 @@
+-- `gtid_event_write::tagged::put_clock` meets its contract.
+use native.Mathlib.Omega.{arith}
+use Rattle.misc.proofs.OutputLaws.{◌also◌}
+use Rattle.gtid_event_write.specs.Layout.{clock_bytes}
+use Rattle.gtid_event_write.proofs.WritableLaws.{tagged-fits}
+use Rattle.gtid_event_write.proofs.tagged.put_clock.Goals as goal
+
+pub overflow_mul-event : goal.overflow_mul-event
+overflow_mul-event c = omega (arith, (tagged-fits c.args.event c.requires).last)
+
+pub overflow_mul-event-2 : goal.overflow_mul-event-2
+overflow_mul-event-2 c = omega (arith, (tagged-fits c.args.event c.requires).sequence)
+
+pub returns : goal.returns
+unfolding clock_bytes
+returns c = c.put_number-after_last.ensures also c.put_number-after_sequence.ensures also c.put_number-after_immediate.ensures
+    also c.put_unless.ensures

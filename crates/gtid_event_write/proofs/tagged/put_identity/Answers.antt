@@ -1,0 +1,18 @@
+-- `gtid_event_write::tagged::put_identity` meets its contract.
+use native.Mathlib.Omega.{arith}
+use Rattle.misc.proofs.OutputLaws.{◌also◌}
+use Rattle.gtid_event_write.specs.Layout.{identity_bytes}
+use Rattle.gtid_event_write.proofs.WritableLaws.{tagged-fits}
+use Rattle.gtid_event_write.proofs.tagged.put_identity.Goals as goal
+
+pub overflow_mul-event : goal.overflow_mul-event
+overflow_mul-event c = omega (arith, (tagged-fits c.args.event c.requires).gno)
+
+pub put_tag-requires : goal.put_tag-requires
+put_tag-requires c = (tagged-fits c.args.event c.requires).tag
+
+pub returns : goal.returns
+unfolding identity_bytes
+returns c = (c.put_id-after_flags_id.ensures also c.put_item-after_flags.ensures)
+    also (c.put_id-after_sid_id.ensures also c.put_serialized_uuid-after_sid.ensures)
+    also c.put_number-after_gno.ensures also c.put_tag.ensures
