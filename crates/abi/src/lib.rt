@@ -1,5 +1,7 @@
 // The library's calls as functions that Rust and C can link, over numbers and byte slices. Each returns the number of its refusal,
 // 0 for none, and hands its other answers out through `&mut` numbers. None asks anything of its caller.
+#![tactic(auto)]
+
 ghost use Rattle.std.specs.Prelude.{◌≡◌, ltb, length};
 ghost use Rattle.misc.specs.Parse.{uint_read};
 ghost use Rattle.misc.specs.Varlen.{varlen_at};
@@ -47,7 +49,6 @@ pub const REPORT_SIZE: usize = 8 + MAX_SETS * LINE_SIZE;
 pub const READER_SIZE: usize = 48;
 
 // Reads the variable-length unsigned integer at the front of some bytes: its value, and how many bytes it takes.
-#[unsafe(no_mangle)]
 pub extern "C" fn gtid_read_varlen_uint(s: &[u8], value: &mut u64, used: &mut usize) -> u8
     ensures value { result ≡ (uint_read (varlen_at s.now 0)).refusal }
     ensures value_after { value.new ≡ (uint_read (varlen_at s.now 0)).value }
@@ -60,7 +61,6 @@ pub extern "C" fn gtid_read_varlen_uint(s: &[u8], value: &mut u64, used: &mut us
 }
 
 // Whether bytes are a set (0, else 14), and how many entries and intervals it has.
-#[unsafe(no_mangle)]
 pub extern "C" fn gtid_check_set(set: &[u8], entries: &mut u64, intervals: &mut u64) -> u8
     ensures value { result ≡ (set_read (lent_set set.now)).refusal }
     ensures entries_after { entries.new ≡ (set_read (lent_set set.now)).entries }
@@ -73,7 +73,6 @@ pub extern "C" fn gtid_check_set(set: &[u8], entries: &mut u64, intervals: &mut 
 }
 
 // Whether a set has the id of a uuid, a tag (none: no bytes) and a gno: 1 if it is there, else 0.
-#[unsafe(no_mangle)]
 pub extern "C" fn gtid_contains(
     set: &[u8],
     uuid: &[u8],
@@ -90,7 +89,6 @@ pub extern "C" fn gtid_contains(
 }
 
 // Takes in the body of a Previous-GTIDs event: the set of all its ids is written, in set form.
-#[unsafe(no_mangle)]
 pub extern "C" fn gtid_take_in(body: &[u8], out: &mut [u8], len: &mut usize) -> u8
     ensures value { result ≡ (take_in_answers body.now out.old).refusal }
     ensures len_after { len.new ≡ (take_in_answers body.now out.old).len }
@@ -102,7 +100,6 @@ pub extern "C" fn gtid_take_in(body: &[u8], out: &mut [u8], len: &mut usize) -> 
 }
 
 // Reads the body of a Previous-GTIDs event: how many entries it has, and how many bytes its header and they take.
-#[unsafe(no_mangle)]
 pub extern "C" fn gtid_read_previous(body: &[u8], entries: &mut u64, used: &mut usize) -> u8
     ensures value { result ≡ (previous_read (previous body.now)).refusal }
     ensures entries_after { entries.new ≡ (previous_read (previous body.now)).entries }
@@ -117,7 +114,6 @@ pub extern "C" fn gtid_read_previous(body: &[u8], entries: &mut u64, used: &mut 
 // Reads the entry at a place of such a body: how many bytes its tag has and how many intervals there are, where the first of them
 // is, and where the entry ends. Its uuid is the 16 bytes at the place, and its tag ends eight bytes before the first interval. A header
 // that is refused needs no case of its own: a body over the limit is refused alike for both, and one without a header holds no entry.
-#[unsafe(no_mangle)]
 pub extern "C" fn gtid_read_entry(
     body: &[u8],
     at: usize,
@@ -142,7 +138,6 @@ pub extern "C" fn gtid_read_entry(
 }
 
 // Writes the entries that the body of a Previous-GTIDs event holds anew.
-#[unsafe(no_mangle)]
 pub extern "C" fn gtid_rewrite(body: &[u8], out: &mut [u8], len: &mut usize) -> u8
     ensures value { result ≡ (answer_of out.old (rewritten (previous body.now))).refusal }
     ensures len_after { len.new ≡ (answer_of out.old (rewritten (previous body.now))).len }
@@ -154,7 +149,6 @@ pub extern "C" fn gtid_rewrite(body: &[u8], out: &mut [u8], len: &mut usize) -> 
 }
 
 // Writes the text of an event: a type byte with a body behind it.
-#[unsafe(no_mangle)]
 pub extern "C" fn gtid_list(input: &[u8], out: &mut [u8], len: &mut usize) -> u8
     ensures value { result ≡ (answer_of out.old (bytes (listing input.now))).refusal }
     ensures len_after { len.new ≡ (answer_of out.old (bytes (listing input.now))).len }
@@ -202,7 +196,6 @@ fn numbers_of(answer: Offered) -> OfferNumbers
 
 // Offers an event to a set, and writes the set after it. The kind is 0 for an event that is refused, 1 for an id that is taken, 2 for one
 // that is already there and 3 for an event with no id.
-#[unsafe(no_mangle)]
 pub extern "C" fn gtid_offer(
     set: &[u8],
     event_type: u8,
@@ -224,7 +217,6 @@ pub extern "C" fn gtid_offer(
 }
 
 // The ids in either of two sets, written as a set. Both may be the same bytes.
-#[unsafe(no_mangle)]
 pub extern "C" fn gtid_either(first: &[u8], second: &[u8], out: &mut [u8], len: &mut usize) -> u8
     ensures value { result ≡ (combine_answers either first.now second.now out.old).refusal }
     ensures len_after { len.new ≡ (combine_answers either first.now second.now out.old).len }
@@ -236,7 +228,6 @@ pub extern "C" fn gtid_either(first: &[u8], second: &[u8], out: &mut [u8], len: 
 }
 
 // The ids in both sets.
-#[unsafe(no_mangle)]
 pub extern "C" fn gtid_both(first: &[u8], second: &[u8], out: &mut [u8], len: &mut usize) -> u8
     ensures value { result ≡ (combine_answers both first.now second.now out.old).refusal }
     ensures len_after { len.new ≡ (combine_answers both first.now second.now out.old).len }
@@ -248,7 +239,6 @@ pub extern "C" fn gtid_both(first: &[u8], second: &[u8], out: &mut [u8], len: &m
 }
 
 // The ids of the first set that are not in the second.
-#[unsafe(no_mangle)]
 pub extern "C" fn gtid_without(first: &[u8], second: &[u8], out: &mut [u8], len: &mut usize) -> u8
     ensures value { result ≡ (combine_answers without first.now second.now out.old).refusal }
     ensures len_after { len.new ≡ (combine_answers without first.now second.now out.old).len }
@@ -260,7 +250,6 @@ pub extern "C" fn gtid_without(first: &[u8], second: &[u8], out: &mut [u8], len:
 }
 
 // Whether all ids of the first set are in the second: 1 if they are, else 0.
-#[unsafe(no_mangle)]
 pub extern "C" fn gtid_within(first: &[u8], second: &[u8], within: &mut u8) -> u8
     ensures value { result ≡ (within_answers first.now second.now).refusal }
     ensures within_after { within.new ≡ bit (within_answers first.now second.now).all }
@@ -294,7 +283,6 @@ fn head_numbers(answer: Choice) -> HeadNumbers
 }
 
 // Which of two sets contains the other: 1 is the first, also where they are equal, 2 the second, and 0 none of them.
-#[unsafe(no_mangle)]
 pub extern "C" fn gtid_head(first: &[u8], second: &[u8], head: &mut u8) -> u8
     ensures value { result ≡ (head_numbers (which_answers first.now second.now)).refusal }
     ensures head_after { head.new ≡ (head_numbers (which_answers first.now second.now)).head }
@@ -306,7 +294,6 @@ pub extern "C" fn gtid_head(first: &[u8], second: &[u8], head: &mut u8) -> u8
 
 // Reads a GTID event of this type: its record is written, as 116 bytes, `used` is how many bytes of the body the event has, and `present`
 // tells which fields a tagged event was sent with: bit k is the field with the id k. It is 0 for an untagged event and with a refusal.
-#[unsafe(no_mangle)]
 pub extern "C" fn gtid_read_present(
     event_type: u8,
     body: &[u8],
@@ -338,7 +325,6 @@ pub extern "C" fn gtid_read_present(
 }
 
 // The same without the fields.
-#[unsafe(no_mangle)]
 pub extern "C" fn gtid_read(event_type: u8, body: &[u8], out: &mut [u8], used: &mut usize) -> u8
     ensures value { result ≡ (answer_of out.old (read_output (gtid event_type body.now))).refusal }
     ensures used_after { used.new ≡ read_used (gtid event_type body.now) (length out.old) }
@@ -349,7 +335,6 @@ pub extern "C" fn gtid_read(event_type: u8, body: &[u8], out: &mut [u8], used: &
 }
 
 // Writes the event of a record, which is 116 bytes.
-#[unsafe(no_mangle)]
 pub extern "C" fn gtid_write(fields: &[u8], out: &mut [u8], len: &mut usize) -> u8
     ensures value { result ≡ (answer_of out.old (write_output fields.now)).refusal }
     ensures len_after { len.new ≡ (answer_of out.old (write_output fields.now)).len }
@@ -365,7 +350,6 @@ pub extern "C" fn gtid_write(fields: &[u8], out: &mut [u8], len: &mut usize) -> 
 }
 
 // Adds a set to a report, which is 1,352 bytes: hands out how many entries and intervals it has, and the two words of how many ids.
-#[unsafe(no_mangle)]
 pub extern "C" fn gtid_report_add(
     report: &mut [u8],
     set: &[u8],
@@ -399,7 +383,6 @@ pub extern "C" fn gtid_report_add(
 }
 
 // The sums over the sets of a report.
-#[unsafe(no_mangle)]
 pub extern "C" fn gtid_report_sum(
     report: &[u8],
     entries: &mut u64,
@@ -429,7 +412,6 @@ pub extern "C" fn gtid_report_sum(
 }
 
 // Writes the text of a report.
-#[unsafe(no_mangle)]
 pub extern "C" fn gtid_report_write(report: &[u8], out: &mut [u8], len: &mut usize) -> u8
     ensures value { result ≡ (answer_of out.old (flat_text report.now)).refusal }
     ensures len_after { len.new ≡ (answer_of out.old (flat_text report.now)).len }
@@ -445,7 +427,6 @@ pub extern "C" fn gtid_report_write(report: &[u8], out: &mut [u8], len: &mut usi
 }
 
 // Begins to read a binlog file: the reader, which is 48 bytes, goes on from a set. `checksums` is 0 where events end without them.
-#[unsafe(no_mangle)]
 pub extern "C" fn gtid_binlog_begin(set: &[u8], checksums: u8, reader: &mut [u8]) -> u8
     ensures value { result ≡ flat_says reader.old (begin_answers set.now (ltb 0 checksums)) }
     ensures reader_after { reader.new ≡ flat_keeps reader.old (begin_answers set.now (ltb 0 checksums)) }
@@ -458,7 +439,6 @@ pub extern "C" fn gtid_binlog_begin(set: &[u8], checksums: u8, reader: &mut [u8]
 }
 
 // Takes bytes of a chunk up to the end of the next event that is offered or joined, or of the chunk.
-#[unsafe(no_mangle)]
 pub extern "C" fn gtid_binlog_step(
     reader: &mut [u8],
     chunk: &[u8],
@@ -481,7 +461,6 @@ pub extern "C" fn gtid_binlog_step(
 }
 
 // Names the end of the file.
-#[unsafe(no_mangle)]
 pub extern "C" fn gtid_binlog_end(reader: &mut [u8]) -> u8
     ensures value { result ≡ flat_says reader.old (end_answers_of (reader_in reader.old)) }
     ensures reader_after { reader.new ≡ flat_keeps reader.old (end_answers_of (reader_in reader.old)) }
