@@ -49,7 +49,7 @@ pub const REPORT_SIZE: usize = 8 + MAX_SETS * LINE_SIZE;
 pub const READER_SIZE: usize = 48;
 
 // Reads the variable-length unsigned integer at the front of some bytes: its value, and how many bytes it takes.
-pub extern "C" fn gtid_read_varlen_uint(s: &[u8], value: &mut u64, used: &mut usize) -> u8
+pub fn gtid_read_varlen_uint(s: &[u8], value: &mut u64, used: &mut usize) -> u8
     ensures value { result ≡ (uint_read (varlen_at s.now 0)).refusal }
     ensures value_after { value.new ≡ (uint_read (varlen_at s.now 0)).value }
     ensures used_after { used.new ≡ (uint_read (varlen_at s.now 0)).next }
@@ -61,7 +61,7 @@ pub extern "C" fn gtid_read_varlen_uint(s: &[u8], value: &mut u64, used: &mut us
 }
 
 // Whether bytes are a set (0, else 14), and how many entries and intervals it has.
-pub extern "C" fn gtid_check_set(set: &[u8], entries: &mut u64, intervals: &mut u64) -> u8
+pub fn gtid_check_set(set: &[u8], entries: &mut u64, intervals: &mut u64) -> u8
     ensures value { result ≡ (set_read (lent_set set.now)).refusal }
     ensures entries_after { entries.new ≡ (set_read (lent_set set.now)).entries }
     ensures intervals_after { intervals.new ≡ (set_read (lent_set set.now)).intervals }
@@ -73,13 +73,7 @@ pub extern "C" fn gtid_check_set(set: &[u8], entries: &mut u64, intervals: &mut 
 }
 
 // Whether a set has the id of a uuid, a tag (none: no bytes) and a gno: 1 if it is there, else 0.
-pub extern "C" fn gtid_contains(
-    set: &[u8],
-    uuid: &[u8],
-    tag: &[u8],
-    gno: u64,
-    present: &mut u8,
-) -> u8
+pub fn gtid_contains(set: &[u8], uuid: &[u8], tag: &[u8], gno: u64, present: &mut u8) -> u8
     ensures value { result ≡ (contained (lent_set set.now) uuid.now tag.now gno).refusal }
     ensures present_after { present.new ≡ bit (contained (lent_set set.now) uuid.now tag.now gno).present }
 {
@@ -89,7 +83,7 @@ pub extern "C" fn gtid_contains(
 }
 
 // Takes in the body of a Previous-GTIDs event: the set of all its ids is written, in set form.
-pub extern "C" fn gtid_take_in(body: &[u8], out: &mut [u8], len: &mut usize) -> u8
+pub fn gtid_take_in(body: &[u8], out: &mut [u8], len: &mut usize) -> u8
     ensures value { result ≡ (take_in_answers body.now out.old).refusal }
     ensures len_after { len.new ≡ (take_in_answers body.now out.old).len }
     ensures out_after { out.new ≡ take_in_leaves body.now out.old }
@@ -100,7 +94,7 @@ pub extern "C" fn gtid_take_in(body: &[u8], out: &mut [u8], len: &mut usize) -> 
 }
 
 // Reads the body of a Previous-GTIDs event: how many entries it has, and how many bytes its header and they take.
-pub extern "C" fn gtid_read_previous(body: &[u8], entries: &mut u64, used: &mut usize) -> u8
+pub fn gtid_read_previous(body: &[u8], entries: &mut u64, used: &mut usize) -> u8
     ensures value { result ≡ (previous_read (previous body.now)).refusal }
     ensures entries_after { entries.new ≡ (previous_read (previous body.now)).entries }
     ensures used_after { used.new ≡ (previous_read (previous body.now)).used }
@@ -114,7 +108,7 @@ pub extern "C" fn gtid_read_previous(body: &[u8], entries: &mut u64, used: &mut 
 // Reads the entry at a place of such a body: how many bytes its tag has and how many intervals there are, where the first of them
 // is, and where the entry ends. Its uuid is the 16 bytes at the place, and its tag ends eight bytes before the first interval. A header
 // that is refused needs no case of its own: a body over the limit is refused alike for both, and one without a header holds no entry.
-pub extern "C" fn gtid_read_entry(
+pub fn gtid_read_entry(
     body: &[u8],
     at: usize,
     tag_len: &mut usize,
@@ -138,7 +132,7 @@ pub extern "C" fn gtid_read_entry(
 }
 
 // Writes the entries that the body of a Previous-GTIDs event holds anew.
-pub extern "C" fn gtid_rewrite(body: &[u8], out: &mut [u8], len: &mut usize) -> u8
+pub fn gtid_rewrite(body: &[u8], out: &mut [u8], len: &mut usize) -> u8
     ensures value { result ≡ (answer_of out.old (rewritten (previous body.now))).refusal }
     ensures len_after { len.new ≡ (answer_of out.old (rewritten (previous body.now))).len }
     ensures out_after { out.new ≡ output_of out.old (rewritten (previous body.now)) }
@@ -149,7 +143,7 @@ pub extern "C" fn gtid_rewrite(body: &[u8], out: &mut [u8], len: &mut usize) -> 
 }
 
 // Writes the text of an event: a type byte with a body behind it.
-pub extern "C" fn gtid_list(input: &[u8], out: &mut [u8], len: &mut usize) -> u8
+pub fn gtid_list(input: &[u8], out: &mut [u8], len: &mut usize) -> u8
     ensures value { result ≡ (answer_of out.old (bytes (listing input.now))).refusal }
     ensures len_after { len.new ≡ (answer_of out.old (bytes (listing input.now))).len }
     ensures out_after { out.new ≡ output_of out.old (bytes (listing input.now)) }
@@ -196,7 +190,7 @@ fn numbers_of(answer: Offered) -> OfferNumbers
 
 // Offers an event to a set, and writes the set after it. The kind is 0 for an event that is refused, 1 for an id that is taken, 2 for one
 // that is already there and 3 for an event with no id.
-pub extern "C" fn gtid_offer(
+pub fn gtid_offer(
     set: &[u8],
     event_type: u8,
     body: &[u8],
@@ -217,7 +211,7 @@ pub extern "C" fn gtid_offer(
 }
 
 // The ids in either of two sets, written as a set. Both may be the same bytes.
-pub extern "C" fn gtid_either(first: &[u8], second: &[u8], out: &mut [u8], len: &mut usize) -> u8
+pub fn gtid_either(first: &[u8], second: &[u8], out: &mut [u8], len: &mut usize) -> u8
     ensures value { result ≡ (combine_answers either first.now second.now out.old).refusal }
     ensures len_after { len.new ≡ (combine_answers either first.now second.now out.old).len }
     ensures out_after { out.new ≡ combine_leaves either first.now second.now out.old }
@@ -228,7 +222,7 @@ pub extern "C" fn gtid_either(first: &[u8], second: &[u8], out: &mut [u8], len: 
 }
 
 // The ids in both sets.
-pub extern "C" fn gtid_both(first: &[u8], second: &[u8], out: &mut [u8], len: &mut usize) -> u8
+pub fn gtid_both(first: &[u8], second: &[u8], out: &mut [u8], len: &mut usize) -> u8
     ensures value { result ≡ (combine_answers both first.now second.now out.old).refusal }
     ensures len_after { len.new ≡ (combine_answers both first.now second.now out.old).len }
     ensures out_after { out.new ≡ combine_leaves both first.now second.now out.old }
@@ -239,7 +233,7 @@ pub extern "C" fn gtid_both(first: &[u8], second: &[u8], out: &mut [u8], len: &m
 }
 
 // The ids of the first set that are not in the second.
-pub extern "C" fn gtid_without(first: &[u8], second: &[u8], out: &mut [u8], len: &mut usize) -> u8
+pub fn gtid_without(first: &[u8], second: &[u8], out: &mut [u8], len: &mut usize) -> u8
     ensures value { result ≡ (combine_answers without first.now second.now out.old).refusal }
     ensures len_after { len.new ≡ (combine_answers without first.now second.now out.old).len }
     ensures out_after { out.new ≡ combine_leaves without first.now second.now out.old }
@@ -250,7 +244,7 @@ pub extern "C" fn gtid_without(first: &[u8], second: &[u8], out: &mut [u8], len:
 }
 
 // Whether all ids of the first set are in the second: 1 if they are, else 0.
-pub extern "C" fn gtid_within(first: &[u8], second: &[u8], within: &mut u8) -> u8
+pub fn gtid_within(first: &[u8], second: &[u8], within: &mut u8) -> u8
     ensures value { result ≡ (within_answers first.now second.now).refusal }
     ensures within_after { within.new ≡ bit (within_answers first.now second.now).all }
 {
@@ -283,7 +277,7 @@ fn head_numbers(answer: Choice) -> HeadNumbers
 }
 
 // Which of two sets contains the other: 1 is the first, also where they are equal, 2 the second, and 0 none of them.
-pub extern "C" fn gtid_head(first: &[u8], second: &[u8], head: &mut u8) -> u8
+pub fn gtid_head(first: &[u8], second: &[u8], head: &mut u8) -> u8
     ensures value { result ≡ (head_numbers (which_answers first.now second.now)).refusal }
     ensures head_after { head.new ≡ (head_numbers (which_answers first.now second.now)).head }
 {
@@ -294,7 +288,7 @@ pub extern "C" fn gtid_head(first: &[u8], second: &[u8], head: &mut u8) -> u8
 
 // Reads a GTID event of this type: its record is written, as 116 bytes, `used` is how many bytes of the body the event has, and `present`
 // tells which fields a tagged event was sent with: bit k is the field with the id k. It is 0 for an untagged event and with a refusal.
-pub extern "C" fn gtid_read_present(
+pub fn gtid_read_present(
     event_type: u8,
     body: &[u8],
     out: &mut [u8],
@@ -325,7 +319,7 @@ pub extern "C" fn gtid_read_present(
 }
 
 // The same without the fields.
-pub extern "C" fn gtid_read(event_type: u8, body: &[u8], out: &mut [u8], used: &mut usize) -> u8
+pub fn gtid_read(event_type: u8, body: &[u8], out: &mut [u8], used: &mut usize) -> u8
     ensures value { result ≡ (answer_of out.old (read_output (gtid event_type body.now))).refusal }
     ensures used_after { used.new ≡ read_used (gtid event_type body.now) (length out.old) }
     ensures out_after { out.new ≡ output_of out.old (read_output (gtid event_type body.now)) }
@@ -335,7 +329,7 @@ pub extern "C" fn gtid_read(event_type: u8, body: &[u8], out: &mut [u8], used: &
 }
 
 // Writes the event of a record, which is 116 bytes.
-pub extern "C" fn gtid_write(fields: &[u8], out: &mut [u8], len: &mut usize) -> u8
+pub fn gtid_write(fields: &[u8], out: &mut [u8], len: &mut usize) -> u8
     ensures value { result ≡ (answer_of out.old (write_output fields.now)).refusal }
     ensures len_after { len.new ≡ (answer_of out.old (write_output fields.now)).len }
     ensures out_after { out.new ≡ output_of out.old (write_output fields.now) }
@@ -350,7 +344,7 @@ pub extern "C" fn gtid_write(fields: &[u8], out: &mut [u8], len: &mut usize) -> 
 }
 
 // Adds a set to a report, which is 1,352 bytes: hands out how many entries and intervals it has, and the two words of how many ids.
-pub extern "C" fn gtid_report_add(
+pub fn gtid_report_add(
     report: &mut [u8],
     set: &[u8],
     entries: &mut u64,
@@ -383,7 +377,7 @@ pub extern "C" fn gtid_report_add(
 }
 
 // The sums over the sets of a report.
-pub extern "C" fn gtid_report_sum(
+pub fn gtid_report_sum(
     report: &[u8],
     entries: &mut u64,
     intervals: &mut u64,
@@ -412,7 +406,7 @@ pub extern "C" fn gtid_report_sum(
 }
 
 // Writes the text of a report.
-pub extern "C" fn gtid_report_write(report: &[u8], out: &mut [u8], len: &mut usize) -> u8
+pub fn gtid_report_write(report: &[u8], out: &mut [u8], len: &mut usize) -> u8
     ensures value { result ≡ (answer_of out.old (flat_text report.now)).refusal }
     ensures len_after { len.new ≡ (answer_of out.old (flat_text report.now)).len }
     ensures out_after { out.new ≡ output_of out.old (flat_text report.now) }
@@ -427,7 +421,7 @@ pub extern "C" fn gtid_report_write(report: &[u8], out: &mut [u8], len: &mut usi
 }
 
 // Begins to read a binlog file: the reader, which is 48 bytes, goes on from a set. `checksums` is 0 where events end without them.
-pub extern "C" fn gtid_binlog_begin(set: &[u8], checksums: u8, reader: &mut [u8]) -> u8
+pub fn gtid_binlog_begin(set: &[u8], checksums: u8, reader: &mut [u8]) -> u8
     ensures value { result ≡ flat_says reader.old (begin_answers set.now (ltb 0 checksums)) }
     ensures reader_after { reader.new ≡ flat_keeps reader.old (begin_answers set.now (ltb 0 checksums)) }
 {
@@ -439,7 +433,7 @@ pub extern "C" fn gtid_binlog_begin(set: &[u8], checksums: u8, reader: &mut [u8]
 }
 
 // Takes bytes of a chunk up to the end of the next event that is offered or joined, or of the chunk.
-pub extern "C" fn gtid_binlog_step(
+pub fn gtid_binlog_step(
     reader: &mut [u8],
     chunk: &[u8],
     work: &mut [u8],
@@ -461,7 +455,7 @@ pub extern "C" fn gtid_binlog_step(
 }
 
 // Names the end of the file.
-pub extern "C" fn gtid_binlog_end(reader: &mut [u8]) -> u8
+pub fn gtid_binlog_end(reader: &mut [u8]) -> u8
     ensures value { result ≡ flat_says reader.old (end_answers_of (reader_in reader.old)) }
     ensures reader_after { reader.new ≡ flat_keeps reader.old (end_answers_of (reader_in reader.old)) }
 {
