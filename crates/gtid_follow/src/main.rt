@@ -3,6 +3,8 @@
 // more input; a line for the refusal that stops the reader; and at last the set. On descriptor 3 it writes the refusal's number, or 0, and
 // the set's bytes, unless standard output could not be written. That each line is put whole and says what the reader answered is proved
 // (`line_of`), that a chunk is used up unless the walk stops (`through`), and that there is room for the text of every set (`text_of`).
+#![tactic(auto)]
+
 mod lines;
 mod progress;
 mod start;
@@ -225,7 +227,7 @@ fn text_of(set: &[u8], text: &mut [u8]) -> usize
     requires { longest_text ≤ length text.old }
     ensures { Listed set.now result text.new }
 {
-    let wrote = list_set(b"previous_gtids", set, text);
+    let wrote = list_set(b"previous-gtids", set, text);
     wrote.len
 }
 

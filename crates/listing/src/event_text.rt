@@ -90,7 +90,7 @@ fn list_previous(body: &[u8], out: &mut [u8]) -> Wrote
         return write_refused(refusal, out);
     }
     let len = taken.len;
-    list_set(b"previous_gtids", &set[..len], out)
+    list_set(b"previous-gtids", &set[..len], out)
 }
 
 // Writes the text of an event; what is refused is said in the text. The call itself is refused only where the output is too short (13).

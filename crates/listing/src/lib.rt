@@ -1,6 +1,8 @@
 // Events and sets as text, for people to read, written into a lent output. `list` gives the text of an event and `list_input` that of the
 // listing program's whole input, a type byte and a body: both say in their text what is refused. `list_set` lists a set. What they write
 // is said by `event_text`, `listing` and `set_text` of specs/; nothing longer than 129,322 bytes (`longest_text`) is ever listed.
+#![tactic(auto)]
+
 use packets::MAX_TAG;
 use set_check::{MAX_ENTRIES, MAX_INTERVALS};
 use text::keys::UUID_TEXT;

@@ -1,5 +1,7 @@
 // Call 51 of the test program: a binlog file, read in chunks. A has the file, B the steps, four bytes each, and C the set that the reader
 // goes on from. The line is the library's; it ends in ` abi` where the archive's is another.
+#![tactic(auto)]
+
 mod asked;
 
 use crate::asked::Asked;

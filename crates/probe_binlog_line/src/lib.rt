@@ -1,4 +1,6 @@
 // The line of call 51 of the test program, from what the reader of a binlog file says: `ok ANSWERS STATES LEN HEX`.
+#![tactic(auto)]
+
 use misc::refusal::NO_ROOM;
 use probe_lines::answers;
 use probe_lines::line::{push_byte, push_decimal, push_text, push_text_if};

@@ -1,4 +1,6 @@
 // Calls 1 to 8 of the test program: the integers of crate misc.
+#![tactic(auto)]
+
 use probe_lines::request::Request;
 use probe_lines::{answers, checks, twos};
 

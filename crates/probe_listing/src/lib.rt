@@ -1,4 +1,6 @@
 // Call 64 of the test program: the listing.
+#![tactic(auto)]
+
 use listing::LONGEST_TEXT;
 use listing::event_text::list_input;
 use probe_lines::line::push_text;

@@ -9,7 +9,6 @@ use lib.ListN.{length, take, set, length-set, length-replicate, length-append, l
 use lib.Seq.{take-nil, take-suc, take-set-le, get_or-set_same}
 use Rattle.misc.proofs.ParseLaws.{split}
 use Rattle.gtid_sets.specs.Lent.{Lent, form, unfit, lent_set}
-use Rattle.gtid_sets.specs.Limits.{intervals}
 use Rattle.gtid_sets.specs.Total.{total}
 use Rattle.gtid_sets.proofs.LimitLaws.{max_entries-is, max_intervals-is, limits-says}
 use Rattle.gtid_sets.proofs.LentLaws.{lent_is}

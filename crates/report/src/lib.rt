@@ -1,6 +1,8 @@
 // Month's end in exact numbers: a report over up to 64 saved sets, given one after another. It is built step by step, by value, as records
 // are: `Report::new`, then `add` for each set, which answers that set's line, then `write`, which writes the text: a line for each set and,
 // last, the sums. `sum` gives the sums as numbers. What they promise is said by `added`, `sum_of` and `report_text` of specs/.
+#![tactic(auto)]
+
 ghost use Rattle.std.specs.Prelude.{◌≡◌, min};
 ghost use Rattle.misc.specs.Output.{bytes, output_of, answer_of};
 ghost use Rattle.gtid_sets.specs.Lent.{lent_set};

@@ -1,0 +1,10 @@
+-- `report::Report::add` meets its contract.
+use native.Mathlib.Omega.{arith}
+use Rattle.report.proofs.LineLaws.{one_more, no_more}
+use Rattle.report.proofs.Report.add.Goals as goal
+
+pub returns-then-at-ge-MAX_SETS : goal.returns-then-at-ge-MAX_SETS
+returns-then-at-ge-MAX_SETS c = no_more c.args.self c.args.set.now _ (omega arith) c.refused_line.ensures
+
+pub returns : goal.returns
+returns c = one_more c.args.self c.args.set.now _ (omega arith) c.line_of-line.ensures
