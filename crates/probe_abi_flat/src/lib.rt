@@ -1,4 +1,6 @@
 // The archive's functions over what crosses as bytes, GTID records and reports, beside the library's.
+#![tactic(auto)]
+
 mod records;
 mod reports;
 
