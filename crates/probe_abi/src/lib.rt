@@ -1,4 +1,6 @@
 // The archive's functions over integers, bodies, sets and readers, beside the library's.
+#![tactic(auto)]
+
 mod bodies;
 mod readers;
 mod sets;

@@ -148,7 +148,8 @@ module _ (bs : List ℕ) (w : Bool) (at : ℕ) where
       go true = cut bs (place_at true bs at) (omega arith)
       go false = cut bs (place_at false bs at) (omega arith)
 
-  pub place-tagged : (p : EntryPlace) (b : ℕ) → w ≡ true → b ≡ get_or bs (at + 16) 0 → p ≡ or_nowhere bs (place_from bs (at + 17) (b / 2)) → p ≡ place_in w bs at
+  pub place-tagged : (p : EntryPlace) (b : ℕ) → w ≡ true → b ≡ get_or bs (at + 16) 0 → p ≡ or_nowhere bs (place_from bs (at + 17) (b / 2))
+      → p ≡ place_in w bs at
   place-tagged p b e d h = h ∙ rw (e, d)
 
   pub place-plain : (p : EntryPlace) → w ≡ false → p ≡ or_nowhere bs (place_from bs (at + 16) 0) → p ≡ place_in w bs at
@@ -157,7 +158,8 @@ module _ (bs : List ℕ) (w : Bool) (at : ℕ) where
 -- ---- entries one after another
 
 -- an entry without a tag before others without
-pub untagged-parts : (k : Key) (is : List Interval) (s : List Entry) → any_tag (entry k is ∷ s) ≡ false → (any_tag (entry k is ∷ []) ≡ false) × (any_tag s ≡ false)
+pub untagged-parts : (k : Key) (is : List Interval) (s : List Entry) → any_tag (entry k is ∷ s) ≡ false
+    → (any_tag (entry k is ∷ []) ≡ false) × (any_tag s ≡ false)
 unfolding any_tag
 untagged-parts k is s h =
     let (a, b) = or-false-parts (ltb 0 (length (tag_of k))) (any_tag s) h in

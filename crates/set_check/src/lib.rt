@@ -1,6 +1,8 @@
 // The check of a lent set: whether its bytes are a Previous-GTIDs body in set form and within the set limits, and if so, how many
 // entries and intervals it has. It promises `checked_of (lent_set ..)`. Beside it stands the one walk over a
 // set's entries, with a cursor. `limits` judges the counts of a set that is to be written.
+#![tactic(auto)]
+
 use misc::INTERVAL_LEN;
 use packets::MAX_TAG;
 use previous_gtids_event::TAGGED_HEAD;

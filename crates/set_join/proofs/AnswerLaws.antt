@@ -6,7 +6,6 @@ use mathlib.Core.List.{List, ◌++◌}
 use native.Mathlib.Omega.{arith}
 use borrow.Author.Tests.{eq-eqb, ne_eqb}
 use lib.ListN.{length, take}
-use Rattle.misc.specs.Refusal.{refusal}
 use Rattle.misc.specs.Output.{bytes, output_of, answer_of, Placed, WhereFits}
 use Rattle.misc.specs.declared.Wrote.{Wrote}
 use Rattle.misc.proofs.ParseLaws.{no_zero}
@@ -17,7 +16,7 @@ use Rattle.previous_gtids_event.specs.Entry.{Entry}
 use Rattle.packets.specs.Tag.{none_or_tag}
 use Rattle.previous_gtids_event.specs.Rewrite.{body_bytes}
 use Rattle.gtid_sets.specs.Set.{has, join, add}
-use Rattle.gtid_sets.specs.Limits.{Judged, fine, breaks, judged_as, judged, limits, intervals, over, crowds}
+use Rattle.gtid_sets.specs.Limits.{Judged, fine, breaks, judged_as, judged, limits, over, crowds}
 use Rattle.gtid_sets.specs.Run.{names}
 use Rattle.gtid_sets.specs.Lent.{form, unfit, lent_set}
 use Rattle.gtid_sets.proofs.LimitLaws.{limits-judged}
@@ -100,7 +99,8 @@ module _ (s : List Entry) (x : ℕ) (told : x ≡ judged_as (limits s)) (out : L
 
 module _ (s : List Entry) (k : Key) (n : ℕ) (out : List ℕ) where
   pub id-unlawful : is_gno n ≡ false
-      → (record { already = false; wrote = record { refusal = 15; len = 0 } } ≡ joined_id (form s) k n out) × (out ≡ output_of out (output (form s) (names k n)))
+      → (record { already = false; wrote = record { refusal = 15; len = 0 } } ≡ joined_id (form s) k n out)
+      × (out ≡ output_of out (output (form s) (names k n)))
   unfolding output_of answer_of
   id-unlawful h = rw h (refl, refl)
 

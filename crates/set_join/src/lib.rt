@@ -1,6 +1,8 @@
 // Finding a key in a set, and joining to it: `contains` tells whether an id is a member, `join_id` gives a set an id, `join_in` all ids of
 // a Previous-GTIDs body, and `take_in` begins a set with such a body. No event is read here. What they answer is said by `contained`,
 // `joined_id`, `take_in_answers` of specs/Answers.antt and `join_answers` of specs/JoinIn.antt, on `lent_set` of gtid_sets.
+#![tactic(auto)]
+
 ghost use Rattle.std.specs.Prelude.{◌≡◌};
 ghost use Rattle.gtid_sets.specs.Lent.{lent_set};
 ghost use Rattle.set_join.specs.Answers.{contained};

@@ -1,0 +1,8 @@
+-- `set_join::put::put_head_of` meets its contract.
+use Rattle.misc.proofs.OutputLaws.{put-placed}
+use Rattle.set_join.proofs.PutLaws.{put-copied}
+use Rattle.set_join.proofs.put.put_head_of.Goals as goal
+
+pub returns : goal.returns
+returns c = put-copied c.args.uuid.now _ c.args.tags c.args.tag.now c.args.count c.requires c.uuid_bytes-own.ensures
+    (put-placed (c.put_head.ensures.value, c.put_head.ensures.out_after))
