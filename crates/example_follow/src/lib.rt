@@ -1,4 +1,6 @@
 // What a follower does at a GTID event. README.md shows this file.
+#![tactic(auto)]
+
 use resume_set::{Offered, offer};
 
 #[derive(Clone, Copy)]

@@ -278,5 +278,7 @@ fn main(rt: HostRuntime) {
     let mut set = [0u8; LONGEST_SET];
     let mut spare = [0u8; LONGEST_SET];
     let mut text = [0u8; LONGEST_TEXT];
-    follow(&mut input, &mut chunk, &mut work, &mut set, &mut spare, &mut text);
+    follow(
+        &mut input, &mut chunk, &mut work, &mut set, &mut spare, &mut text,
+    );
 }

@@ -2,6 +2,8 @@
 //
 // A request is a head of 24 bytes and three parts, A, B and C (frame.rt). The calls of a library crate stand in a crate of their own
 // (probe_*), whose `answer` has an arm for each; `probe_calls` asks one of them.
+#![tactic(auto)]
+
 mod frame;
 
 use crate::frame::Head;

@@ -1,4 +1,6 @@
 // The calls of the test program: each is asked of the crate that has it, and then of the archive.
+#![tactic(auto)]
+
 mod archive;
 
 use probe_lines::request::Request;

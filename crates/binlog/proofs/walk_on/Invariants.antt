@@ -9,9 +9,9 @@ use Prim.Native.Nat.{◌≤◌, ◌-◌}
 use Rattle.binlog.proofs.walk_on.Given as goal
 
 abbrev pub invariant-loop-used : goal.invariant-loop-used
-invariant-loop-used l =    (l.used ≤ length l.chunk) × (length l.work ≡ length l.initial.work) × (sound l.here (length l.work) ≡ true)
+invariant-loop-used l = (l.used ≤ length l.chunk) × (length l.work ≡ length l.initial.work) × (sound l.here (length l.work) ≡ true)
     × (walked (trailer l.checksums) (place_in l.initial.here l.initial.work) 0 l.chunk
-        ≡ walked (trailer l.checksums) (place_in l.here l.work) l.used (drop l.used l.chunk))
+    ≡ walked (trailer l.checksums) (place_in l.here l.work) l.used (drop l.used l.chunk))
 
 abbrev pub decreases-loop-used : goal.decreases-loop-used
 decreases-loop-used l = length l.chunk - l.used

@@ -25,8 +25,8 @@ pub returns-in_default : goal.returns-in_default
 returns-in_default c = let a = c.args in
     let out : 33 ≤ a.event_type → a.event_type < 35 → ⊥ =
     elim c.in_default.branch [
-      in_default-via-then-event_type-lt33 w ↦ (λ l h. omega arith)
-    | in_default-via-else-event_type-lt33+else-event_type-lt35 w ↦ (λ l h. omega arith)
+      | in_default-via-then-event_type-lt33 w ↦ (λ l h. omega arith)
+      | in_default-via-else-event_type-lt33+else-event_type-lt35 w ↦ (λ l h. omega arith)
     ] in
     c.refused-in_default.ensures
     ∙ ap gtid_read (sym (seen_other a.event_type a.body.now c.if-body-gt-MAX_BODY.false out (λ e. omega arith)))

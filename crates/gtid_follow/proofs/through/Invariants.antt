@@ -11,7 +11,7 @@ use Rattle.gtid_follow.proofs.StepLaws.{turns_left, fewer-turns, fits-as}
 use Rattle.gtid_follow.proofs.through.Given as goal
 
 abbrev pub invariant-loop-here : goal.invariant-loop-here
-invariant-loop-here l =    ((length l.work ≡ length l.initial.work) × ((length l.set ≡ length l.initial.set) × ((length l.spare ≡ length l.initial.spare) × (length l.text ≡ length l.initial.text))))
+invariant-loop-here l = ((length l.work ≡ length l.initial.work) × ((length l.set ≡ length l.initial.set) × ((length l.spare ≡ length l.initial.spare) × (length l.text ≡ length l.initial.text))))
     × (Fits (length l.initial.set) (length l.initial.text) l.here × (l.here.used ≤ length l.chunk))
 
 abbrev pub decreases-loop-here : goal.decreases-loop-here

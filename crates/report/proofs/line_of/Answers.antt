@@ -17,9 +17,9 @@ returns-then-refusal-ne0 c = c.refused_line.ensures ∙ line_refused c.args.set.
 
 pub ids_in-ids-requires : goal.ids_in-ids-requires
 ids_in-ids-requires c = as_cursor_is_left_le_max_entries (rw c.entries_of.ensures (
-      line_set c.args.set.now c.check-checked.result c.check-checked.ensures (omega arith),
-      few-entries c.args.set.now c.check-checked.result c.check-checked.ensures (omega arith),
-    ))
+  line_set c.args.set.now c.check-checked.result c.check-checked.ensures (omega arith),
+  few-entries c.args.set.now c.check-checked.result c.check-checked.ensures (omega arith),
+))
 
 pub overflow_cast-result : goal.overflow_cast-result
 overflow_cast-result c =

@@ -26,8 +26,8 @@ returns c =
     let opening : opening_at s 0 ≡ parsed (opened_in s) 25 = opening-here s c.if-s-lt-OPENING_LENGTH.false in
     let other : untagged s ≡ parsed (opened_in s) 25 =
     elim c.if-s-gt-OPENING_LENGTH.branch [
-      then-s-gt-OPENING_LENGTH+else-s-eq-LOGICAL_TIMESTAMP_TYPECODE w ↦
-        untagged-other s opening w.if-s-gt-OPENING_LENGTH.true w.if-s-eq-LOGICAL_TIMESTAMP_TYPECODE.false
-    | else-s-gt-OPENING_LENGTH w ↦ untagged-end s opening w.if-s-gt-OPENING_LENGTH.false
+      | then-s-gt-OPENING_LENGTH+else-s-eq-LOGICAL_TIMESTAMP_TYPECODE w ↦
+          untagged-other s opening w.if-s-gt-OPENING_LENGTH.true w.if-s-eq-LOGICAL_TIMESTAMP_TYPECODE.false
+      | else-s-gt-OPENING_LENGTH w ↦ untagged-end s opening w.if-s-gt-OPENING_LENGTH.false
     ] in
     rw (c.read_opening.ensures, other)

@@ -21,10 +21,10 @@ returns-then-varlen_uint_size-n c = as_value_value_2 (let w = c.loop-n in
 
 pub loop-n-preserved : goal.loop-n-preserved
 loop-n-preserved c = let w = c.loop-n in (
-      omega arith,
-      omega arith,
-      size-passed w.n _ _ (omega arith) c.loop-n-test.true (λ e. c.if-varlen_uint_size-n.false (c.varlen_uint_size.ensures.0 ∙ e)) ∙ w.invariant.2,
-    )
+  omega arith,
+  omega arith,
+  size-passed w.n _ _ (omega arith) c.loop-n-test.true (λ e. c.if-varlen_uint_size-n.false (c.varlen_uint_size.ensures.0 ∙ e)) ∙ w.invariant.2,
+)
 
 pub returns : goal.returns
 returns c = as_value_value_2 (let w = c.loop-n in

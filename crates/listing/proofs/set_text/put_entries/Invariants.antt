@@ -7,7 +7,7 @@ use Rattle.listing.specs.SetText.{entries_text}
 use Rattle.listing.proofs.set_text.put_entries.Given as goal
 
 abbrev pub invariant-loop-rest : goal.invariant-loop-rest
-invariant-loop-rest l =    (length l.out ≡ length l.initial.out) × CursorIs l.set l.rest
+invariant-loop-rest l = (length l.out ≡ length l.initial.out) × CursorIs l.set l.rest
     × Putting (entries_text (entries_left l.set l.initial.rest)) l.initial.out l.at (entries_text (entries_left l.set l.rest)) l.out l.end
 
 abbrev pub decreases-loop-rest : goal.decreases-loop-rest

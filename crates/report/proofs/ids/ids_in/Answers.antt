@@ -12,9 +12,9 @@ loop-left-init c = totalling-none c.args.set.now c.args.from c.requires.cursor_i
 
 pub size_at-requires : goal.size_at-requires
 size_at-requires c = as_count_in_bounds_first_value (let l = c.loop-left in (
-      next-inside _ _ _ _ l.invariant (omega arith) _ c.entry_here-place.ensures,
-      next-gapped _ _ _ _ l.invariant (omega arith) _ c.entry_here-place.ensures,
-    ))
+  next-inside _ _ _ _ l.invariant (omega arith) _ c.entry_here-place.ensures,
+  next-gapped _ _ _ _ l.invariant (omega arith) _ c.entry_here-place.ensures,
+))
 
 pub plus-ids-requires : goal.plus-ids-requires
 plus-ids-requires c = omega (arith, totalling-high _ _ _ _ c.loop-left.invariant)

@@ -16,12 +16,11 @@ overflow_add-len c = let l = c.loop-i in
     record { fits = omega (arith, l.invariant.1.most, l.invariant.0, c.requires, c.line_len-len.ensures.1) }
 
 pub loop-i-preserved : goal.loop-i-preserved
-loop-i-preserved c = let l = c.loop-i in
-    (
-      omega arith,
-      measured-turn c.args.lines c.args.count _ l.i l.invariant.1 (omega arith) (omega (arith, c.requires)) _ c.line_len-len.ensures.0
-          c.line_len-len.ensures.1,
-    )
+loop-i-preserved c = let l = c.loop-i in (
+  omega arith,
+  measured-turn c.args.lines c.args.count _ l.i l.invariant.1 (omega arith) (omega (arith, c.requires)) _ c.line_len-len.ensures.0
+      c.line_len-len.ensures.1,
+)
 
 pub returns : goal.returns
 returns c = let l = c.loop-i in

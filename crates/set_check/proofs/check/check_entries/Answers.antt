@@ -14,13 +14,12 @@ use Rattle.set_check.proofs.PlaceLaws.{says-yes, says-no}
 use Rattle.set_check.proofs.check.check_entries.Goals as goal
 
 pub loop-rest-init : goal.loop-rest-init
-loop-rest-init c =
-    (
-      c.requires,
-      omega arith,
-      record { there = omega arith; tag_there = omega arith; shape = inr (refl, refl) },
-      walked_none c.args.set.now c.args.from,
-    )
+loop-rest-init c = (
+  c.requires,
+  omega arith,
+  record { there = omega arith; tag_there = omega arith; shape = inr (refl, refl) },
+  walked_none c.args.set.now c.args.from,
+)
 
 pub returns-then-not-ok : goal.returns-then-not-ok
 returns-then-not-ok c =

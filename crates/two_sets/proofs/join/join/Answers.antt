@@ -14,12 +14,12 @@ pub returns-then-unfit-ne-NOT_A_SET : goal.returns-then-unfit-ne-NOT_A_SET
 returns-then-unfit-ne-NOT_A_SET c = both (let a = c.args in
     let read = c.if-refusal-ne0.false in
     join-either a.set.now a.body.now a.out.now c.read-said.result c.read-said.ensures read
-        c.either-wrote.result _ c.either-wrote.ensures.value c.either-wrote.ensures.out_after c.if-unfit-ne-NOT_A_SET.true)
+    c.either-wrote.result _ c.either-wrote.ensures.value c.either-wrote.ensures.out_after c.if-unfit-ne-NOT_A_SET.true)
 
 pub returns : goal.returns
 returns c = both (let a = c.args in
     let read = c.if-refusal-ne0.false in
     let unfit = c.if-unfit-ne-NOT_A_SET.false in
     join-otherwise a.set.now a.body.now a.out.now c.read-said.result c.read-said.ensures read
-        c.either-wrote.result _ c.either-wrote.ensures.value c.either-wrote.ensures.out_after unfit _ _
+    c.either-wrote.result _ c.either-wrote.ensures.value c.either-wrote.ensures.out_after unfit _ _
     c.join_in-2.ensures.value c.join_in-2.ensures.out_after)

@@ -7,10 +7,10 @@ use Rattle.two_sets.proofs.marks.put_swept.Goals as goal
 
 pub loop-next-init : goal.loop-next-init
 loop-next-init c = (
-      refl,
-      putting-none (said_by c.args.operation) c.args.first.now c.args.second.now c.args.out.now c.args.at
-          c.args.sides _ c.next_mark-next.ensures,
-    )
+  refl,
+  putting-none (said_by c.args.operation) c.args.first.now c.args.second.now c.args.out.now c.args.at
+      c.args.sides _ c.next_mark-next.ensures,
+)
 
 pub overflow_mul-count : goal.overflow_mul-count
 overflow_mul-count c = record { fits = omega (arith, c.loop-next.invariant.1.few, c.next_mark-next.ensures.less, c.requires.sides_bound) }

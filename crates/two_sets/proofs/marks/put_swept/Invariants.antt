@@ -9,7 +9,7 @@ abbrev pub invariant-loop-next : goal.invariant-loop-next
 invariant-loop-next l =
     (length l.out ≡ length l.initial.out)
     × Putting (said_by l.operation) l.first l.second (told (said_by l.operation) l.first l.second l.initial.next)
-        (weight l.initial.next) l.initial.out l.at l.next l.out l.count
+    (weight l.initial.next) l.initial.out l.at l.next l.out l.count
 
 abbrev pub decreases-loop-next : goal.decreases-loop-next
 decreases-loop-next l = weight l.next

@@ -21,17 +21,17 @@ of_second-requires c = (both-move c.args.first.now c.args.second.now c.args.from
 pub returns-in-Before : goal.returns-in-Before
 returns-in-Before c =
     let is = tags-say c.args.first.now c.args.second.now c.args.from c.requires.cursors_are _ _
-        c.entry_here-one.ensures c.entry_here-two.ensures c.requires.uuid_next _ c.tag_order-order.ensures in
+    c.entry_here-one.ensures c.entry_here-two.ensures c.requires.uuid_next _ c.tag_order-order.ensures in
     rw c.of_first.ensures (rw c.in-Before.is at is)
 
 pub returns-in-Same : goal.returns-in-Same
 returns-in-Same c =
     let is = tags-say c.args.first.now c.args.second.now c.args.from c.requires.cursors_are _ _
-        c.entry_here-one.ensures c.entry_here-two.ensures c.requires.uuid_next _ c.tag_order-order.ensures in
+    c.entry_here-one.ensures c.entry_here-two.ensures c.requires.uuid_next _ c.tag_order-order.ensures in
     rw c.of_both.ensures (rw c.in-Same.is at is)
 
 pub returns-in-After : goal.returns-in-After
 returns-in-After c =
     let is = tags-say c.args.first.now c.args.second.now c.args.from c.requires.cursors_are _ _
-        c.entry_here-one.ensures c.entry_here-two.ensures c.requires.uuid_next _ c.tag_order-order.ensures in
+    c.entry_here-one.ensures c.entry_here-two.ensures c.requires.uuid_next _ c.tag_order-order.ensures in
     rw c.of_second.ensures (rw c.in-After.is at is)

@@ -13,10 +13,10 @@ as_made_is_where_fits p = record { made_is = p.0; where_fits = p.1 }
 
 pub loop-left-init : goal.loop-left-init
 loop-left-init c = (
-      refl,
-      making-none (said_by c.args.work.operation) c.args.first.now c.args.second.now c.args.work.tags c.args.out.now
-          c.args.from c.requires.0 c.requires.1,
-    )
+  refl,
+  making-none (said_by c.args.work.operation) c.args.first.now c.args.second.now c.args.work.tags c.args.out.now
+      c.args.from c.requires.0 c.requires.1,
+)
 
 pub next_pair-pair-requires : goal.next_pair-pair-requires
 next_pair-pair-requires c = as_cursors_are_from_nonzero (let l = c.loop-left in
@@ -33,8 +33,7 @@ loop-left-smaller c = omega (arith, c.next_pair-pair.ensures.less)
 
 pub loop-left-preserved : goal.loop-left-preserved
 loop-left-preserved c = let l = c.loop-left in
-    let i = c.next_pair-pair.ensures in
-    (
+    let i = c.next_pair-pair.ensures in (
       c.put_entry-marks.auto.out ∙ l.invariant.0,
       rw c.grown-made.ensures
           (making-turn (said_by c.args.work.operation) c.args.first.now c.args.second.now c.args.work.tags c.args.out.now _ l.left

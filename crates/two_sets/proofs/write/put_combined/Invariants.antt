@@ -7,9 +7,9 @@ use Rattle.two_sets.proofs.WriteLaws.{Making}
 use Rattle.two_sets.proofs.write.put_combined.Given as goal
 
 abbrev pub invariant-loop-left : goal.invariant-loop-left
-invariant-loop-left l =    (length l.out ≡ length l.initial.out)
+invariant-loop-left l = (length l.out ≡ length l.initial.out)
     × Making (said_by l.work.operation) l.first l.second l.work.tags (combining (said_by l.work.operation) l.first l.second l.initial.left)
-        l.initial.out l.left l.out l.made
+    l.initial.out l.left l.out l.made
 
 abbrev pub decreases-loop-left : goal.decreases-loop-left
 decreases-loop-left l = entries_of_both l.left
