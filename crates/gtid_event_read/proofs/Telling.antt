@@ -2,8 +2,11 @@
 -- answers of the public calls.
 use mathlib.Core.Path.{◌≡◌, refl, sym, ap, ◌∙◌}
 use mathlib.Core.Bool.{Bool, true, false}
-use Prim.Native.Nat.{ℕ, ◌<◌}
+use Prim.Native.Nat.{ℕ, ◌<◌, ◌≤◌}
 use native.Mathlib.Omega.{arith}
+use lib.Dec.{leb}
+use borrow.Author.Tests.{le-leb}
+use Rattle.misc.specs.Pick.{pick}
 use Rattle.misc.specs.Refusal.{Refusal, number}
 use Rattle.misc.specs.Parse.{Parse, refuse, parsed, and_then, mapped, judged, refusal_of, uint_read}
 use Rattle.misc.specs.declared.ReadUint.{ReadUint}
@@ -22,6 +25,11 @@ module _ {A : Type 0} {p : Parse A} {a : A} {next : ℕ} where
 
   pub stopped : (x : Refusal) {refusal : ℕ} → refusal ≡ number x → p ≡ refuse x → Told p refusal a next
   stopped x n e = record { numbered = n ∙ rw e; found = λ z. absurd (no_zero x (sym n ∙ z)) }
+
+-- a field whose id is unknown is refused up to the last id that may not be ignored, and ends the fields behind it
+module _ {A : Type 0} (id last : ℕ) (p : Parse A) (x : Refusal) where
+  pub unknown_refused : (refusal : ℕ) (a : A) (next : ℕ) → id ≤ last → refusal ≡ number x → Told (pick (leb id last) (refuse x) p) refusal a next
+  unknown_refused refusal a next low n = stopped x n (rw (le-leb id last low))
 
 pub same_number : {A : Type 0} {p : Parse A} {r refusal : ℕ} {a : A} {next : ℕ} → r ≡ refusal → Told p refusal a next → Told p r a next
 same_number e told = rw e told

@@ -180,6 +180,7 @@ impl Fields {
     }
 
     // A field that isn't known ends the fields if it may be ignored: it can't be skipped, since its length isn't known.
+    #[tactic(auto, using(crate::proofs::Telling::unknown_refused))]
     fn unknown(self, id: u64, last_non_ignorable_field_id: u64, end: usize) -> FieldsRead
         ensures { Told (pick (leb id last_non_ignorable_field_id) (refuse unknown_field) (parsed self end)) result.refusal result.fields result.next }
     {

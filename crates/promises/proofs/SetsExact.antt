@@ -13,8 +13,7 @@ use Rattle.misc.specs.Body.{body_limit}
 use Rattle.misc.specs.Output.{refused, bytes, output_of}
 use Rattle.misc.proofs.ParseLaws.{pick-either, pick-parsed}
 use Rattle.packets.specs.Gno.{is_gno}
-use Rattle.packets.specs.Key.{same}
-use Rattle.packets.proofs.Tests.{split, clash}
+use Rattle.packets.proofs.Tests.{split}
 use Rattle.previous_gtids_event.specs.Entry.{Entry}
 use Rattle.packets.specs.Tag.{none_or_tag}
 use Rattle.previous_gtids_event.specs.Previous.{previous}

@@ -8,7 +8,7 @@ use lib.Dec.{eqb, leb, ltb}
 use lib.IntN.{ℤ, pos, negsuc}
 use lib.ListN.{length, get_or}
 use borrow.Author.Tests.{ltb-true, leb-true, leb-false, eqb-true, eqb-false}
-use Rattle.misc.specs.Refusal.{number, ended, too_large, negative, bad_tag, unknown_field, wrong_version, no_tag, small_payload}
+use Rattle.misc.specs.Refusal.{ended, too_large, negative, bad_tag, unknown_field, wrong_version, no_tag, small_payload}
 use Rattle.misc.specs.Parse.{Parse, refuse, parsed, judged, part, Bytes, byte_at, bytes_at}
 use Rattle.misc.specs.Le.{le_of, le_at}
 use Rattle.misc.specs.Mark.{has_bit}

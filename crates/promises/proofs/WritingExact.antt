@@ -6,7 +6,6 @@ use mathlib.Core.List.{List}
 use native.Mathlib.Omega.{arith}
 use Rattle.misc.specs.Refusal.{Refusal, number, not_writable}
 use Rattle.misc.specs.Output.{refused, bytes}
-use Rattle.misc.proofs.ParseLaws.{split}
 use Rattle.packets.specs.Tag.{is_tag}
 use Rattle.packets.proofs.Tests as tests
 use Rattle.gtid_event.specs.Event.{with_tag, new_tagged}

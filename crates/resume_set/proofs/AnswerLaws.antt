@@ -7,7 +7,7 @@ use borrow.Author.Tests.{eq-eqb, ne_eqb}
 use lib.Dec.{leb}
 use lib.ListN.{length, take}
 use Rattle.misc.specs.Pick.{pick}
-use Rattle.misc.specs.Refusal.{Refusal, refusal, number}
+use Rattle.misc.specs.Refusal.{Refusal, number}
 use Rattle.misc.specs.Parse.{refuse}
 use Rattle.misc.specs.Output.{bytes, output_of, answer_of}
 use Rattle.misc.specs.declared.Wrote.{Wrote}
@@ -20,7 +20,7 @@ use Rattle.gtid_event_read.specs.Read.{record_in, named, gtid_read}
 use Rattle.gtid_event_read.specs.declared.GtidRead.{GtidRead}
 use Rattle.gtid_event_read.proofs.NamedLaws.{named-stopped, named-told}
 use Rattle.gtid_sets.specs.Set.{has, add}
-use Rattle.gtid_sets.specs.Limits.{Judged, fine, breaks, limits, intervals}
+use Rattle.gtid_sets.specs.Limits.{Judged, fine, breaks, limits}
 use Rattle.gtid_sets.specs.Run.{Event, names}
 use Rattle.gtid_sets.specs.Lent.{Lent, form, unfit, lent_set}
 use Rattle.set_check.specs.Check.{checked_of}

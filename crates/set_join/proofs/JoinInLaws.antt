@@ -9,11 +9,11 @@ use lib.Seq.{take_at}
 use borrow.Author.Tests.{le-leb}
 use Rattle.misc.specs.Pick.{pick}
 use Rattle.misc.specs.Refusal.{Refusal, number, not_a_set, bad_gno}
+use Rattle.misc.specs.Body.{body_limit}
 use Rattle.misc.specs.Parse.{refuse, refusal_of}
 use Rattle.misc.specs.Output.{refused, bytes, output_of, answer_of}
 use Rattle.misc.specs.declared.Wrote.{Wrote}
 use Rattle.misc.proofs.ParseLaws.{was-parsed}
-use Rattle.misc.proofs.BodyLaws.{body_limit-is}
 use Rattle.misc.proofs.OutputLaws.{output-refused}
 use Rattle.previous_gtids_event.specs.Entry.{Entry}
 use Rattle.previous_gtids_event.specs.Previous.{previous}
@@ -36,6 +36,15 @@ use Rattle.set_join.specs.TakeIn.{HeldIs, held_set, widest, any_joined, Room}
 
 -- ---- a checked set at the front of a work buffer
 
+-- what any body may add to it
+abbrev pub any_body : ℕ
+any_body = 65536 + 65536 / 24
+
+-- and so much room is for any set and any body
+pub any_joined-is : any_joined ≡ longest_set + any_body
+unfolding body_limit
+any_joined-is = refl
+
 module _ (set : List ℕ) (c : Checked) (f : Fits set c) where
   set-widest : widest (set_of set) ≤ longest_set
   unfolding widest
@@ -49,7 +58,7 @@ module _ (set : List ℕ) (c : Checked) (f : Fits set c) where
   set-short : length set ≤ longest_set
   set-short = lent-short set (set_of set) f.lent
 
-  module _ (zeros held : List ℕ) (size : length zeros ≡ any_joined) (copied : held ≡ output_of zeros (bytes set))
+  module _ (zeros held : List ℕ) (size : length zeros ≡ longest_set + any_body) (copied : held ≡ output_of zeros (bytes set))
       (same : length held ≡ length zeros) where
     stands : take (length set) held ≡ set
     unfolding output_of
@@ -60,17 +69,13 @@ module _ (set : List ℕ) (c : Checked) (f : Fits set c) where
     pub into-set : held_set held (lent_as c (length set)) ≡ set_of set
     into-set = ap set_of stands
 
-    pub into-starts : (spare body : List ℕ) → length spare ≡ any_joined → refusal_of (previous body) ≡ 0
+    pub into-starts : (spare body : List ℕ) → length spare ≡ longest_set + any_body → refusal_of (previous body) ≡ 0
         → HeldIs held (lent_as c (length set)) × Room held spare (widest (held_set held (lent_as c (length set))) + (length body - 8 + length body / 24))
     into-starts spare body alike z =
         let (es, next, e) = was-parsed (previous body) z in
         let (header, l, p, least, most) = previous-parts body es next e in (
           record { set = rw stands f.set; counted = rw into-set counted; inside = omega (arith, set-short) },
-          record {
-            wide = omega (arith, ap widest into-set, set-widest, body_limit-is);
-            alike = omega arith;
-            small = omega (arith, longest_set-is, body_limit-is);
-          },
+          record { wide = omega (arith, ap widest into-set, set-widest); alike = omega arith; small = omega (arith, longest_set-is) },
         )
 
 -- ---- `join_in`

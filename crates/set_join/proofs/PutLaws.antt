@@ -29,6 +29,11 @@ put-part s from n m e p = rw e at p
 pub put_rest : {l l' : List ℕ} {at r : ℕ} (s : List ℕ) (from : ℕ) → WhereFits l at (part s from (length s - from)) l' r → WhereFits l at (drop from s) l' r
 put_rest s from p = rw (part-there s from (length s - from) (drop from s) [] (sym (append-nil (drop from s))) (length-drop from s)) at p
 
+-- a head, with all of its uuid
+pub put_whole : {l l' : List ℕ} {at r : ℕ} (u : List ℕ) (tags : Bool) (t : List ℕ) (n : ℕ) → length u ≡ 16
+    → WhereFits l at (head_run (take 16 u) tags t n) l' r → WhereFits l at (head_run u tags t n) l' r
+put_whole u tags t n e p = rw (take_all 16 u (omega arith)) at p
+
 -- a head, with a copy of its uuid
 pub put-copied : {l l' : List ℕ} {at r : ℕ} (u own : List ℕ) (tags : Bool) (t : List ℕ) (n : ℕ) → length u ≡ 16 → own ≡ kept 16 (take 16 u)
     → WhereFits l at (head_run own tags t n) l' r → WhereFits l at (head_run u tags t n) l' r

@@ -1,5 +1,5 @@
 -- The entries of two sets, one key after another, as they stand in the bytes.
-use Prim.Native.Nat.{ℕ, ◌+◌, ◌-◌, ◌*◌, ◌^◌, ◌<◌, ◌≤◌, Ordering}
+use Prim.Native.Nat.{ℕ, ◌+◌, ◌*◌, ◌^◌, ◌<◌, ◌≤◌, Ordering}
 use Rattle.std.specs.Prelude.{◌≡◌, ◌⊎◌, Bool, true, false, List, ◌++◌, length}
 use Rattle.misc.specs.Pick.{pick}
 use Rattle.misc.specs.Parse.{part}

@@ -9,4 +9,7 @@ pub returns-then-reader-ne-READER_SIZE : goal.returns-then-reader-ne-READER_SIZE
 returns-then-reader-ne-READER_SIZE c = as_value_reader_after (no_reader c.args.reader.now c.if-reader-ne-READER_SIZE.true _)
 
 pub returns : goal.returns
-returns c = as_value_reader_after (kept-told c.args.reader.now c.if-reader-ne-READER_SIZE.false _ _ _ _ c.begin-begun.ensures (c.keep_step.ensures.value, c.keep_step.ensures.reader_after))
+returns c = as_value_reader_after (kept-told c.args.reader.now c.if-reader-ne-READER_SIZE.false _ _ _ _ c.begin-begun.ensures (
+  c.keep_step.ensures.value,
+  c.keep_step.ensures.reader_after,
+))

@@ -11,5 +11,13 @@ returns-then-reader-ne-READER_SIZE c = as_clauses (let a = c.args in
 
 pub returns : goal.returns
 returns c = as_clauses (let a = c.args in
-    step-told a.reader.now c.if-reader-ne-READER_SIZE.false _ c.reader_in-before.ensures a.work.now _ a.set.now _ a.spare.now _ a.chunk.now _
-    (c.step-stepped.ensures.value, (c.step-stepped.ensures.set_after, (c.step-stepped.ensures.spare_after, c.step-stepped.ensures.front))) _ _ (c.keep_step.ensures.value, c.keep_step.ensures.reader_after))
+    step-told a.reader.now c.if-reader-ne-READER_SIZE.false _ c.reader_in-before.ensures a.work.now _ a.set.now _ a.spare.now _ a.chunk.now _ (
+      c.step-stepped.ensures.value,
+      (
+        c.step-stepped.ensures.set_after,
+        (
+          c.step-stepped.ensures.spare_after,
+          c.step-stepped.ensures.front,
+        ),
+      ),
+    ) _ _ (c.keep_step.ensures.value, c.keep_step.ensures.reader_after))

@@ -3,8 +3,17 @@ use mathlib.Core.Path.{sym, ◌∙◌}
 use Rattle.abi.proofs.FlatReportLaws.{refused-told, kept-told}
 use Rattle.abi.proofs.gtid_report_add.Goals as goal
 
-as_clauses : {A B C D E F : Type 0} → A × (B × (C × (D × (E × F)))) → record { value : A; entries_after : B; intervals_after : C; high_after : D; low_after : E; report_after : F }
-as_clauses p = record { value = p.0; entries_after = p.1.0; intervals_after = p.1.1.0; high_after = p.1.1.1.0; low_after = p.1.1.1.1.0; report_after = p.1.1.1.1.1 }
+as_clauses : {A B C D E F : Type 0} → A × (B × (C × (D × (E × F))))
+    → record { value : A; entries_after : B; intervals_after : C; high_after : D; low_after : E; report_after : F }
+as_clauses p = record {
+  value = p.0;
+  entries_after = p.1.0;
+  intervals_after = p.1.1.0;
+  high_after = p.1.1.1.0;
+  low_after = p.1.1.1.1.0;
+  report_after =
+      p.1.1.1.1.1;
+}
 
 pub returns-then-full-ne0 : goal.returns-then-full-ne0
 returns-then-full-ne0 c = as_clauses (let a = c.args in

@@ -6,7 +6,8 @@ use native.Mathlib.Omega.{arith}
 use Rattle.binlog.proofs.head_on.Goals as goal
 
 pub returns-then-have-n-lt-HEADER : goal.returns-then-have-n-lt-HEADER
-returns-then-have-n-lt-HEADER c = head_more _ _ _ (omega arith) (omega arith) _ _ _ _ c.fill.auto.work (omega arith) (omega arith) c.fill.ensures (omega arith)
+returns-then-have-n-lt-HEADER c = head_more _ _ _ (omega arith) (omega arith) _ _ _ _ c.fill.auto.work (omega arith) (omega arith) c.fill.ensures
+    (omega arith)
 
 pub slice_bounds-behind_header-end-2 : goal.slice_bounds-behind_header-end-2
 slice_bounds-behind_header-end-2 c = sym (length-take-le 19 c.fill.new.work (omega (arith, c.fill.auto.work)))

@@ -5,7 +5,8 @@ use Rattle.binlog_reader.proofs.DoesLaws.{acted-offer, acted-join, acts-join, ac
 use Rattle.binlog_reader.proofs.act.Goals as goal
 
 pub returns-then-event_type-eq-PREVIOUS_GTIDS_EVENT : goal.returns-then-event_type-eq-PREVIOUS_GTIDS_EVENT
-returns-then-event_type-eq-PREVIOUS_GTIDS_EVENT c = acts-join _ _ _ _ _ _ _ c.if-event_type-eq-PREVIOUS_GTIDS_EVENT.true (acted-join _ _ c.join-wrote.auto.out _ _ c.join-wrote.ensures.value c.join-wrote.ensures.out_after)
+returns-then-event_type-eq-PREVIOUS_GTIDS_EVENT c = acts-join _ _ _ _ _ _ _ c.if-event_type-eq-PREVIOUS_GTIDS_EVENT.true
+    (acted-join _ _ c.join-wrote.auto.out _ _ c.join-wrote.ensures.value c.join-wrote.ensures.out_after)
 
 pub returns : goal.returns
 returns c = let a = c.args in

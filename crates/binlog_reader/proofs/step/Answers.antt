@@ -1,6 +1,4 @@
 -- `binlog_reader::step` meets its contract.
-use mathlib.Core.Path.{sym}
-use lib.Seq.{length-take-le}
 use Rattle.binlog.specs.Format.{trailer}
 use Rattle.binlog.specs.Held.{place_of}
 use Rattle.binlog.specs.Walk.{walked}

@@ -13,8 +13,19 @@ slice_bounds-begun-end-2 c = sym (length-take-le _ _ (omega (arith, c.read_start
 
 pub walked-last-requires : goal.walked-last-requires
 walked-last-requires c = as_fits_line_room_in_bounds (let first = c.begun-walk.ensures in
-    let size = length-take-le c.read_start-start.result.len c.read_start-start.new.set (omega (arith, c.read_start-start.ensures, c.read_start-start.auto.set)) in (
-      record { kept = omega (arith, first.kept, size, c.read_start-start.ensures, c.read_start-start.auto.set); lines = omega (arith, first.lines); answered = first.answered },
+    let size = length-take-le c.read_start-start.result.len c.read_start-start.new.set (omega (
+      arith,
+      c.read_start-start.ensures,
+      c.read_start-start.auto.set,
+    )) in (
+      record {
+        kept = omega (arith, first.kept, size, c.read_start-start.ensures, c.read_start-start.auto.set);
+        lines = omega (
+          arith,
+          first.lines,
+        );
+        answered = first.answered;
+      },
       omega (arith, longest_text-is),
     ))
 

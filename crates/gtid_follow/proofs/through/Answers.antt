@@ -1,12 +1,10 @@
 use Prim.Native.Nat.{◌≤◌}
-use mathlib.Core.Path.{◌≡◌, ◌∙◌}
+use mathlib.Core.Path.{◌∙◌}
 use native.Mathlib.Omega.{arith}
 use lib.ListN.{length}
 use borrow.Author.Rules.{rules}
-use borrow.Author.Tests.{ltb-true, ltb-false}
 use Rattle.packets.proofs.Tests.{clash}
-use Rattle.gtid_follow.specs.Program.{Fits}
-use Rattle.gtid_follow.proofs.StepLaws.{turns_left, fewer-turns, fits-as}
+use Rattle.gtid_follow.proofs.StepLaws.{fewer-turns, fits-as}
 use Rattle.gtid_follow.proofs.through.Goals as goal
 
 as_fits_used_in_bounds : {A B : Type 0} → A × B → record { fits : A; used_in_bounds : B }

@@ -1,7 +1,5 @@
-use mathlib.Core.Path.{◌≡◌, sym, ◌∙◌}
+use mathlib.Core.Path.{sym, ◌∙◌}
 use native.Mathlib.Omega.{arith}
-use lib.ListN.{length}
-use Rattle.gtid_follow.specs.Program.{Fits}
 use Rattle.gtid_follow.proofs.StepLaws.{fits-as}
 use Rattle.gtid_follow.proofs.walked.Goals as goal
 

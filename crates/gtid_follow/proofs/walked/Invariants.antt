@@ -1,9 +1,7 @@
 -- `gtid_follow::walked` meets its contract: the buffers keep their lengths.
-use mathlib.Core.Path.{◌≡◌, sym, ◌∙◌}
-use native.Mathlib.Omega.{arith}
+use mathlib.Core.Path.{◌≡◌}
 use lib.ListN.{length}
 use Rattle.gtid_follow.specs.Program.{Fits}
-use Rattle.gtid_follow.proofs.StepLaws.{fits-as}
 use Rattle.gtid_follow.proofs.walked.Given as goal
 
 abbrev pub invariant-loop-turns : goal.invariant-loop-turns

@@ -11,5 +11,5 @@ slice_bounds-list_input-end c = sym (length-take-le _ _ (search rules))
 
 pub returns : goal.returns
 returns c = let a = c.args in
-    let known = c.shared_slice_known-1 in
-    text-listed a.input.now a.len a.text.now _ _ (λ i. (known.given i).fits) (omega arith) (omega arith) c.list_input-wrote.ensures.value c.list_input-wrote.ensures.out_after
+    text-listed a.input.now a.len a.text.now _ _ (λ i. (c.type_inv.input i).fits) (omega arith) (omega arith) c.list_input-wrote.ensures.value
+    c.list_input-wrote.ensures.out_after

@@ -1,7 +1,4 @@
-use mathlib.Core.Path.{◌≡◌}
-use lib.ListN.{length}
 use borrow.Author.Rules.{rules}
-use Rattle.gtid_report.specs.Program.{Built}
 use Rattle.gtid_report.proofs.ProgramLaws.{none-built}
 use Rattle.gtid_report.proofs.read_all.Goals as goal
 

@@ -1,9 +1,7 @@
 -- `gtid_report::read_all` meets its contract: what it carries is always a report over files.
 use mathlib.Core.Path.{◌≡◌}
 use lib.ListN.{length}
-use borrow.Author.Rules.{rules}
 use Rattle.gtid_report.specs.Program.{Built}
-use Rattle.gtid_report.proofs.ProgramLaws.{none-built}
 use Rattle.gtid_report.proofs.read_all.Given as goal
 
 abbrev pub invariant-loop-left : goal.invariant-loop-left

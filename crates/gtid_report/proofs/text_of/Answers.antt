@@ -3,4 +3,5 @@ use Rattle.gtid_report.proofs.ProgramLaws.{text-whole}
 use Rattle.gtid_report.proofs.text_of.Goals as goal
 
 pub returns : goal.returns
-returns c = text-whole c.args.report c.args.text.now _ _ c.requires.built c.requires.longest_report_in_bounds c.write-wrote.ensures.value c.write-wrote.ensures.out_after
+returns c = text-whole c.args.report c.args.text.now _ _ c.requires.built c.requires.longest_report_in_bounds c.write-wrote.ensures.value
+    c.write-wrote.ensures.out_after

@@ -1,11 +1,8 @@
 -- `packets::all_tag_bytes` meets its contract. The loop's invariant: the bytes are all tag bytes just if those from `i` on are.
 use Prim.Native.Nat.{◌-◌, ◌≤◌}
-use mathlib.Core.Path.{◌≡◌, refl}
-use native.Mathlib.Omega.{arith}
+use mathlib.Core.Path.{◌≡◌}
 use lib.ListN.{length, drop}
-use lib.Seq.{drop-length}
 use Rattle.packets.specs.Tag.{all_tag_bytes}
-use Rattle.packets.proofs.TagLaws.{all-tag-bytes-next}
 use Rattle.packets.proofs.all_tag_bytes.Given as goal
 
 abbrev pub invariant-loop-i : goal.invariant-loop-i

@@ -1,9 +1,7 @@
 -- `packets::key_order` meets its contract. The loop's invariant: both keys reach to `i`, and what is left from there decides.
 use Prim.Native.Nat.{◌-◌, ◌≤◌}
-use mathlib.Core.Path.{refl, sym, ap, ◌∙◌}
-use native.Mathlib.Omega.{arith}
-use Rattle.packets.specs.Key.{order, order_read}
-use Rattle.packets.proofs.OrderWalk.{Decides, below_word, above_word, same_word}
+use Rattle.packets.specs.Key.{order}
+use Rattle.packets.proofs.OrderWalk.{Decides}
 use Rattle.packets.proofs.key_order.Given as goal
 
 abbrev pub invariant-loop-i : goal.invariant-loop-i

@@ -1,9 +1,7 @@
-use Prim.Native.Nat.{◌-◌}
 use mathlib.Core.Path.{refl, sym, ap}
 use native.Mathlib.Omega.{arith}
-use lib.ListN.{length, drop}
-use Rattle.packets.specs.Key.{order, order_read}
-use Rattle.packets.proofs.OrderWalk.{Decides, below-here, above-here, same_here, second-ends, first_ends, both_end}
+use Rattle.packets.specs.Key.{order_read}
+use Rattle.packets.proofs.OrderWalk.{below-here, above-here, same_here, second-ends, first_ends, both_end}
 use Rattle.packets.proofs.order_from.Goals as goal
 
 pub loop-i-init : goal.loop-i-init

@@ -1,10 +1,8 @@
 -- `packets::order_from` meets its contract. The loop's invariant: what is left from `i` on decides.
 use Prim.Native.Nat.{◌-◌}
-use mathlib.Core.Path.{refl, sym, ap}
-use native.Mathlib.Omega.{arith}
 use lib.ListN.{length, drop}
-use Rattle.packets.specs.Key.{order, order_read}
-use Rattle.packets.proofs.OrderWalk.{Decides, below-here, above-here, same_here, second-ends, first_ends, both_end}
+use Rattle.packets.specs.Key.{order}
+use Rattle.packets.proofs.OrderWalk.{Decides}
 use Rattle.packets.proofs.order_from.Given as goal
 
 abbrev pub invariant-loop-i : goal.invariant-loop-i

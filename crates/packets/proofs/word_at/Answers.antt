@@ -1,7 +1,6 @@
-use Prim.Native.Nat.{◌+◌, ◌-◌, ◌≤◌}
+use Prim.Native.Nat.{◌+◌}
 use mathlib.Core.Path.{◌≡◌, refl}
 use native.Mathlib.Omega.{arith}
-use Rattle.misc.specs.Parse.{part}
 use Rattle.packets.specs.Word.{big_endian}
 use Rattle.packets.proofs.WordLaws.{word_room, word_more}
 use Rattle.packets.proofs.word_at.Goals as goal

@@ -1,7 +1,6 @@
-use Prim.Native.Nat.{◌+◌, ◌-◌, ◌≤◌}
+use Prim.Native.Nat.{◌+◌, ◌-◌}
 use native.Mathlib.Omega.{arith}
-use Rattle.previous_gtids_reader.specs.Steps.{step_after}
-use Rattle.previous_gtids_reader.proofs.StepLaws.{Ahead, ahead-start, ahead-turn, ahead-still, ahead_none}
+use Rattle.previous_gtids_reader.proofs.StepLaws.{ahead-start, ahead-turn, ahead-still, ahead_none}
 use Rattle.previous_gtids_reader.proofs.entry_number.Goals as goal
 
 pub loop-done-init : goal.loop-done-init

@@ -1,8 +1,7 @@
 -- `previous_gtids_reader::entry_number` meets its contract: the step that is wanted lies so many steps on from where the loop is.
-use Prim.Native.Nat.{◌+◌, ◌-◌, ◌≤◌}
-use native.Mathlib.Omega.{arith}
+use Prim.Native.Nat.{◌-◌, ◌≤◌}
 use Rattle.previous_gtids_reader.specs.Steps.{step_after}
-use Rattle.previous_gtids_reader.proofs.StepLaws.{Ahead, ahead-start, ahead-turn, ahead-still, ahead_none}
+use Rattle.previous_gtids_reader.proofs.StepLaws.{Ahead}
 use Rattle.previous_gtids_reader.proofs.entry_number.Given as goal
 
 abbrev pub invariant-loop-done : goal.invariant-loop-done

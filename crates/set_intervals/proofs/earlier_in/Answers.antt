@@ -1,7 +1,5 @@
-use Prim.Native.Nat.{◌-◌, ◌≤◌}
 use native.Mathlib.Omega.{arith}
-use lib.ListN.{length}
-use Rattle.set_intervals.proofs.Walks.{Earlier, earlier-all, earlier-stops, earlier-turn}
+use Rattle.set_intervals.proofs.Walks.{earlier-all, earlier-stops, earlier-turn}
 use Rattle.set_intervals.proofs.earlier_in.Goals as goal
 
 pub loop-at-init : goal.loop-at-init

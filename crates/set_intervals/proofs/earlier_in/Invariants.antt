@@ -1,8 +1,7 @@
 -- `set_intervals::earlier_in` meets its contract.
 use Prim.Native.Nat.{◌-◌, ◌≤◌}
-use native.Mathlib.Omega.{arith}
 use lib.ListN.{length}
-use Rattle.set_intervals.proofs.Walks.{Earlier, earlier-all, earlier-stops, earlier-turn}
+use Rattle.set_intervals.proofs.Walks.{Earlier}
 use Rattle.set_intervals.proofs.earlier_in.Given as goal
 
 abbrev pub invariant-loop-at : goal.invariant-loop-at

@@ -1,9 +1,6 @@
-use Prim.Native.Nat.{◌-◌, ◌≤◌}
 use mathlib.Core.Path.{refl}
 use native.Mathlib.Omega.{arith}
-use lib.ListN.{length}
-use borrow.Author.Tests.{not-true, not-false}
-use Rattle.set_intervals.proofs.Walks.{StillGapped, gapped-all, gapped-turn, gapped-stops}
+use Rattle.set_intervals.proofs.Walks.{gapped-all, gapped-turn, gapped-stops}
 use Rattle.set_intervals.proofs.gapped_in.Goals as goal
 
 pub loop-at-init : goal.loop-at-init

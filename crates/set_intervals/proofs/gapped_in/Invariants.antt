@@ -1,10 +1,7 @@
 -- `set_intervals::gapped_in` meets its contract.
 use Prim.Native.Nat.{◌-◌, ◌≤◌}
-use mathlib.Core.Path.{refl}
-use native.Mathlib.Omega.{arith}
 use lib.ListN.{length}
-use borrow.Author.Tests.{not-true, not-false}
-use Rattle.set_intervals.proofs.Walks.{StillGapped, gapped-all, gapped-turn, gapped-stops}
+use Rattle.set_intervals.proofs.Walks.{StillGapped}
 use Rattle.set_intervals.proofs.gapped_in.Given as goal
 
 abbrev pub invariant-loop-at : goal.invariant-loop-at

@@ -1,9 +1,6 @@
-use Prim.Native.Nat.{◌-◌, ◌≤◌}
 use mathlib.Core.Path.{refl}
 use native.Mathlib.Omega.{arith}
-use lib.ListN.{length}
-use borrow.Author.Tests.{not-true, not-false}
-use Rattle.set_intervals.proofs.Walks.{StillProper, proper-all, proper-turn, proper-stops}
+use Rattle.set_intervals.proofs.Walks.{proper-all, proper-turn, proper-stops}
 use Rattle.set_intervals.proofs.proper_in.Goals as goal
 
 pub loop-at-init : goal.loop-at-init

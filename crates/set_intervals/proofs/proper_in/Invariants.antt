@@ -1,10 +1,7 @@
 -- `set_intervals::proper_in` meets its contract.
 use Prim.Native.Nat.{◌-◌, ◌≤◌}
-use mathlib.Core.Path.{refl}
-use native.Mathlib.Omega.{arith}
 use lib.ListN.{length}
-use borrow.Author.Tests.{not-true, not-false}
-use Rattle.set_intervals.proofs.Walks.{StillProper, proper-all, proper-turn, proper-stops}
+use Rattle.set_intervals.proofs.Walks.{StillProper}
 use Rattle.set_intervals.proofs.proper_in.Given as goal
 
 abbrev pub invariant-loop-at : goal.invariant-loop-at

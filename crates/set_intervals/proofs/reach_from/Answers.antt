@@ -1,7 +1,5 @@
-use Prim.Native.Nat.{◌-◌, ◌≤◌}
 use native.Mathlib.Omega.{arith}
-use lib.ListN.{length}
-use Rattle.set_intervals.proofs.Walks.{Taking, taking-none, taking-all, taking-stops, taking-turn}
+use Rattle.set_intervals.proofs.Walks.{taking-none, taking-all, taking-stops, taking-turn}
 use Rattle.set_intervals.proofs.reach_from.Goals as goal
 
 pub loop-at-init : goal.loop-at-init

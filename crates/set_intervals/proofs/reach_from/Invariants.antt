@@ -1,8 +1,7 @@
 -- `set_intervals::reach_from` meets its contract.
 use Prim.Native.Nat.{◌-◌, ◌≤◌}
-use native.Mathlib.Omega.{arith}
 use lib.ListN.{length}
-use Rattle.set_intervals.proofs.Walks.{Taking, taking-none, taking-all, taking-stops, taking-turn}
+use Rattle.set_intervals.proofs.Walks.{Taking}
 use Rattle.set_intervals.proofs.reach_from.Given as goal
 
 abbrev pub invariant-loop-at : goal.invariant-loop-at

@@ -3,7 +3,7 @@ use mathlib.Core.Path.{ap}
 use lib.ListN.{length}
 use native.Mathlib.Omega.{arith}
 use Rattle.report.specs.declared.Report.{Report}
-use Rattle.abi.proofs.FlatReportLaws.{Reading, reading-none, reading-all, reading-turn, report-read}
+use Rattle.abi.proofs.FlatReportLaws.{reading-none, reading-all, reading-turn, report-read}
 use Rattle.abi.proofs.flat_report.report_in.Goals as goal
 
 pub loop-i-init : goal.loop-i-init

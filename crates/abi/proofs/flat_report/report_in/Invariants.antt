@@ -1,10 +1,6 @@
 -- `abi::flat_report::report_in` meets its contract.
-use Prim.Native.Nat.{◌+◌, ◌-◌}
-use mathlib.Core.Path.{ap}
-use lib.ListN.{length}
-use native.Mathlib.Omega.{arith}
-use Rattle.report.specs.declared.Report.{Report}
-use Rattle.abi.proofs.FlatReportLaws.{Reading, reading-none, reading-all, reading-turn, report-read}
+use Prim.Native.Nat.{◌-◌}
+use Rattle.abi.proofs.FlatReportLaws.{Reading}
 use Rattle.abi.proofs.flat_report.report_in.Given as goal
 
 abbrev pub invariant-loop-i : goal.invariant-loop-i

@@ -8,7 +8,8 @@ use Rattle.gtid_event_read.specs.Untagged.{opening_at, untagged}
 use Rattle.gtid_event_read.specs.Told.{opened_in}
 use Rattle.gtid_event_read.proofs.UntaggedLaws.{opening-here, untagged-gone, untagged-clock, untagged-other, untagged-end}
 use Rattle.gtid_event_read.proofs.untagged.deserialize_untagged.Goals as goal
-use Rattle.gtid_event_read.proofs.untagged.deserialize_untagged.Goals.{then-s-gt-OPENING_LENGTH+else-s-eq-LOGICAL_TIMESTAMP_TYPECODE, else-s-gt-OPENING_LENGTH}
+use Rattle.gtid_event_read.proofs.untagged.deserialize_untagged.Goals.{then-s-gt-OPENING_LENGTH+else-s-eq-LOGICAL_TIMESTAMP_TYPECODE}
+use Rattle.gtid_event_read.proofs.untagged.deserialize_untagged.Goals.{else-s-gt-OPENING_LENGTH}
 
 pub returns-then-s-lt-OPENING_LENGTH : goal.returns-then-s-lt-OPENING_LENGTH
 returns-then-s-lt-OPENING_LENGTH c = c.refused.ensures ∙ ap untagged_read (sym (untagged-gone _ c.if-s-lt-OPENING_LENGTH.true))

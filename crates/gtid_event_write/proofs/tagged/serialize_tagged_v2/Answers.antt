@@ -10,7 +10,8 @@ use Rattle.misc.proofs.Clauses.{both}
 use Rattle.gtid_event_write.proofs.tagged.serialize_tagged_v2.Goals as goal
 
 pub returns-then-out-payload_size : goal.returns-then-out-payload_size
-returns-then-out-payload_size c = both (output-short _ _ _ (size_is c.args.event c.write_tagged_fields_v2-len.ensures.0 _ c.record_size-payload_size.ensures.0)
+returns-then-out-payload_size c = both (output-short _ _ _ (size_is c.args.event c.write_tagged_fields_v2-len.ensures.0 _
+    c.record_size-payload_size.ensures.0)
     c.if-out-payload_size.true)
 
 pub slice_bounds-put_bytes-end : goal.slice_bounds-put_bytes-end

@@ -1,9 +1,7 @@
 -- `gtid_follow::lines::flushed` meets its contract: what is written lies within the text.
-use mathlib.Core.Path.{refl, sym}
+use mathlib.Core.Path.{sym}
 use lib.Seq.{length-take-le}
-use borrow.Author.Tests.{not-false}
 use borrow.Author.Rules.{rules}
-use Rattle.packets.proofs.Tests.{clash}
 use Rattle.gtid_follow.proofs.lines.flushed.Goals as goal
 
 as_waiting_value_stays_unheard : {A B : Type 0} → A × B → record { waiting_value : A; stays_unheard : B }

@@ -1,8 +1,6 @@
-use mathlib.Core.Path.{◌≡◌, refl, ◌∙◌}
-use Prim.Native.Nat.{◌≤◌, ◌-◌}
+use mathlib.Core.Path.{refl, ◌∙◌}
 use native.Mathlib.Omega.{arith}
-use lib.ListN.{length, drop, length-set, drop_of_length-le}
-use Rattle.misc.specs.Output.{written}
+use lib.ListN.{length-set, drop_of_length-le}
 use Rattle.misc.proofs.OutputLaws.{written_none, copy-turn}
 use Rattle.misc.proofs.bytes.copy.Goals as goal
 

@@ -1,15 +1,14 @@
 -- `misc::bytes::copy` meets its contract. The invariant: writing what is left gives what the contract asks.
 -- Assumes nothing.
-use mathlib.Core.Path.{◌≡◌, refl, ◌∙◌}
+use mathlib.Core.Path.{◌≡◌}
 use Prim.Native.Nat.{◌≤◌, ◌-◌}
-use native.Mathlib.Omega.{arith}
-use lib.ListN.{length, drop, length-set, drop_of_length-le}
+use lib.ListN.{length, drop}
 use Rattle.misc.specs.Output.{written}
-use Rattle.misc.proofs.OutputLaws.{written_none, copy-turn}
 use Rattle.misc.proofs.bytes.copy.Given as goal
 
 abbrev pub invariant-loop-i : goal.invariant-loop-i
-invariant-loop-i l = (l.i ≤ length l.source) × (length l.out ≡ length l.initial.out) × (written l.out l.i (drop l.i l.source) ≡ written l.initial.out 0 l.source)
+invariant-loop-i l = (l.i ≤ length l.source) × (length l.out ≡ length l.initial.out) × (written l.out l.i
+    (drop l.i l.source) ≡ written l.initial.out 0 l.source)
 
 abbrev pub decreases-loop-i : goal.decreases-loop-i
 decreases-loop-i l = length l.source - l.i

@@ -1,8 +1,7 @@
 use mathlib.Core.Path.{◌≡◌, refl}
-use Prim.Native.Nat.{◌+◌, ◌-◌, ◌*◌, ◌%◌, ◌≤◌, ◌<◌, ◌^◌}
+use Prim.Native.Nat.{◌+◌, ◌*◌, ◌≤◌}
 use native.Mathlib.Nat.{mul-le-mul_right}
 use native.Mathlib.Omega.{arith}
-use Rattle.misc.specs.Parse.{part}
 use Rattle.misc.specs.Le.{le_of}
 use Rattle.misc.proofs.LeLaws.{scale-held, scale-next, gather-more}
 use Rattle.misc.proofs.le.gather.Goals as goal

@@ -1,13 +1,10 @@
 -- `misc::le::gather` meets its contract. The invariant: `value` is what the first `i` bytes from `at` on spell, and `scale` what the next one
 -- counts for.
 -- Assumes nothing.
-use mathlib.Core.Path.{◌≡◌, refl}
-use Prim.Native.Nat.{◌+◌, ◌-◌, ◌*◌, ◌%◌, ◌≤◌, ◌<◌, ◌^◌}
-use native.Mathlib.Nat.{mul-le-mul_right}
-use native.Mathlib.Omega.{arith}
+use mathlib.Core.Path.{◌≡◌}
+use Prim.Native.Nat.{◌-◌, ◌*◌, ◌%◌, ◌≤◌, ◌<◌, ◌^◌}
 use Rattle.misc.specs.Parse.{part}
 use Rattle.misc.specs.Le.{le_of}
-use Rattle.misc.proofs.LeLaws.{scale-held, scale-next, gather-more}
 use Rattle.misc.proofs.le.gather.Given as goal
 
 abbrev pub invariant-loop-i : goal.invariant-loop-i

@@ -14,7 +14,10 @@ returns-then-value-lt65536 c = both (rw (bytes-3 c.args.value c.if-value-lt251.f
 
 pub returns-then-value-lt16777216 : goal.returns-then-value-lt16777216
 returns-then-value-lt16777216 c = both (rw (bytes_4 c.args.value
-    c.if-value-lt65536.false c.if-value-lt16777216.true) (c.write_led-then-value-lt16777216.ensures.value, c.write_led-then-value-lt16777216.ensures.out_after))
+    c.if-value-lt65536.false c.if-value-lt16777216.true) (
+      c.write_led-then-value-lt16777216.ensures.value,
+      c.write_led-then-value-lt16777216.ensures.out_after,
+    ))
 
 pub returns : goal.returns
 returns c = both (rw (bytes-9 c.args.value c.if-value-lt16777216.false)

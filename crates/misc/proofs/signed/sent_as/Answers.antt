@@ -1,6 +1,4 @@
 -- `misc::signed::sent_as` meets its contract.
-use Prim.Native.Nat.{ℕ, ◌+◌, ◌*◌, ◌<◌, ◌^◌}
-use mathlib.Core.Path.{◌≡◌}
 use Rattle.misc.proofs.SignedLaws.{turned, kept}
 use Rattle.misc.proofs.signed.sent_as.Goals as goal
 

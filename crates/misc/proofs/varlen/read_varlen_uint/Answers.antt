@@ -17,11 +17,13 @@ returns-then-first-eq0 c = let a = c.args in
 
 pub returns-then-ones-eq8 : goal.returns-then-ones-eq8
 returns-then-ones-eq8 c = let a = c.args in
-    c.read_u64_le.ensures ∙ ap uint_read (sym (varlen-led a.s.now a.at c.trailing_ones-ones.result (omega arith) c.trailing_ones-ones.ensures.0 c.if-ones-eq8.true))
+    c.read_u64_le.ensures ∙ ap uint_read (sym (varlen-led a.s.now a.at c.trailing_ones-ones.result
+    (omega arith) c.trailing_ones-ones.ensures.0 c.if-ones-eq8.true))
 
 pub returns-then-s-at-2 : goal.returns-then-s-at-2
 returns-then-s-at-2 c = let a = c.args in
-    c.refused_uint-then-s-at-2.ensures ∙ ap uint_read (sym (varlen-cut a.s.now a.at c.trailing_ones-ones.result (omega arith) c.trailing_ones-ones.ensures.0 (omega arith)))
+    c.refused_uint-then-s-at-2.ensures ∙ ap uint_read (sym (varlen-cut a.s.now a.at c.trailing_ones-ones.result
+    (omega arith) c.trailing_ones-ones.ensures.0 (omega arith)))
 
 pub returns : goal.returns
 returns c = let a = c.args in

@@ -1,7 +1,7 @@
 use mathlib.Core.Path.{◌≡◌, refl, sym, ◌∙◌}
-use Prim.Native.Nat.{ℕ, ◌-◌, ◌≤◌}
+use Prim.Native.Nat.{ℕ, ◌≤◌}
 use native.Mathlib.Omega.{arith}
-use Rattle.misc.specs.Varlen.{size_from, varlen_size, varlen_bytes}
+use Rattle.misc.specs.Varlen.{varlen_size, varlen_bytes}
 use lib.ListN.{length}
 use Rattle.misc.proofs.VarlenLaws.{size-found, size-passed, size-nine, size-range, length-varlen_bytes}
 use Rattle.misc.proofs.varlen.varlen_uint_size.Goals as goal

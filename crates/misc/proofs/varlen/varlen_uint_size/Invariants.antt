@@ -1,11 +1,8 @@
 -- `misc::varlen::varlen_uint_size` meets its contract. The invariant: the sizes from `n` on have the answer.
 -- Assumes nothing.
-use mathlib.Core.Path.{◌≡◌, refl, sym, ◌∙◌}
-use Prim.Native.Nat.{ℕ, ◌-◌, ◌≤◌}
-use native.Mathlib.Omega.{arith}
-use Rattle.misc.specs.Varlen.{size_from, varlen_size, varlen_bytes}
-use lib.ListN.{length}
-use Rattle.misc.proofs.VarlenLaws.{size-found, size-passed, size-nine, size-range, length-varlen_bytes}
+use mathlib.Core.Path.{◌≡◌}
+use Prim.Native.Nat.{◌-◌, ◌≤◌}
+use Rattle.misc.specs.Varlen.{size_from, varlen_size}
 use Rattle.misc.proofs.varlen.varlen_uint_size.Given as goal
 
 abbrev pub invariant-loop-n : goal.invariant-loop-n

@@ -34,7 +34,8 @@ shape_of-out-then-num_bytes-eq9 c = c.scatter.auto.out ∙ simp length-set
 
 pub returns-then-num_bytes-eq9 : goal.returns-then-num_bytes-eq9
 returns-then-num_bytes-eq9 c = both (let a = c.args in
-    let nine : varlen_size a.value ≡ 9 = sym (sized a.value c.varlen_uint_size-num_bytes.result c.varlen_uint_size-num_bytes.ensures.0) ∙ c.if-num_bytes-eq9.true in
+    let nine : varlen_size a.value ≡ 9 = sym (sized a.value c.varlen_uint_size-num_bytes.result c.varlen_uint_size-num_bytes.ensures.0)
+    ∙ c.if-num_bytes-eq9.true in
     output-fits (omega arith)
     (record {
       holds = c.scatter.ensures
@@ -48,7 +49,8 @@ overflow_sub-trailer c = let v = c.args.value in
 
 pub overflow_sub-trailer-2 : goal.overflow_sub-trailer-2
 overflow_sub-trailer-2 c = let v = c.args.value in
-    let short = narrow v c.varlen_uint_size-num_bytes.result (sized v c.varlen_uint_size-num_bytes.result c.varlen_uint_size-num_bytes.ensures.0) c.if-num_bytes-eq9.false in
+    let short = narrow v c.varlen_uint_size-num_bytes.result (sized v c.varlen_uint_size-num_bytes.result c.varlen_uint_size-num_bytes.ensures.0)
+    c.if-num_bytes-eq9.false in
     omega (arith, one_shifted v c.varlen_uint_size-num_bytes.result short.0 short.1 short.2, pow_pos (c.varlen_uint_size-num_bytes.result - 1))
 
 pub returns : goal.returns
@@ -58,7 +60,11 @@ returns c = both (let a = c.args in
     output-fits (omega arith)
     (record {
       holds =
-          rw (bytes-short a.value c.varlen_uint_size-num_bytes.result size (omega arith), ← encoded-is a.value c.varlen_uint_size-num_bytes.result short.0 short.1 short.2)
+          rw (
+            bytes-short a.value c.varlen_uint_size-num_bytes.result size (omega arith),
+            ← encoded-is a.value
+                c.varlen_uint_size-num_bytes.result short.0 short.1 short.2,
+          )
           c.scatter-2.ensures;
       ends = omega arith;
     }))

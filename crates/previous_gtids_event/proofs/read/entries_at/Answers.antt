@@ -1,10 +1,10 @@
-use Prim.Native.Nat.{◌-◌, ◌≤◌}
+use Prim.Native.Nat.{◌-◌}
 use native.Mathlib.Omega.{arith}
 use mathlib.Core.Path.{◌≡◌, sym, ap, ◌∙◌}
 use Rattle.misc.specs.Parse.{many}
-use Rattle.misc.proofs.Walk.{SoFar, walk-next, walk_refused, walk_end}
+use Rattle.misc.proofs.Walk.{walk-next, walk_refused, walk_end}
 use Rattle.previous_gtids_event.proofs.Counting.{read_after, read_none, read_next, read-end}
-use Rattle.previous_gtids_event.specs.Answers.{previous_read, refused_previous}
+use Rattle.previous_gtids_event.specs.Answers.{refused_previous}
 use Rattle.previous_gtids_event.specs.Previous.{entry_at}
 use Rattle.previous_gtids_event.specs.Entry.{entry}
 use Rattle.previous_gtids_event.proofs.Reading.{whole-told, whole-refused}

@@ -26,7 +26,9 @@ returns-then-refusal-ne0 c = let a = c.args in
 pub overflow_sub-counted : goal.overflow_sub-counted
 overflow_sub-counted c = let order : let a = c.args in
     let r = c.whole_at-whole.result in
-    (a.at + 16 + r.tag_len + 8 ≤ r.first) × (r.first ≤ length a.body.now) = let told : let a = c.args in WholeTold a.tagged a.body.now a.at c.whole_at-whole.result = let a = c.args in whole-told a.tagged a.body.now a.at _ c.whole_at-whole.ensures c.if-refusal-ne0.false in
+    (a.at + 16 + r.tag_len + 8 ≤ r.first) × (r.first ≤ length a.body.now) = let told : let a = c.args in
+    WholeTold a.tagged a.body.now a.at c.whole_at-whole.result = let a = c.args in whole-told a.tagged a.body.now a.at _ c.whole_at-whole.ensures
+    c.if-refusal-ne0.false in
     let t = told in
     let there = t.there in
     (omega (arith, t.first, t.tag-len, there.head.tag.after, there.head.eight), omega (arith, t.first, there.head.inside)) in
@@ -35,7 +37,9 @@ overflow_sub-counted c = let order : let a = c.args in
 pub overflow_sub-tag : goal.overflow_sub-tag
 overflow_sub-tag c = let order : let a = c.args in
     let r = c.whole_at-whole.result in
-    (a.at + 16 + r.tag_len + 8 ≤ r.first) × (r.first ≤ length a.body.now) = let told : let a = c.args in WholeTold a.tagged a.body.now a.at c.whole_at-whole.result = let a = c.args in whole-told a.tagged a.body.now a.at _ c.whole_at-whole.ensures c.if-refusal-ne0.false in
+    (a.at + 16 + r.tag_len + 8 ≤ r.first) × (r.first ≤ length a.body.now) = let told : let a = c.args in
+    WholeTold a.tagged a.body.now a.at c.whole_at-whole.result = let a = c.args in whole-told a.tagged a.body.now a.at _ c.whole_at-whole.ensures
+    c.if-refusal-ne0.false in
     let t = told in
     let there = t.there in
     (omega (arith, t.first, t.tag-len, there.head.tag.after, there.head.eight), omega (arith, t.first, there.head.inside)) in
@@ -44,7 +48,9 @@ overflow_sub-tag c = let order : let a = c.args in
 pub slice_bounds-uuid_bytes-count : goal.slice_bounds-uuid_bytes-count
 slice_bounds-uuid_bytes-count c = let order : let a = c.args in
     let r = c.whole_at-whole.result in
-    (a.at + 16 + r.tag_len + 8 ≤ r.first) × (r.first ≤ length a.body.now) = let told : let a = c.args in WholeTold a.tagged a.body.now a.at c.whole_at-whole.result = let a = c.args in whole-told a.tagged a.body.now a.at _ c.whole_at-whole.ensures c.if-refusal-ne0.false in
+    (a.at + 16 + r.tag_len + 8 ≤ r.first) × (r.first ≤ length a.body.now) = let told : let a = c.args in
+    WholeTold a.tagged a.body.now a.at c.whole_at-whole.result = let a = c.args in whole-told a.tagged a.body.now a.at _ c.whole_at-whole.ensures
+    c.if-refusal-ne0.false in
     let t = told in
     let there = t.there in
     (omega (arith, t.first, t.tag-len, there.head.tag.after, there.head.eight), omega (arith, t.first, there.head.inside)) in
@@ -53,7 +59,9 @@ slice_bounds-uuid_bytes-count c = let order : let a = c.args in
 pub slice_bounds-uuid_bytes-start : goal.slice_bounds-uuid_bytes-start
 slice_bounds-uuid_bytes-start c = let order : let a = c.args in
     let r = c.whole_at-whole.result in
-    (a.at + 16 + r.tag_len + 8 ≤ r.first) × (r.first ≤ length a.body.now) = let told : let a = c.args in WholeTold a.tagged a.body.now a.at c.whole_at-whole.result = let a = c.args in whole-told a.tagged a.body.now a.at _ c.whole_at-whole.ensures c.if-refusal-ne0.false in
+    (a.at + 16 + r.tag_len + 8 ≤ r.first) × (r.first ≤ length a.body.now) = let told : let a = c.args in
+    WholeTold a.tagged a.body.now a.at c.whole_at-whole.result = let a = c.args in whole-told a.tagged a.body.now a.at _ c.whole_at-whole.ensures
+    c.if-refusal-ne0.false in
     let t = told in
     let there = t.there in
     (omega (arith, t.first, t.tag-len, there.head.tag.after, there.head.eight), omega (arith, t.first, there.head.inside)) in
@@ -62,17 +70,22 @@ slice_bounds-uuid_bytes-start c = let order : let a = c.args in
 pub slice_bounds-tag_bytes-end : goal.slice_bounds-tag_bytes-end
 slice_bounds-tag_bytes-end c = let order : let a = c.args in
     let r = c.whole_at-whole.result in
-    (a.at + 16 + r.tag_len + 8 ≤ r.first) × (r.first ≤ length a.body.now) = let told : let a = c.args in WholeTold a.tagged a.body.now a.at c.whole_at-whole.result = let a = c.args in whole-told a.tagged a.body.now a.at _ c.whole_at-whole.ensures c.if-refusal-ne0.false in
+    (a.at + 16 + r.tag_len + 8 ≤ r.first) × (r.first ≤ length a.body.now) = let told : let a = c.args in
+    WholeTold a.tagged a.body.now a.at c.whole_at-whole.result = let a = c.args in whole-told a.tagged a.body.now a.at _ c.whole_at-whole.ensures
+    c.if-refusal-ne0.false in
     let t = told in
     let there = t.there in
     (omega (arith, t.first, t.tag-len, there.head.tag.after, there.head.eight), omega (arith, t.first, there.head.inside)) in
     omega (arith, order)
 
 pub returns : goal.returns
-returns c = let told : let a = c.args in WholeTold a.tagged a.body.now a.at c.whole_at-whole.result = let a = c.args in whole-told a.tagged a.body.now a.at _ c.whole_at-whole.ensures c.if-refusal-ne0.false in
+returns c = let told : let a = c.args in WholeTold a.tagged a.body.now a.at c.whole_at-whole.result = let a = c.args in
+    whole-told a.tagged a.body.now a.at _ c.whole_at-whole.ensures c.if-refusal-ne0.false in
     let order : let a = c.args in
     let r = c.whole_at-whole.result in
-    (a.at + 16 + r.tag_len + 8 ≤ r.first) × (r.first ≤ length a.body.now) = let told : let a = c.args in WholeTold a.tagged a.body.now a.at c.whole_at-whole.result = let a = c.args in whole-told a.tagged a.body.now a.at _ c.whole_at-whole.ensures c.if-refusal-ne0.false in
+    (a.at + 16 + r.tag_len + 8 ≤ r.first) × (r.first ≤ length a.body.now) = let told : let a = c.args in
+    WholeTold a.tagged a.body.now a.at c.whole_at-whole.result = let a = c.args in whole-told a.tagged a.body.now a.at _ c.whole_at-whole.ensures
+    c.if-refusal-ne0.false in
     let t = told in
     let there = t.there in
     (omega (arith, t.first, t.tag-len, there.head.tag.after, there.head.eight), omega (arith, t.first, there.head.inside)) in

@@ -18,13 +18,16 @@ returns-then-left_at-lt-UUID_LEN c = let a = c.args in
 pub returns-then-refusal-ne0 : goal.returns-then-refusal-ne0
 returns-then-refusal-ne0 c = let a = c.args in
     let s = a.body.now in
-    let (x, e, told) = was-not-read tag_read (λ y. y.refusal) tag-says (tag_at a.tagged s (a.at + 16)) c.tag_if-tag.result c.tag_if-tag.ensures c.if-refusal-ne0.true in
-    c.refused_head-then-refusal-ne0.ensures ∙ ap (λ (y : TagRead). refused_head y.refusal) told ∙ ap head_read (sym (head-untagged a.tagged s a.at (omega arith) x e))
+    let (x, e, told) = was-not-read tag_read (λ y. y.refusal) tag-says (tag_at a.tagged s (a.at + 16)) c.tag_if-tag.result c.tag_if-tag.ensures
+    c.if-refusal-ne0.true in
+    c.refused_head-then-refusal-ne0.ensures ∙ ap (λ (y : TagRead). refused_head y.refusal) told
+    ∙ ap head_read (sym (head-untagged a.tagged s a.at (omega arith) x e))
 
 pub returns-then-refusal-ne0-2 : goal.returns-then-refusal-ne0-2
 returns-then-refusal-ne0-2 c = let a = c.args in
     let s = a.body.now in
-    let (tag, m, e, read) = was_read tag_read (λ y. y.refusal) tag-says (tag_at a.tagged s (a.at + 16)) c.tag_if-tag.result c.tag_if-tag.ensures c.if-refusal-ne0.false in
+    let (tag, m, e, read) = was_read tag_read (λ y. y.refusal) tag-says (tag_at a.tagged s (a.at + 16)) c.tag_if-tag.result c.tag_if-tag.ensures
+    c.if-refusal-ne0.false in
     let (x, gone, told) = uint-refused _ _ c.read_u64_le-count.ensures c.if-refusal-ne0-2.true in
     c.refused_head-then-refusal-ne0-2.ensures ∙ ap (λ (y : ReadUint). refused_head y.refusal) told
     ∙ ap head_read (sym (head-uncounted a.tagged s a.at (omega arith) tag m e x (ap (λ (y : TagRead). le_at 8 s y.next) (sym read) ∙ gone)))

@@ -18,7 +18,8 @@ returns-then-body-gt-MAX_BODY c = let s = c.args.body.now in
 pub returns-then-refusal-ne0 : goal.returns-then-refusal-ne0
 returns-then-refusal-ne0 c = let s = c.args.body.now in
     let (x, e, told) = uint-refused _ _ c.read_u64_le-read.ensures c.if-refusal-ne0.true in
-    c.refused_header-then-refusal-ne0.ensures ∙ ap (λ (y : ReadUint). refused_header y.refusal) told ∙ ap header_read (sym (body-fits s (le_at 8 s 0) (omega arith) ∙ e))
+    c.refused_header-then-refusal-ne0.ensures ∙ ap (λ (y : ReadUint). refused_header y.refusal) told
+    ∙ ap header_read (sym (body-fits s (le_at 8 s 0) (omega arith) ∙ e))
 
 pub returns-then-header-eq0 : goal.returns-then-header-eq0
 unfolding says_tagged says_count

@@ -20,10 +20,12 @@ returns-then-refusal-ne0 c = let a = c.args in
 
 pub returns-then-left_at-len : goal.returns-then-left_at-len
 returns-then-left_at-len c = let size : let a = c.args in
-    varlen_at a.body.now a.at ≡ parsed c.read_varlen_uint-size.result.value c.read_varlen_uint-size.result.next = uint-told _ _ c.read_varlen_uint-size.ensures c.if-refusal-ne0.false in
+    varlen_at a.body.now a.at ≡ parsed c.read_varlen_uint-size.result.value c.read_varlen_uint-size.result.next =
+    uint-told _ _ c.read_varlen_uint-size.ensures c.if-refusal-ne0.false in
     let ends : let a = c.args in
     (a.at < c.read_varlen_uint-size.result.next) × (c.read_varlen_uint-size.result.next ≤ length a.body.now) = let size : let a = c.args in
-    varlen_at a.body.now a.at ≡ parsed c.read_varlen_uint-size.result.value c.read_varlen_uint-size.result.next = uint-told _ _ c.read_varlen_uint-size.ensures c.if-refusal-ne0.false in
+    varlen_at a.body.now a.at ≡ parsed c.read_varlen_uint-size.result.value c.read_varlen_uint-size.result.next =
+    uint-told _ _ c.read_varlen_uint-size.ensures c.if-refusal-ne0.false in
     let a = c.args in varlen-forward a.body.now a.at (size) in
     let a = c.args in
     c.refused_tag-then-left_at-len.ensures
@@ -32,16 +34,19 @@ returns-then-left_at-len c = let size : let a = c.args in
 pub slice_bounds-none_or_tag-end : goal.slice_bounds-none_or_tag-end
 slice_bounds-none_or_tag-end c = let ends : let a = c.args in
     (a.at < c.read_varlen_uint-size.result.next) × (c.read_varlen_uint-size.result.next ≤ length a.body.now) = let size : let a = c.args in
-    varlen_at a.body.now a.at ≡ parsed c.read_varlen_uint-size.result.value c.read_varlen_uint-size.result.next = uint-told _ _ c.read_varlen_uint-size.ensures c.if-refusal-ne0.false in
+    varlen_at a.body.now a.at ≡ parsed c.read_varlen_uint-size.result.value c.read_varlen_uint-size.result.next =
+    uint-told _ _ c.read_varlen_uint-size.ensures c.if-refusal-ne0.false in
     let a = c.args in varlen-forward a.body.now a.at (size) in
     omega (arith, ends)
 
 pub returns-then-none_or_tag : goal.returns-then-none_or_tag
 returns-then-none_or_tag c = let size : let a = c.args in
-    varlen_at a.body.now a.at ≡ parsed c.read_varlen_uint-size.result.value c.read_varlen_uint-size.result.next = uint-told _ _ c.read_varlen_uint-size.ensures c.if-refusal-ne0.false in
+    varlen_at a.body.now a.at ≡ parsed c.read_varlen_uint-size.result.value c.read_varlen_uint-size.result.next =
+    uint-told _ _ c.read_varlen_uint-size.ensures c.if-refusal-ne0.false in
     let ends : let a = c.args in
     (a.at < c.read_varlen_uint-size.result.next) × (c.read_varlen_uint-size.result.next ≤ length a.body.now) = let size : let a = c.args in
-    varlen_at a.body.now a.at ≡ parsed c.read_varlen_uint-size.result.value c.read_varlen_uint-size.result.next = uint-told _ _ c.read_varlen_uint-size.ensures c.if-refusal-ne0.false in
+    varlen_at a.body.now a.at ≡ parsed c.read_varlen_uint-size.result.value c.read_varlen_uint-size.result.next =
+    uint-told _ _ c.read_varlen_uint-size.ensures c.if-refusal-ne0.false in
     let a = c.args in varlen-forward a.body.now a.at (size) in
     let a = c.args in
     let s = a.body.now in
@@ -51,10 +56,12 @@ returns-then-none_or_tag c = let size : let a = c.args in
 
 pub returns : goal.returns
 returns c = let size : let a = c.args in
-    varlen_at a.body.now a.at ≡ parsed c.read_varlen_uint-size.result.value c.read_varlen_uint-size.result.next = uint-told _ _ c.read_varlen_uint-size.ensures c.if-refusal-ne0.false in
+    varlen_at a.body.now a.at ≡ parsed c.read_varlen_uint-size.result.value c.read_varlen_uint-size.result.next =
+    uint-told _ _ c.read_varlen_uint-size.ensures c.if-refusal-ne0.false in
     let ends : let a = c.args in
     (a.at < c.read_varlen_uint-size.result.next) × (c.read_varlen_uint-size.result.next ≤ length a.body.now) = let size : let a = c.args in
-    varlen_at a.body.now a.at ≡ parsed c.read_varlen_uint-size.result.value c.read_varlen_uint-size.result.next = uint-told _ _ c.read_varlen_uint-size.ensures c.if-refusal-ne0.false in
+    varlen_at a.body.now a.at ≡ parsed c.read_varlen_uint-size.result.value c.read_varlen_uint-size.result.next =
+    uint-told _ _ c.read_varlen_uint-size.ensures c.if-refusal-ne0.false in
     let a = c.args in varlen-forward a.body.now a.at (size) in
     let a = c.args in
     let s = a.body.now in

@@ -27,21 +27,24 @@ returns-then-refusal-ne0 c = as_result_value_ref_ptr_value (let a = c.args in
     ))
 
 pub slice_bounds-result-count : goal.slice_bounds-result-count
-slice_bounds-result-count c = let inside : c.read-read.result.used ≤ length c.args.body.now = let found : let s = c.args.body.now in (es : List Entry) × (previous s ≡ parsed es c.read-read.result.used) = let s = c.args.body.now in
+slice_bounds-result-count c = let inside : c.read-read.result.used ≤ length c.args.body.now = let found : let s = c.args.body.now in
+    (es : List Entry) × (previous s ≡ parsed es c.read-read.result.used) = let s = c.args.body.now in
     let (es, next, e, told) = was_read previous_read (λ y. y.refusal) previous-says (previous s) _ c.read-read.ensures c.if-refusal-ne0.false in
     (es, e ∙ ap (λ (y : PreviousRead). parsed es y.used) (sym told)) in
     let (es, e) = found in previous-inside c.args.body.now es _ e in
     inside
 
 pub slice_bounds-result-start : goal.slice_bounds-result-start
-slice_bounds-result-start c = let inside : c.read-read.result.used ≤ length c.args.body.now = let found : let s = c.args.body.now in (es : List Entry) × (previous s ≡ parsed es c.read-read.result.used) = let s = c.args.body.now in
+slice_bounds-result-start c = let inside : c.read-read.result.used ≤ length c.args.body.now = let found : let s = c.args.body.now in
+    (es : List Entry) × (previous s ≡ parsed es c.read-read.result.used) = let s = c.args.body.now in
     let (es, next, e, told) = was_read previous_read (λ y. y.refusal) previous-says (previous s) _ c.read-read.ensures c.if-refusal-ne0.false in
     (es, e ∙ ap (λ (y : PreviousRead). parsed es y.used) (sym told)) in
     let (es, e) = found in previous-inside c.args.body.now es _ e in
     inside
 
 pub returns : goal.returns
-returns c = as_result_value_ref_ptr_value (let found : let s = c.args.body.now in (es : List Entry) × (previous s ≡ parsed es c.read-read.result.used) = let s = c.args.body.now in
+returns c = as_result_value_ref_ptr_value (let found : let s = c.args.body.now in (es : List Entry)
+    × (previous s ≡ parsed es c.read-read.result.used) = let s = c.args.body.now in
     let (es, next, e, told) = was_read previous_read (λ y. y.refusal) previous-says (previous s) _ c.read-read.ensures c.if-refusal-ne0.false in
     (es, e ∙ ap (λ (y : PreviousRead). parsed es y.used) (sym told)) in
     let a = c.args in

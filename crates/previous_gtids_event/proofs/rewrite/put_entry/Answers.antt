@@ -65,4 +65,8 @@ returns c = as_next_value_where_fits (let told : let a = c.args in WholeTold a.t
     (ap (λ (y : WholeRead). y.refusal) c.whole_at-whole.ensures ∙ whole_says (entry_at a.tagged a.body.now a.from) ∙ c.requires) in
     let a = c.args in
     entry-put a.tagged a.body.now a.from _ (told) a.tags (λ i. (c.type_inv.body i).fits)
-    (put-placed (c.put_bytes-after_uuid.ensures.value, c.put_bytes-after_uuid.ensures.out_after) also put-placed (c.put_tag-after_tag.ensures.value, c.put_tag-after_tag.ensures.out_after)) (put-placed (c.put_bytes-put.ensures.value, c.put_bytes-put.ensures.out_after)))
+    (put-placed (c.put_bytes-after_uuid.ensures.value, c.put_bytes-after_uuid.ensures.out_after)
+    also put-placed (c.put_tag-after_tag.ensures.value, c.put_tag-after_tag.ensures.out_after)) (put-placed (
+      c.put_bytes-put.ensures.value,
+      c.put_bytes-put.ensures.out_after,
+    )))

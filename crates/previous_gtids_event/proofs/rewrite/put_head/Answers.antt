@@ -20,4 +20,6 @@ returns c = both (let a = c.args in
     let room : a.at + length (head_run a.uuid.now a.tags a.tag.now a.count) ≤ length a.out.now =
     omega (arith, size, c.if-left_behind_tag-lt8.false, c.left_behind_tag.ensures, c.left_of-room.ensures, c.left_at.ensures) in
     put-there room
-    ((put-placed (c.put_bytes-after_uuid.ensures.value, c.put_bytes-after_uuid.ensures.out_after) also put-placed (c.put_tag-after_tag.ensures.value, c.put_tag-after_tag.ensures.out_after) also put-placed (c.put_u64_le.ensures.value, c.put_u64_le.ensures.out_after)).placed room))
+    ((put-placed (c.put_bytes-after_uuid.ensures.value, c.put_bytes-after_uuid.ensures.out_after)
+    also put-placed (c.put_tag-after_tag.ensures.value, c.put_tag-after_tag.ensures.out_after)
+    also put-placed (c.put_u64_le.ensures.value, c.put_u64_le.ensures.out_after)).placed room))

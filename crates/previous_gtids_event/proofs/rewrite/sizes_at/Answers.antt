@@ -5,7 +5,7 @@ use Prim.Native.Nat.{◌+◌, ◌-◌, ◌*◌, ◌≤◌}
 use native.Mathlib.Omega.{arith}
 use mathlib.Core.Path.{◌≡◌, sym, ap, ◌∙◌}
 use Rattle.misc.specs.Parse.{many}
-use Rattle.misc.proofs.Walk.{SoFar, walk-next, walk_refused, walk_end}
+use Rattle.misc.proofs.Walk.{walk-next, walk_refused, walk_end}
 use Rattle.previous_gtids_event.specs.Inside.{sizes_of, refused_sizes}
 use Rattle.previous_gtids_event.specs.Previous.{entry_at}
 use Rattle.previous_gtids_event.proofs.Rewriting.{gathered, sizes_after, sizes-none, sizes-end, Sized, sized}
@@ -106,7 +106,8 @@ loop-done-preserved c = let order : let r = c.whole_at-whole.result in
       omega (arith, order),
       omega (arith, order),
       omega (arith, order),
-      walk-next sizes_after (entry_at a.tagged a.body.now) a.count (sizes_of (many (entry_at a.tagged a.body.now) a.count a.from)) (gathered l.done l.any l.plain l.full) l.at l.done l.invariant.5
+      walk-next sizes_after (entry_at a.tagged a.body.now) a.count (sizes_of (many (entry_at a.tagged a.body.now) a.count a.from))
+          (gathered l.done l.any l.plain l.full) l.at l.done l.invariant.5
           (omega arith)
           m.entry _ m.is
           (gathered (l.done + 1) (l.any || ltb 0 r.tag_len) (l.plain + (24 + 16 * r.intervals))

@@ -1,6 +1,6 @@
 use native.Mathlib.Omega.{arith}
 use borrow.Author.Rules.{rules}
-use Rattle.text.proofs.DigitLaws.{Counted, counted-one, counted-all, counted-left, counted-turn}
+use Rattle.text.proofs.DigitLaws.{counted-one, counted-all, counted-left, counted-turn}
 use Rattle.text.proofs.digits.decimal_len.Goals as goal
 
 pub loop-tens-init : goal.loop-tens-init

@@ -1,7 +1,5 @@
 -- `text::digits::decimal_len` meets its contract.
-use native.Mathlib.Omega.{arith}
-use borrow.Author.Rules.{rules}
-use Rattle.text.proofs.DigitLaws.{Counted, counted-one, counted-all, counted-left, counted-turn}
+use Rattle.text.proofs.DigitLaws.{Counted}
 use Rattle.text.proofs.digits.decimal_len.Given as goal
 
 abbrev pub invariant-loop-tens : goal.invariant-loop-tens

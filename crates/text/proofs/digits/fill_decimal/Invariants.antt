@@ -1,7 +1,5 @@
 -- `text::digits::fill_decimal` meets its contract.
-use native.Mathlib.Omega.{arith}
-use borrow.Author.Rules.{rules}
-use Rattle.text.proofs.DigitLaws.{Filled, filled-one, filled-kept, filled-all, filled-left, filled-turn}
+use Rattle.text.proofs.DigitLaws.{Filled}
 use Rattle.text.proofs.digits.fill_decimal.Given as goal
 
 abbrev pub invariant-loop-tens : goal.invariant-loop-tens

@@ -1,10 +1,10 @@
-use Prim.Native.Nat.{◌+◌, ◌-◌}
-use mathlib.Core.Path.{◌≡◌, refl, ◌∙◌}
+use Prim.Native.Nat.{◌+◌}
+use mathlib.Core.Path.{refl, ◌∙◌}
 use native.Mathlib.Omega.{arith}
-use lib.ListN.{length, drop}
+use lib.ListN.{drop}
 use Rattle.misc.proofs.OutputLaws.{put-placed, put-short}
 use Rattle.text.specs.Digits.{hex}
-use Rattle.text.proofs.PuttingLaws.{Putting, putting-none, putting-all, putting-turn}
+use Rattle.text.proofs.PuttingLaws.{putting-none, putting-all, putting-turn}
 use Rattle.text.proofs.DigitLaws.{hex-none, hex-more, hex-long, hex-put}
 use Rattle.misc.proofs.Clauses.{both}
 use Rattle.text.proofs.digits.put_hex.Goals as goal

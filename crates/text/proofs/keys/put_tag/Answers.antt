@@ -8,4 +8,7 @@ returns-then-tag-eq0 c = let a = c.args in
     no-tag-put a.tag.now a.out.now a.at c.if-tag-eq0.true
 
 pub returns : goal.returns
-returns c = tag-put c.args.tag.now c.if-tag-eq0.false (put-placed (c.put_bytes-from.ensures.value, c.put_bytes-from.ensures.out_after)) (put-placed (c.put_bytes.ensures.value, c.put_bytes.ensures.out_after))
+returns c = tag-put c.args.tag.now c.if-tag-eq0.false (put-placed (
+  c.put_bytes-from.ensures.value,
+  c.put_bytes-from.ensures.out_after,
+)) (put-placed (c.put_bytes.ensures.value, c.put_bytes.ensures.out_after))

@@ -10,7 +10,12 @@ use Rattle.misc.proofs.Clauses.{both}
 use Rattle.text.proofs.keys.put_uuid.Goals as goal
 
 pub returns-then-left_at-lt-UUID_TEXT : goal.returns-then-left_at-lt-UUID_TEXT
-returns-then-left_at-lt-UUID_TEXT c = both (put-short c.args.out.now _ c.args.at (omega (arith, c.if-left_at-lt-UUID_TEXT.true, c.left_at.ensures, uuid-long c.args.uuid ((let it : length c.args.uuid ≡ 16 = omega arith in it)))))
+returns-then-left_at-lt-UUID_TEXT c = both (put-short c.args.out.now _ c.args.at (omega (
+  arith,
+  c.if-left_at-lt-UUID_TEXT.true,
+  c.left_at.ensures,
+  uuid-long c.args.uuid ((let it : length c.args.uuid ≡ 16 = omega arith in it)),
+)))
 
 pub slice_bounds-put_hex-end-4 : goal.slice_bounds-put_hex-end-4
 slice_bounds-put_hex-end-4 c = omega (arith, (let it : length c.args.uuid ≡ 16 = omega arith in it))
@@ -24,9 +29,19 @@ shape_of-out c = c.put_hex.auto.out ∙ c.put_bytes-at8.auto.out ∙ c.put_hex-a
     ∙ c.put_hex-at1.auto.out
 
 pub returns : goal.returns
-returns c = both (let run = uuid-put c.args.uuid (put-placed (c.put_hex-at1.ensures.value, c.put_hex-at1.ensures.out_after)) (put-placed (c.put_bytes-at2.ensures.value, c.put_bytes-at2.ensures.out_after)) (put-placed (c.put_hex-at3.ensures.value, c.put_hex-at3.ensures.out_after))
-    (put-placed (c.put_bytes-at4.ensures.value, c.put_bytes-at4.ensures.out_after)) (put-placed (c.put_hex-at5.ensures.value, c.put_hex-at5.ensures.out_after)) (put-placed (c.put_bytes-at6.ensures.value, c.put_bytes-at6.ensures.out_after))
-    (put-placed (c.put_hex-at7.ensures.value, c.put_hex-at7.ensures.out_after)) (put-placed (c.put_bytes-at8.ensures.value, c.put_bytes-at8.ensures.out_after)) (put-placed (c.put_hex.ensures.value, c.put_hex.ensures.out_after)) in
+returns c = both (let run = uuid-put c.args.uuid (put-placed (
+  c.put_hex-at1.ensures.value,
+  c.put_hex-at1.ensures.out_after,
+)) (put-placed (c.put_bytes-at2.ensures.value, c.put_bytes-at2.ensures.out_after)) (put-placed
+    (c.put_hex-at3.ensures.value, c.put_hex-at3.ensures.out_after))
+    (put-placed (c.put_bytes-at4.ensures.value, c.put_bytes-at4.ensures.out_after)) (put-placed (
+      c.put_hex-at5.ensures.value,
+      c.put_hex-at5.ensures.out_after,
+    )) (put-placed (c.put_bytes-at6.ensures.value, c.put_bytes-at6.ensures.out_after))
+    (put-placed (c.put_hex-at7.ensures.value, c.put_hex-at7.ensures.out_after)) (put-placed (
+      c.put_bytes-at8.ensures.value,
+      c.put_bytes-at8.ensures.out_after,
+    )) (put-placed (c.put_hex.ensures.value, c.put_hex.ensures.out_after)) in
     let room : c.args.at + length (uuid_text c.args.uuid) ≤ length c.args.out.now =
     omega (arith, c.if-left_at-lt-UUID_TEXT.false, c.left_at.ensures, uuid-long c.args.uuid ((let it : length c.args.uuid ≡ 16 = omega arith in it))) in
     put-there room (run.placed room))

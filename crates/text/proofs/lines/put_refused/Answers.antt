@@ -14,7 +14,8 @@ returns-then-left_at-refused_len c = both (let a = c.args in
 
 pub returns : goal.returns
 returns c = both (let a = c.args in
-    let run = refused-put a.refusal (put-placed (c.put_bytes-at1.ensures.value, c.put_bytes-at1.ensures.out_after)) (put-placed (c.put_decimal-at2.ensures.value, c.put_decimal-at2.ensures.out_after))
+    let run = refused-put a.refusal (put-placed (c.put_bytes-at1.ensures.value, c.put_bytes-at1.ensures.out_after)) (put-placed
+    (c.put_decimal-at2.ensures.value, c.put_decimal-at2.ensures.out_after))
     (put-placed (c.put_bytes.ensures.value, c.put_bytes.ensures.out_after)) in
     let room : a.at + length (refused_text a.refusal) ≤ length a.out.now =
     omega (arith, c.if-left_at-refused_len.false, c.refused_len.ensures.0, c.left_at.ensures, refused-long a.refusal) in
