@@ -15,7 +15,7 @@ fn main() {
         );
     }
     if !archive.ends_with("libabi.a") || !archive.is_file() {
-        stop("GTID_ARCHIVE isn't the path of a libabi.a; `rt staticlib abi` makes one");
+        stop("GTID_ARCHIVE isn't the path of a libabi.a; `tools/archive` makes one");
     }
     let folder = archive.parent().expect("the folder of a file");
     println!("cargo:rerun-if-changed={}", archive.display());

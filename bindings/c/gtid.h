@@ -1,5 +1,5 @@
 /* The GTID library's calls for C (and for Rust, by the same shapes). Link target/staticlib/libabi.a, which
- * `rt staticlib abi` writes; it is for x86-64 Linux.
+ * `tools/archive` writes; it is for x86-64 Linux.
  *
  * A lent piece of bytes is two arguments, where it begins and how many bytes it has. A pointer is never NULL, also where
  * there are no bytes: then any other address will do. A number that is handed out must not stand inside lent bytes, two

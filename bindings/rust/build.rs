@@ -1,4 +1,4 @@
-//! Links the archive `libabi.a`. It is looked for where `rt staticlib abi` writes it, or in the folder that GTID_LIB_DIR names.
+//! Links the archive `libabi.a`. It is looked for where `tools/archive` writes it, or in the folder that GTID_LIB_DIR names.
 use std::env;
 use std::path::{Path, PathBuf};
 use std::process;
@@ -35,7 +35,7 @@ fn unusable(archive: &Path) -> Option<String> {
     }
     if !archive.is_file() {
         return Some(format!(
-            "there is no {}: `rt staticlib abi` in the repository makes it, or GTID_LIB_DIR names its folder",
+            "there is no {}: `tools/archive` in the repository makes it, or GTID_LIB_DIR names its folder",
             archive.display()
         ));
     }

@@ -4,7 +4,7 @@
 //! whatever bytes it is given. This crate lends them memory and turns their numbers into Rust's types; it is small, and it is tested, not
 //! proved.
 //!
-//! The archive is for x86-64 Linux. `rt staticlib abi` in the repository makes it (it is looked for in `target/staticlib` there, or in the
+//! The archive is for x86-64 Linux. `tools/archive` in the repository makes it (it is looked for in `target/staticlib` there, or in the
 //! folder that GTID_LIB_DIR names); then depend on this crate by its path. On another machine build for x86-64 and emulate: the variables
 //! that this takes stand in `tools/needs`. A call uses up to 270 KB of the stack.
 //!
