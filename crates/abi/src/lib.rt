@@ -1,5 +1,5 @@
-// The library's calls as functions that Rust and C can link, over numbers and byte slices. Each returns the number of its refusal,
-// 0 for none, and hands its other answers out through `&mut` numbers. None asks anything of its caller.
+// The library's calls as functions over numbers and byte slices, which Rust and C link by crate abi_c. Each returns the number of its
+// refusal, 0 for none, and hands its other answers out through `&mut` numbers. None asks anything of its caller.
 #![tactic(auto)]
 
 ghost use Rattle.std.specs.Prelude.{◌≡◌, ltb, length};
