@@ -6,7 +6,7 @@ use native.Mathlib.Omega.{arith}
 use borrow.Author.Tests.{eq-eqb, lt-ltb}
 use lib.ListN.{length, get_or, drop}
 use lib.Dec.{ltb}
-use Rattle.misc.specs.Parse.{part, uint_read}
+use Rattle.misc.specs.Parse.{part, parsed_or}
 use Rattle.misc.specs.Le.{le_bytes, le_at, number_at}
 use Rattle.misc.proofs.LeLaws.{length-le_bytes, le_of-le_bytes, le-here}
 use Rattle.gtid_event.specs.declared.GtidEvent.{GtidEvent}
@@ -27,7 +27,7 @@ module _ (s : List ℕ) (at : ℕ) where
   bytes_next n item rest e h = (part-there s at n item rest h e, after_there s at n item rest h e)
 
   pub number-next : (n v : ℕ) (rest : List ℕ) → 0 < n → v < 256 ^ n → drop at s ≡ le_bytes n v ++ rest
-      → ((uint_read (le_at n s at)).value ≡ v) × (drop (at + n) s ≡ rest)
+      → (parsed_or 0 (le_at n s at) ≡ v) × (drop (at + n) s ≡ rest)
   number-next n v rest some small h =
       let (p, q) = bytes_next n (le_bytes n v) rest (length-le_bytes n v) h in
       let inside : at + n ≤ length s = omega (arith, left_there s at (le_bytes n v) rest h, length-le_bytes n v) in

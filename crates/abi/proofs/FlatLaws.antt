@@ -1,5 +1,5 @@
 -- Laws of the record as bytes (`specs/Flat.antt`): its length, what is read from it, and what the calls over it answer.
-use mathlib.Core.Path.{◌≡◌, refl, sym, ap, ◌∙◌}
+use mathlib.Core.Path.{◌≡◌, refl, sym, ap, subst, ◌∙◌}
 use mathlib.Core.List.{List}
 use Prim.Native.Nat.{ℕ, ◌+◌, ◌-◌, ◌≤◌, ◌<◌}
 use native.Mathlib.Omega.{arith}
@@ -7,25 +7,25 @@ use lib.ListN.{length, get_or, drop, length-append, length-drop}
 use lib.Seq.{take_all}
 use Rattle.packets.proofs.KeptLaws.{kept_full}
 use borrow.Author.Tests.{eq-eqb, ne_eqb, le-leb, lt-leb}
-use Rattle.misc.specs.Refusal.{number, no_room, not_writable}
+use Rattle.std.specs.Prelude.{Result, Ok, Err}
+use Rattle.misc.specs.Refusal.{not_writable, error_number, error_needed}
+use Rattle.misc.specs.declared.refusal.Refusal.{Refusal}
+use Rattle.misc.specs.declared.refusal.WriteError.{WriteError}
+use Rattle.misc.specs.declared.refusal.WriteError.TheVariants.{Refused}
 use Rattle.misc.specs.Parse.{Bytes, Parse, refuse, parsed, part}
-use Rattle.misc.specs.Output.{output_of, answer_of, WhereFits}
-use Rattle.misc.specs.declared.Wrote.{Wrote}
+use Rattle.misc.specs.Output.{bytes, output_of, answer_of, written_number, WhereFits}
 use Rattle.misc.proofs.LeLaws.{length-le_bytes}
-use Rattle.misc.proofs.ParseLaws.{part_length}
+use Rattle.misc.proofs.ParseLaws.{part_length, split, answered-ok, answered-err}
 use Rattle.misc.proofs.OutputLaws.{from_on, output-fits, output-short, output-refused}
 use Rattle.packets.specs.Kept.{kept}
 use Rattle.gtid_event.specs.declared.GtidEvent.{GtidEvent}
 use Rattle.gtid_event_read.specs.Seen.{Seen}
-use Rattle.gtid_event_read.specs.Read.{seen, gtid, gtid_read}
+use Rattle.gtid_event_read.specs.Read.{record_in, seen, gtid, gtid_read}
 use Rattle.gtid_event_read.specs.declared.GtidRead.{GtidRead}
-use Rattle.gtid_event_read.proofs.Telling.{refused-by}
-use Rattle.gtid_event_read.proofs.ReadLaws.{gtid-said, gtid-refused}
 use Rattle.gtid_event_write.specs.Write.{event_output}
 use Rattle.misc.specs.Le.{number_at}
 use Rattle.gtid_event_read.proofs.NamedLaws.{key-parts}
-use Rattle.abi.specs.Flat.{flat, flat_identity, flat_clock, flat_rest, four_at, typecode_if, flat_read, read_output, read_used, read_present, write_output}
-use Rattle.abi.proofs.NumberLaws.{wrote-parts}
+use Rattle.abi.specs.Flat.{flat, flat_identity, flat_clock, flat_rest, four_at, typecode_if, flat_read, read_output, read_answers, read_used, write_output}
 
 pub length-flat : (e : GtidEvent) → length e.sid ≡ 16 → length e.tag ≡ 32 → length (flat e) ≡ 116
 unfolding flat flat_identity flat_clock flat_rest
@@ -79,63 +79,67 @@ record_is s sid tag gno typecode last sequence immediate original len version or
 
 -- ---- `gtid_read_present`
 
--- which fields were there
-present-short : (p : Parse Seen) (room : ℕ) → room < 116 → 0 ≡ read_present p room
-present-short (refuse r) room h = refl
-present-short (parsed x next) room h = rw (lt-leb 116 room h)
+module _ (type : ℕ) (body out : List ℕ) where
+  abbrev answer : Result GtidRead Refusal
+  answer = gtid_read (seen type body)
 
-present-told : (p : Parse Seen) (said : GtidRead) → said ≡ gtid_read p → (room : ℕ) → 116 ≤ room → said.present ≡ read_present p room
-present-told (refuse r) said is room h = ap (λ (y : GtidRead). y.present) is
-present-told (parsed x next) said is room h = ap (λ (y : GtidRead). y.present) is ∙ rw (le-leb 116 room h)
+  pub out-refused : {r : Refusal} → Err r ≡ answer → out ≡ output_of out (read_output (gtid type body))
+  unfolding gtid
+  out-refused {r} told = rw (answered-err _ (seen type body) told) (output-refused out r).1
 
-module _ (type : ℕ) (body : List ℕ) (said : GtidRead) (is : said ≡ gtid_read (seen type body)) (out : List ℕ) where
-  pub told-refused : (said.refusal ≡ 0 → ⊥)
-      → (said.refusal ≡ (answer_of out (read_output (gtid type body))).refusal)
-      × ((0 ≡ read_used (gtid type body) (length out)) × ((out ≡ output_of out (read_output (gtid type body))) × (0 ≡ read_present (seen type body) (length out))))
-  told-refused h =
-      let (x, e, n) = refused-by (gtid-said type body is) h in
-      let (a, b) = output-refused out x in
-      rw (e, gtid-refused type body e) (n ∙ ap (λ (w : Wrote). w.refusal) a, (refl, (b, refl)))
+  module _ (ok : Bytes body) where
+    record-size : {x : Seen} {next : ℕ} → seen type body ≡ parsed x next → length (flat x.event) ≡ 116
+    unfolding gtid
+    record-size {x} {next} is =
+        let parts = key-parts type body ok (ap record_in is) in
+        length-flat x.event parts.0 parts.2
 
-  module _ (read : said.refusal ≡ 0) (ok : Bytes body) where
-    told : gtid type body ≡ parsed said.event said.used
-    told = (gtid-said type body is).found read
+    module _ {said : GtidRead} (told : Ok said ≡ answer) where
+      size : length (flat said.event) ≡ 116
+      size =
+          let (x, next, is, same) = answered-ok _ (seen type body) told in
+          rw same (record-size is)
 
-    size : length (flat said.event) ≡ 116
-    size = let p = key-parts type body ok told in length-flat said.event p.0 p.2
+      output-is : read_output (gtid type body) ≡ bytes (flat said.event)
+      unfolding gtid
+      output-is =
+          let (x, next, is, same) = answered-ok _ (seen type body) told in
+          ap (λ (p : Parse Seen). read_output (record_in p)) is ∙ ap (λ (y : GtidRead). bytes (flat y.event)) (sym same)
 
-    pub told-short : length out < 116
-        → (number no_room ≡ (answer_of out (read_output (gtid type body))).refusal)
-        × ((116 ≡ read_used (gtid type body) (length out)) × ((out ≡ output_of out (read_output (gtid type body)))
-        × (0 ≡ read_present (seen type body) (length out))))
-    told-short h =
-        let (a, b) = output-short out (flat said.event) 116 (sym size) h in
-        let none = present-short (seen type body) (length out) h in
-        rw (told, lt-leb 116 (length out) h) (ap (λ (w : Wrote). w.refusal) a, (refl, (b, none)))
+      pub out-short : length out < 116 → out ≡ output_of out (read_output (gtid type body))
+      out-short h = (output-short out (flat said.event) 116 (sym size) h).1 ∙ ap (output_of out) (sym output-is)
 
-    pub told-record : {after : List ℕ} {n : ℕ} → 116 ≤ length out → WhereFits out 0 (flat said.event) after n
-        → (0 ≡ (answer_of out (read_output (gtid type body))).refusal)
-        × ((said.used ≡ read_used (gtid type body) (length out)) × ((after ≡ output_of out (read_output (gtid type body)))
-        × (said.present ≡ read_present (seen type body) (length out))))
-    told-record h p =
-        let room : length (flat said.event) ≤ length out = omega (arith, size) in
-        let (a, b) = output-fits room (p.placed (omega arith)) in
-        let which = present-told (seen type body) said is (length out) h in
-        rw (told, le-leb 116 (length out) h) (ap (λ (w : Wrote). w.refusal) a, (refl, (b, which)))
+      pub out-fits : {after : List ℕ} {n : ℕ} → 116 ≤ length out → WhereFits out 0 (flat said.event) after n
+          → after ≡ output_of out (read_output (gtid type body))
+      out-fits h p = (output-fits (omega (arith, size)) (p.placed (omega (arith, size)))).1 ∙ ap (output_of out) (sym output-is)
+
+    -- what is handed out of it: the number of what went wrong, and how many bytes were used or are needed
+    abbrev HandsOut : Result GtidRead WriteError → Type 0
+    HandsOut (Ok said) = (0 ≡ written_number (answer_of out (read_output (gtid type body)))) × (said.used ≡ read_used (gtid type body) (length out))
+    HandsOut (Err e) = (error_number e ≡ written_number (answer_of out (read_output (gtid type body))))
+        × (error_needed e ≡ read_used (gtid type body) (length out))
+
+    hands-out : (p : Parse Seen) → seen type body ≡ p → HandsOut (read_answers (gtid_read p) (length out))
+    unfolding gtid answer_of
+    hands-out (refuse r) is = rw is (refl, refl)
+    hands-out (parsed x next) is =
+        let size = record-size is in
+        split 116 (length out)
+        (λ h. rw (le-leb 116 (length out) h, is, size, le-leb 116 (length out) h) (refl, refl))
+        (λ h. rw (lt-leb 116 (length out) h, is, size, lt-leb 116 (length out) h) (refl, refl))
+
+    pub handed-out : {w : Result GtidRead WriteError} → w ≡ read_answers answer (length out) → HandsOut w
+    handed-out told = subst HandsOut (sym told) (hands-out (seen type body) refl)
 
 -- ---- `gtid_write`
 
 pub write-unfit : (s out : List ℕ) → (length s ≡ 116 → ⊥)
-    → (number not_writable ≡ (answer_of out (write_output s)).refusal) × ((0 ≡ (answer_of out (write_output s)).len) × (out ≡ output_of out (write_output s)))
+    → (Err (Refused not_writable) ≡ answer_of out (write_output s)) × (out ≡ output_of out (write_output s))
 unfolding write_output
-write-unfit s out h =
-    let (a, b) = output-refused out not_writable in
-    rw (ne_eqb (length s) 116 h) (ap (λ (w : Wrote). w.refusal) a, (ap (λ (w : Wrote). w.len) a, b))
+write-unfit s out h = rw (ne_eqb (length s) 116 h) (output-refused out not_writable)
 
-pub write-told : (s out after : List ℕ) (e : GtidEvent) (w : Wrote) → length s ≡ 116 → e ≡ flat_read s
+pub write-told : (s out after : List ℕ) (e : GtidEvent) (w : Result ℕ WriteError) → length s ≡ 116 → e ≡ flat_read s
     → (w ≡ answer_of out (event_output e)) × (after ≡ output_of out (event_output e))
-    → (w.refusal ≡ (answer_of out (write_output s)).refusal) × ((w.len ≡ (answer_of out (write_output s)).len) × (after ≡ output_of out (write_output s)))
+    → (w ≡ answer_of out (write_output s)) × (after ≡ output_of out (write_output s))
 unfolding write_output
-write-told s out after e w whole is told =
-    rw (eq-eqb (length s) 116 whole, ← is)
-    (wrote-parts w (answer_of out (event_output e)) after (output_of out (event_output e)) told)
+write-told s out after e w whole is told = rw (eq-eqb (length s) 116 whole, ← is) told

@@ -140,7 +140,7 @@ pub adds-alike : (bs set : List ℕ) → length bs ≡ 1352 → AddsAlike bs set
 unfolding report_in
 adds-alike bs set long = split 64 (number_at bs 0)
     (λ full.
-    let (line, leaves) = adds_none bs set 11 (no_place bs long full) (λ h. omega arith) in
+    let (line, leaves) = adds_none bs set (no_place bs long full) in
     let same = no_more (report_in bs) set (refused_line 11) full refl in
     record {
       line = line ∙ ap (λ (a : Added). a.line) same;

@@ -1,8 +1,11 @@
 -- A GTID record as 116 bytes, each field in a place of its own. Numbers are little-endian.
-use Rattle.std.specs.Prelude.{ℕ, List, [], ◌∷◌, ◌++◌, length, get_or, leb, ltb, eqb}
+use Rattle.std.specs.Prelude.{ℕ, List, [], ◌∷◌, ◌++◌, length, get_or, leb, ltb, eqb, Result, Ok, Err}
 use Rattle.misc.specs.Pick.{pick}
 use Rattle.misc.specs.Refusal.{not_writable}
-use Rattle.misc.specs.Parse.{Parse, refuse, parsed, part, uint_read}
+use Rattle.misc.specs.declared.refusal.Refusal.{Refusal}
+use Rattle.misc.specs.declared.refusal.WriteError.{WriteError}
+use Rattle.misc.specs.declared.refusal.WriteError.TheVariants.{Refused, NoRoom}
+use Rattle.misc.specs.Parse.{Parse, refuse, parsed, part, parsed_or}
 use Rattle.misc.specs.Le.{le_bytes, le_at, number_at}
 use Rattle.misc.specs.Output.{Output, refused, bytes}
 use Rattle.gtid_event.specs.declared.GtidEvent.{GtidEvent}
@@ -43,7 +46,7 @@ flat e = flat_identity e ++ flat_clock e ++ flat_rest e
 
 -- the number in the four bytes from a place on, 0 where they aren't all there
 unfoldable pub four_at : List ℕ → ℕ → ℕ
-four_at s at = (uint_read (le_at 4 s at)).value
+four_at s at = parsed_or 0 (le_at 4 s at)
 
 -- a typecode counts only where there is said to be one
 abbrev pub typecode_if : ℕ → ℕ → ℕ
@@ -75,6 +78,11 @@ flat_read s =
 abbrev pub read_output : Parse GtidEvent → Output
 read_output (refuse r) = refused r
 read_output (parsed e next) = bytes (flat e)
+
+-- what was read, where there is room for the record; else how much room is needed
+abbrev pub read_answers : {A : Type 0} → Result A Refusal → ℕ → Result A WriteError
+read_answers (Err r) room = Err (Refused r)
+read_answers (Ok said) room = pick (leb record_size room) (Ok said) (Err (NoRoom record_size))
 
 -- how many bytes of the body were used, where there is room for the record; else how much room is needed
 abbrev pub read_used : Parse GtidEvent → ℕ → ℕ

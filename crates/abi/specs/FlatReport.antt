@@ -1,8 +1,9 @@
 -- A report as 1,352 bytes, which its owner keeps between the calls: how many sets it is over, and 21 bytes for each of 64 lines. Numbers are
 -- little-endian. A new report is all zeros.
-use Rattle.std.specs.Prelude.{ℕ, zero, suc, ◌+◌, ◌*◌, Bool, List, [], ◌∷◌, ◌++◌, length, get_or, eqb, ltb}
+use Rattle.std.specs.Prelude.{ℕ, zero, suc, ◌+◌, ◌*◌, Bool, List, [], ◌∷◌, ◌++◌, length, get_or, eqb, ltb, Result, Ok, Err}
 use Rattle.misc.specs.Pick.{pick}
 use Rattle.misc.specs.Refusal.{number, too_long, not_writable}
+use Rattle.misc.specs.declared.refusal.Refusal.{Refusal}
 use Rattle.misc.specs.Parse.{part}
 use Rattle.misc.specs.Le.{le_bytes, number_at}
 use Rattle.misc.specs.Output.{Output, refused, bytes, written}
@@ -71,6 +72,6 @@ flat_text bs = pick (is_report bs) (bytes (report_text (lines_of (report_in bs))
 
 -- ---- inside
 
--- whether there is a place for one line more, as a refusal's number
-abbrev pub room_for : List ℕ → ℕ
-room_for bs = pick (is_report bs) (pick (ltb (number_at bs 0) max_sets) 0 (number too_long)) (number not_writable)
+-- whether there is a place for one line more
+abbrev pub room_for : List ℕ → Result (Unit {0}) Refusal
+room_for bs = pick (is_report bs) (pick (ltb (number_at bs 0) max_sets) (Ok tt) (Err too_long)) (Err not_writable)

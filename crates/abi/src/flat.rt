@@ -56,7 +56,10 @@ pub(crate) fn put_record(event: GtidEvent, out: &mut [u8], at: usize) -> usize
 pub(crate) fn four_at(s: &[u8], at: usize) -> u32
     ensures { result ≡ four_at s.now at }
 {
-    read_u32_le(s, at).value as u32
+    match read_u32_le(s, at) {
+        Ok(read) => read.value as u32,
+        Err(_) => 0,
+    }
 }
 
 fn typecode_if(there: u8, typecode: u8) -> u8

@@ -8,7 +8,7 @@ use binlog_reader::{Answer, Reader, Said, Told};
 use misc::le::number_at;
 use misc::put::{put_bytes, put_u64_le};
 
-// Where a reader is, as numbers.
+// Where a reader is, as numbers: a reader goes through C as 48 bytes.
 #[derive(Clone, Copy)]
 pub(crate) struct PhaseNumbers {
     pub(crate) kind: u8,
@@ -17,7 +17,7 @@ pub(crate) struct PhaseNumbers {
     pub(crate) have: usize,
 }
 
-// What a call says, as numbers.
+// What a call says, as numbers for C.
 #[derive(Clone, Copy)]
 pub(crate) struct SaidNumbers {
     pub(crate) refusal: u8,

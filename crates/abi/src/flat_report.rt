@@ -1,5 +1,5 @@
 // A report as 1,352 bytes: how many sets it is over, and 21 bytes for each of its lines.
-ghost use Rattle.std.specs.Prelude.{◌≡◌, ◌<◌, length};
+ghost use Rattle.std.specs.Prelude.{◌≡◌, ◌<◌, length, Ok};
 ghost use Rattle.misc.specs.Output.{WhereFits};
 ghost use Rattle.abi.specs.FlatReport.{line_size, report_size, flat_line, line_in, report_in, with_line_in, room_for};
 
@@ -7,7 +7,7 @@ use crate::REPORT_SIZE;
 use crate::flat::four_at;
 use misc::le::number_at;
 use misc::put::{put_byte, put_u32_le, put_u64_le};
-use misc::refusal::{NOT_WRITABLE, TOO_LONG};
+use misc::refusal::Refusal;
 use report::{Line, MAX_SETS, Report};
 
 // How many bytes a line has.
@@ -23,22 +23,22 @@ fn put_line(line: Line, out: &mut [u8], at: usize) -> usize
     put_u64_le(line.low, out, after_high)
 }
 
-// Whether there is a place for one line more: 0, else 12 for bytes that are no report and 11 for a report over 64 sets.
-pub(crate) fn room_for(report: &[u8]) -> u8
+// Whether there is a place for one line more: refused are bytes that are no report (12) and a report over 64 sets (11).
+pub(crate) fn room_for(report: &[u8]) -> Result<(), Refusal>
     ensures { result ≡ room_for report.now }
 {
     if report.len() != REPORT_SIZE {
-        return NOT_WRITABLE;
+        return Err(Refusal::NotWritable);
     }
     if MAX_SETS <= number_at(report, 0) as usize {
-        return TOO_LONG;
+        return Err(Refusal::TooLong);
     }
-    0
+    Ok(())
 }
 
 // Puts a line behind those that are there, and counts it.
 pub(crate) fn keep_line(line: Line, report: &mut [u8])
-    requires { 0 ≡ room_for report.old }
+    requires { Ok tt ≡ room_for report.old }
     ensures { report.new ≡ with_line_in report.old line }
 {
     let sets = number_at(report, 0);
@@ -65,12 +65,9 @@ pub(crate) fn report_in(s: &[u8]) -> Report
 {
     let fresh = Report::new();
     let mut lines = fresh.lines;
-    let mut at: usize = 8;
-    let mut i: usize = 0;
-    while i < MAX_SETS {
+    for i in 0..MAX_SETS {
+        let at = 8 + LINE_SIZE * i;
         lines[i] = line_in(&s[at..at + LINE_SIZE]);
-        at += LINE_SIZE;
-        i += 1;
     }
     Report {
         sets: number_at(s, 0) as usize,

@@ -2,9 +2,9 @@
 #![tactic(auto)]
 
 ghost use Rattle.std.specs.Prelude.{◌≡◌, ltb, length};
-ghost use Rattle.misc.specs.Parse.{uint_read};
+ghost use Rattle.misc.specs.Parse.{refusal_in, read_of};
 ghost use Rattle.misc.specs.Varlen.{varlen_at};
-ghost use Rattle.misc.specs.Output.{bytes, output_of, answer_of};
+ghost use Rattle.misc.specs.Output.{bytes, output_of, answer_of, written_number, written_len};
 ghost use Rattle.previous_gtids_event.specs.Previous.{previous};
 ghost use Rattle.previous_gtids_event.specs.Answers.{previous_read, entry_read};
 ghost use Rattle.previous_gtids_event.specs.Rewrite.{rewritten};
@@ -15,7 +15,7 @@ ghost use Rattle.resume_set.specs.Answers.{set_read, offer_answers, offer_leaves
 ghost use Rattle.gtid_sets.specs.Combine.{either, both, without};
 ghost use Rattle.two_sets.specs.Answers.{combine_answers, combine_leaves, within_answers, which_answers};
 ghost use Rattle.listing.specs.EventText.{listing};
-ghost use Rattle.abi.specs.Answers.{numbers_of, head_numbers, bit, entry_in};
+ghost use Rattle.abi.specs.Answers.{number_in, numbers_of, head_numbers, bit, entry_in};
 ghost use Rattle.abi.specs.Flat.{read_output, read_used, read_present, write_output};
 ghost use Rattle.binlog.specs.Held.{Front};
 ghost use Rattle.binlog_reader.specs.Step.{step_answers, begin_answers, end_answers_of};
@@ -25,9 +25,9 @@ ghost use Rattle.abi.specs.FlatReport.{flat_adds, flat_leaves, flat_refusal, fla
 // Reads the variable-length unsigned integer at the front of some bytes: its value, and how many bytes it takes.
 #[unsafe(no_mangle)]
 pub extern "C" fn gtid_read_varlen_uint(s: &[u8], value: &mut u64, used: &mut usize) -> u8
-    ensures value { result ≡ (uint_read (varlen_at s.now 0)).refusal }
-    ensures value_after { value.new ≡ (uint_read (varlen_at s.now 0)).value }
-    ensures used_after { used.new ≡ (uint_read (varlen_at s.now 0)).next }
+    ensures value { result ≡ refusal_in (read_of (varlen_at s.now 0)) }
+    ensures value_after { value.new ≡ number_in (read_of (varlen_at s.now 0)) (λ read. read.value) }
+    ensures used_after { used.new ≡ number_in (read_of (varlen_at s.now 0)) (λ read. read.next) }
 {
     abi::gtid_read_varlen_uint(s, value, used)
 }
@@ -35,9 +35,9 @@ pub extern "C" fn gtid_read_varlen_uint(s: &[u8], value: &mut u64, used: &mut us
 // Whether bytes are a set (0, else 14), and how many entries and intervals it has.
 #[unsafe(no_mangle)]
 pub extern "C" fn gtid_check_set(set: &[u8], entries: &mut u64, intervals: &mut u64) -> u8
-    ensures value { result ≡ (set_read (lent_set set.now)).refusal }
-    ensures entries_after { entries.new ≡ (set_read (lent_set set.now)).entries }
-    ensures intervals_after { intervals.new ≡ (set_read (lent_set set.now)).intervals }
+    ensures value { result ≡ refusal_in (set_read (lent_set set.now)) }
+    ensures entries_after { entries.new ≡ number_in (set_read (lent_set set.now)) (λ said. said.entries) }
+    ensures intervals_after { intervals.new ≡ number_in (set_read (lent_set set.now)) (λ said. said.intervals) }
 {
     abi::gtid_check_set(set, entries, intervals)
 }
@@ -51,8 +51,8 @@ pub extern "C" fn gtid_contains(
     gno: u64,
     present: &mut u8,
 ) -> u8
-    ensures value { result ≡ (contained (lent_set set.now) uuid.now tag.now gno).refusal }
-    ensures present_after { present.new ≡ bit (contained (lent_set set.now) uuid.now tag.now gno).present }
+    ensures value { result ≡ refusal_in (contained (lent_set set.now) uuid.now tag.now gno) }
+    ensures present_after { present.new ≡ number_in (contained (lent_set set.now) uuid.now tag.now gno) bit }
 {
     abi::gtid_contains(set, uuid, tag, gno, present)
 }
@@ -60,8 +60,8 @@ pub extern "C" fn gtid_contains(
 // Takes in the body of a Previous-GTIDs event: the set of all its ids is written, in set form.
 #[unsafe(no_mangle)]
 pub extern "C" fn gtid_take_in(body: &[u8], out: &mut [u8], len: &mut usize) -> u8
-    ensures value { result ≡ (take_in_answers body.now out.old).refusal }
-    ensures len_after { len.new ≡ (take_in_answers body.now out.old).len }
+    ensures value { result ≡ written_number (take_in_answers body.now out.old) }
+    ensures len_after { len.new ≡ written_len (take_in_answers body.now out.old) }
     ensures out_after { out.new ≡ take_in_leaves body.now out.old }
 {
     abi::gtid_take_in(body, out, len)
@@ -70,16 +70,15 @@ pub extern "C" fn gtid_take_in(body: &[u8], out: &mut [u8], len: &mut usize) -> 
 // Reads the body of a Previous-GTIDs event: how many entries it has, and how many bytes its header and they take.
 #[unsafe(no_mangle)]
 pub extern "C" fn gtid_read_previous(body: &[u8], entries: &mut u64, used: &mut usize) -> u8
-    ensures value { result ≡ (previous_read (previous body.now)).refusal }
-    ensures entries_after { entries.new ≡ (previous_read (previous body.now)).entries }
-    ensures used_after { used.new ≡ (previous_read (previous body.now)).used }
+    ensures value { result ≡ refusal_in (previous_read (previous body.now)) }
+    ensures entries_after { entries.new ≡ number_in (previous_read (previous body.now)) (λ said. said.entries) }
+    ensures used_after { used.new ≡ number_in (previous_read (previous body.now)) (λ said. said.used) }
 {
     abi::gtid_read_previous(body, entries, used)
 }
 
 // Reads the entry at a place of such a body: how many bytes its tag has and how many intervals there are, where the first of them
-// is, and where the entry ends. Its uuid is the 16 bytes at the place, and its tag ends eight bytes before the first interval. A header
-// that is refused needs no case of its own: a body over the limit is refused alike for both, and one without a header holds no entry.
+// is, and where the entry ends. Its uuid is the 16 bytes at the place, and its tag ends eight bytes before the first interval.
 #[unsafe(no_mangle)]
 pub extern "C" fn gtid_read_entry(
     body: &[u8],
@@ -89,11 +88,11 @@ pub extern "C" fn gtid_read_entry(
     first: &mut usize,
     next: &mut usize,
 ) -> u8
-    ensures value { result ≡ (entry_read (entry_in body.now at)).refusal }
-    ensures tag_len_after { tag_len.new ≡ (entry_read (entry_in body.now at)).tag_len }
-    ensures intervals_after { intervals.new ≡ (entry_read (entry_in body.now at)).intervals }
-    ensures first_after { first.new ≡ (entry_read (entry_in body.now at)).first }
-    ensures next_after { next.new ≡ (entry_read (entry_in body.now at)).next }
+    ensures value { result ≡ refusal_in (entry_read (entry_in body.now at)) }
+    ensures tag_len_after { tag_len.new ≡ number_in (entry_read (entry_in body.now at)) (λ said. said.tag_len) }
+    ensures intervals_after { intervals.new ≡ number_in (entry_read (entry_in body.now at)) (λ said. said.intervals) }
+    ensures first_after { first.new ≡ number_in (entry_read (entry_in body.now at)) (λ said. said.first) }
+    ensures next_after { next.new ≡ number_in (entry_read (entry_in body.now at)) (λ said. said.next) }
 {
     abi::gtid_read_entry(body, at, tag_len, intervals, first, next)
 }
@@ -101,8 +100,8 @@ pub extern "C" fn gtid_read_entry(
 // Writes the entries that the body of a Previous-GTIDs event holds anew.
 #[unsafe(no_mangle)]
 pub extern "C" fn gtid_rewrite(body: &[u8], out: &mut [u8], len: &mut usize) -> u8
-    ensures value { result ≡ (answer_of out.old (rewritten (previous body.now))).refusal }
-    ensures len_after { len.new ≡ (answer_of out.old (rewritten (previous body.now))).len }
+    ensures value { result ≡ written_number (answer_of out.old (rewritten (previous body.now))) }
+    ensures len_after { len.new ≡ written_len (answer_of out.old (rewritten (previous body.now))) }
     ensures out_after { out.new ≡ output_of out.old (rewritten (previous body.now)) }
 {
     abi::gtid_rewrite(body, out, len)
@@ -111,8 +110,8 @@ pub extern "C" fn gtid_rewrite(body: &[u8], out: &mut [u8], len: &mut usize) -> 
 // Writes the text of an event: a type byte with a body behind it.
 #[unsafe(no_mangle)]
 pub extern "C" fn gtid_list(input: &[u8], out: &mut [u8], len: &mut usize) -> u8
-    ensures value { result ≡ (answer_of out.old (bytes (listing input.now))).refusal }
-    ensures len_after { len.new ≡ (answer_of out.old (bytes (listing input.now))).len }
+    ensures value { result ≡ written_number (answer_of out.old (bytes (listing input.now))) }
+    ensures len_after { len.new ≡ written_len (answer_of out.old (bytes (listing input.now))) }
     ensures out_after { out.new ≡ output_of out.old (bytes (listing input.now)) }
 {
     abi::gtid_list(input, out, len)
@@ -140,8 +139,8 @@ pub extern "C" fn gtid_offer(
 // The ids in either of two sets, written as a set. Both may be the same bytes.
 #[unsafe(no_mangle)]
 pub extern "C" fn gtid_either(first: &[u8], second: &[u8], out: &mut [u8], len: &mut usize) -> u8
-    ensures value { result ≡ (combine_answers either first.now second.now out.old).refusal }
-    ensures len_after { len.new ≡ (combine_answers either first.now second.now out.old).len }
+    ensures value { result ≡ written_number (combine_answers either first.now second.now out.old) }
+    ensures len_after { len.new ≡ written_len (combine_answers either first.now second.now out.old) }
     ensures out_after { out.new ≡ combine_leaves either first.now second.now out.old }
 {
     abi::gtid_either(first, second, out, len)
@@ -150,8 +149,8 @@ pub extern "C" fn gtid_either(first: &[u8], second: &[u8], out: &mut [u8], len: 
 // The ids in both sets.
 #[unsafe(no_mangle)]
 pub extern "C" fn gtid_both(first: &[u8], second: &[u8], out: &mut [u8], len: &mut usize) -> u8
-    ensures value { result ≡ (combine_answers both first.now second.now out.old).refusal }
-    ensures len_after { len.new ≡ (combine_answers both first.now second.now out.old).len }
+    ensures value { result ≡ written_number (combine_answers both first.now second.now out.old) }
+    ensures len_after { len.new ≡ written_len (combine_answers both first.now second.now out.old) }
     ensures out_after { out.new ≡ combine_leaves both first.now second.now out.old }
 {
     abi::gtid_both(first, second, out, len)
@@ -160,8 +159,8 @@ pub extern "C" fn gtid_both(first: &[u8], second: &[u8], out: &mut [u8], len: &m
 // The ids of the first set that are not in the second.
 #[unsafe(no_mangle)]
 pub extern "C" fn gtid_without(first: &[u8], second: &[u8], out: &mut [u8], len: &mut usize) -> u8
-    ensures value { result ≡ (combine_answers without first.now second.now out.old).refusal }
-    ensures len_after { len.new ≡ (combine_answers without first.now second.now out.old).len }
+    ensures value { result ≡ written_number (combine_answers without first.now second.now out.old) }
+    ensures len_after { len.new ≡ written_len (combine_answers without first.now second.now out.old) }
     ensures out_after { out.new ≡ combine_leaves without first.now second.now out.old }
 {
     abi::gtid_without(first, second, out, len)
@@ -170,8 +169,8 @@ pub extern "C" fn gtid_without(first: &[u8], second: &[u8], out: &mut [u8], len:
 // Whether all ids of the first set are in the second: 1 if they are, else 0.
 #[unsafe(no_mangle)]
 pub extern "C" fn gtid_within(first: &[u8], second: &[u8], within: &mut u8) -> u8
-    ensures value { result ≡ (within_answers first.now second.now).refusal }
-    ensures within_after { within.new ≡ bit (within_answers first.now second.now).all }
+    ensures value { result ≡ refusal_in (within_answers first.now second.now) }
+    ensures within_after { within.new ≡ number_in (within_answers first.now second.now) bit }
 {
     abi::gtid_within(first, second, within)
 }
@@ -195,7 +194,7 @@ pub extern "C" fn gtid_read_present(
     used: &mut usize,
     present: &mut u16,
 ) -> u8
-    ensures value { result ≡ (answer_of out.old (read_output (gtid event_type body.now))).refusal }
+    ensures value { result ≡ written_number (answer_of out.old (read_output (gtid event_type body.now))) }
     ensures used_after { used.new ≡ read_used (gtid event_type body.now) (length out.old) }
     ensures out_after { out.new ≡ output_of out.old (read_output (gtid event_type body.now)) }
     ensures present_after { present.new ≡ read_present (seen event_type body.now) (length out.old) }
@@ -206,7 +205,7 @@ pub extern "C" fn gtid_read_present(
 // The same without the fields.
 #[unsafe(no_mangle)]
 pub extern "C" fn gtid_read(event_type: u8, body: &[u8], out: &mut [u8], used: &mut usize) -> u8
-    ensures value { result ≡ (answer_of out.old (read_output (gtid event_type body.now))).refusal }
+    ensures value { result ≡ written_number (answer_of out.old (read_output (gtid event_type body.now))) }
     ensures used_after { used.new ≡ read_used (gtid event_type body.now) (length out.old) }
     ensures out_after { out.new ≡ output_of out.old (read_output (gtid event_type body.now)) }
 {
@@ -216,8 +215,8 @@ pub extern "C" fn gtid_read(event_type: u8, body: &[u8], out: &mut [u8], used: &
 // Writes the event of a record, which is 116 bytes.
 #[unsafe(no_mangle)]
 pub extern "C" fn gtid_write(fields: &[u8], out: &mut [u8], len: &mut usize) -> u8
-    ensures value { result ≡ (answer_of out.old (write_output fields.now)).refusal }
-    ensures len_after { len.new ≡ (answer_of out.old (write_output fields.now)).len }
+    ensures value { result ≡ written_number (answer_of out.old (write_output fields.now)) }
+    ensures len_after { len.new ≡ written_len (answer_of out.old (write_output fields.now)) }
     ensures out_after { out.new ≡ output_of out.old (write_output fields.now) }
 {
     abi::gtid_write(fields, out, len)
@@ -264,8 +263,8 @@ pub extern "C" fn gtid_report_sum(
 // Writes the text of a report.
 #[unsafe(no_mangle)]
 pub extern "C" fn gtid_report_write(report: &[u8], out: &mut [u8], len: &mut usize) -> u8
-    ensures value { result ≡ (answer_of out.old (flat_text report.now)).refusal }
-    ensures len_after { len.new ≡ (answer_of out.old (flat_text report.now)).len }
+    ensures value { result ≡ written_number (answer_of out.old (flat_text report.now)) }
+    ensures len_after { len.new ≡ written_len (answer_of out.old (flat_text report.now)) }
     ensures out_after { out.new ≡ output_of out.old (flat_text report.now) }
 {
     abi::gtid_report_write(report, out, len)

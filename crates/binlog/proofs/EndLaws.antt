@@ -7,6 +7,7 @@ use native.Mathlib.Omega.{arith}
 use lib.ListN.{length, take}
 use lib.Dec.{leb-zero}
 use Rattle.misc.specs.Refusal as refusals
+use Rattle.binlog.specs.Stop.{stop_for}
 use Rattle.binlog.specs.Place.{heading, stopped}
 use Rattle.binlog.specs.Run.{end_of}
 use Rattle.binlog.specs.Walk.{is_whole}
@@ -20,10 +21,6 @@ use Rattle.binlog.proofs.WalkRun.{either}
 
 -- ---- what the functions answer
 
-pub header-some : (n : ℕ) → (n ≡ 0 → ⊥) → phase.Stopped 1 0 ≡ end_in (phase.Header n)
-header-some zero z = absurd (z refl)
-header-some (suc n) z = refl
-
 pub end-made : (p q : Phase) → made p ≡ true → q ≡ end_in p → q ≡ end_answers p
 unfolding end_answers
 end-made p q m e = rw m e
@@ -34,7 +31,7 @@ end-unmade p m = rw m
 
 -- ---- which place that is
 
-some-came : (n : ℕ) (w : List ℕ) → 0 < length w → stopped refusals.ended 0 ≡ end_of (heading (take (suc n) w))
+some-came : (n : ℕ) (w : List ℕ) → 0 < length w → stopped (stop_for refusals.ended) 0 ≡ end_of (heading (take (suc n) w))
 some-came n [] h = absurd (omega arith)
 some-came n (b ∷ w) h = refl
 
@@ -84,4 +81,4 @@ pub end-place-room : (p : Phase) (w : List ℕ) → work_len ≤ length w → pl
 end-place-room p w room =
     either (made p)
     (λ m. end-place p w (sound-by p (length w) m (omega (arith, needs-most p))))
-    (λ m. rw (← end-unmade p m, unmade-place p w m) (place-stopped refusals.not_writable 0 w))
+    (λ m. rw (← end-unmade p m, unmade-place p w m) (place-stopped (stop_for refusals.not_writable) 0 w))

@@ -7,6 +7,7 @@ use native.Mathlib.Omega.{arith}
 use lib.ListN.{length}
 use Rattle.misc.specs.Refusal as refusals
 use Rattle.binlog.specs.Format.{type_in, is_read}
+use Rattle.binlog.specs.Stop.{stop_for}
 use Rattle.binlog.specs.Place.{Place, heading, stopped}
 use Rattle.binlog.specs.Run.{Done, Run, at, end_of, finish, walking}
 use Rattle.binlog.specs.Layout.{file_of, Says, in_opening, wrong_opening, in_header, small_size, long_body, in_event, in_skipped, bad_event}
@@ -15,7 +16,7 @@ use Rattle.binlog.proofs.WalkRun.{either}
 use Rattle.binlog.proofs.ThroughLaws.{through-feed}
 use Rattle.binlog.proofs.SaysLaws.{says_all, says-one}
 
-cut-header : (came : List ℕ) → 0 < length came → end_of (heading came) ≡ stopped refusals.ended 0
+cut-header : (came : List ℕ) → 0 < length came → end_of (heading came) ≡ stopped (stop_for refusals.ended) 0
 cut-header [] h = absurd (omega arith)
 cut-header (b ∷ came) h = refl
 

@@ -3,10 +3,11 @@ use Prim.Native.Nat.{ℕ, ◌+◌}
 use mathlib.Core.Path.{◌≡◌, refl}
 use mathlib.Core.List.{List, [], ◌∷◌, ◌++◌}
 use Rattle.misc.specs.Refusal as refusals
-use Rattle.misc.specs.Refusal.{too_long, not_writable, no_room, bad_file}
+use Rattle.misc.specs.Refusal.{too_long, not_writable, bad_file}
 use Rattle.misc.specs.Body.{body_limit}
 use Rattle.misc.specs.Le.{le_of}
 use Rattle.binlog.specs.Format.{the_opening, type_in, size_in, is_read}
+use Rattle.binlog.specs.Stop.{stop_for, no_room}
 use Rattle.binlog.specs.Place.{heading, inside, passing, ended, stopped, judged, headed}
 use Rattle.binlog.specs.Run.{Done, did, fails, Run, at, begin, Word, chunk, end, hear}
 use Rattle.binlog.specs.Held.{place_of}
@@ -24,19 +25,19 @@ abbrev over : ℕ → List Word → Run ℕ (List ℕ)
 over t ws = hear counts t (begin 0) ws
 
 -- the opening, as it comes
-wrong_first : over 0 (chunk (0xFD ∷ []) ∷ []) ≡ at (stopped bad_file 0) 0 []
+wrong_first : over 0 (chunk (0xFD ∷ []) ∷ []) ≡ at (stopped (stop_for bad_file) 0) 0 []
 unfolding the_opening
 wrong_first = refl
 
-wrong-last : over 0 (chunk (0xFE ∷ 0x62 ∷ 0x69 ∷ 0x6F ∷ []) ∷ []) ≡ at (stopped bad_file 0) 0 []
+wrong-last : over 0 (chunk (0xFE ∷ 0x62 ∷ 0x69 ∷ 0x6F ∷ []) ∷ []) ≡ at (stopped (stop_for bad_file) 0) 0 []
 unfolding the_opening
 wrong-last = refl
 
 -- the end
-end-at-once : over 0 (end ∷ []) ≡ at (stopped refusals.ended 0) 0 []
+end-at-once : over 0 (end ∷ []) ≡ at (stopped (stop_for refusals.ended) 0) 0 []
 end-at-once = refl
 
-end-in-opening : over 0 (chunk (0xFE ∷ 0x62 ∷ 0x69 ∷ []) ∷ end ∷ end ∷ []) ≡ at (stopped refusals.ended 0) 0 []
+end-in-opening : over 0 (chunk (0xFE ∷ 0x62 ∷ 0x69 ∷ []) ∷ end ∷ end ∷ []) ≡ at (stopped (stop_for refusals.ended) 0) 0 []
 unfolding the_opening
 end-in-opening = refl
 
@@ -44,20 +45,20 @@ no-events : over 0 (chunk the_opening ∷ end ∷ chunk [] ∷ end ∷ []) ≡ a
 unfolding the_opening
 no-events = refl
 
-bytes-behind : over 0 (chunk the_opening ∷ end ∷ chunk (0 ∷ []) ∷ end ∷ []) ≡ at (stopped bad_file 0) 0 []
+bytes-behind : over 0 (chunk the_opening ∷ end ∷ chunk (0 ∷ []) ∷ end ∷ []) ≡ at (stopped (stop_for bad_file) 0) 0 []
 unfolding the_opening
 bytes-behind = refl
 
 -- sizes
-small : judged 0 2 18 ≡ stopped bad_file 0
+small : judged 0 2 18 ≡ stopped (stop_for bad_file) 0
 unfolding judged
 small = refl
 
-small-read : judged 4 33 22 ≡ stopped bad_file 0
+small-read : judged 4 33 22 ≡ stopped (stop_for bad_file) 0
 unfolding judged
 small-read = refl
 
-small-with-trailer : judged 4 2 22 ≡ stopped bad_file 0
+small-with-trailer : judged 4 2 22 ≡ stopped (stop_for bad_file) 0
 unfolding judged
 small-with-trailer = refl
 
@@ -73,7 +74,7 @@ longest-read : judged 4 42 65559 ≡ inside 42 65540 []
 unfolding judged is_read body_limit
 longest-read = refl
 
-too_long_stops : judged 4 42 65560 ≡ stopped too_long 0
+too_long_stops : judged 4 42 65560 ≡ stopped (stop_for too_long) 0
 unfolding judged is_read body_limit
 too_long_stops = refl
 
@@ -86,7 +87,8 @@ trailer-cut : over 4 (chunk (the_opening ++ header 33 25 0 ++ (7 ∷ 8 ∷ [])) 
 unfolding the_opening headed judged type_in size_in le_of is_read body_limit
 trailer-cut = refl
 
-end-in-trailer : over 4 (chunk (the_opening ++ header 33 25 0 ++ (7 ∷ 8 ∷ [])) ∷ chunk (1 ∷ 2 ∷ 3 ∷ []) ∷ end ∷ []) ≡ at (stopped refusals.ended 0) 0 []
+end-in-trailer : over 4 (chunk (the_opening ++ header 33 25 0 ++ (7 ∷ 8 ∷ [])) ∷ chunk (1 ∷ 2 ∷ 3 ∷ []) ∷ end ∷ [])
+    ≡ at (stopped (stop_for refusals.ended) 0) 0 []
 unfolding the_opening headed judged type_in size_in le_of is_read body_limit
 end-in-trailer = refl
 
@@ -94,7 +96,7 @@ skipped : over 0 (chunk (the_opening ++ header 2 21 0 ++ (7 ∷ [])) ∷ chunk (
 unfolding the_opening headed judged type_in size_in le_of is_read
 skipped = refl
 
-end-in-skipped : over 0 (chunk (the_opening ++ header 2 21 0 ++ (7 ∷ [])) ∷ end ∷ []) ≡ at (stopped refusals.ended 0) 0 []
+end-in-skipped : over 0 (chunk (the_opening ++ header 2 21 0 ++ (7 ∷ [])) ∷ end ∷ []) ≡ at (stopped (stop_for refusals.ended) 0) 0 []
 unfolding the_opening headed judged type_in size_in le_of is_read
 end-in-skipped = refl
 
@@ -111,15 +113,15 @@ unfolding the_opening headed judged type_in size_in le_of is_read body_limit
 event-refused = refl
 
 -- a phase that no call made is 12, too few work bytes are 13 with the length; behind the end and a refusal none are needed
-not_made : place_of (phase.Opening 4) [] ≡ stopped not_writable 0
+not_made : place_of (phase.Opening 4) [] ≡ stopped (stop_for not_writable) 0
 unfolding place_of
 not_made = refl
 
-nothing_left : place_of (phase.Body 33 0 7) [] ≡ stopped not_writable 0
+nothing_left : place_of (phase.Body 33 0 7) [] ≡ stopped (stop_for not_writable) 0
 unfolding place_of
 nothing_left = refl
 
-too-much-held : place_of (phase.Body 33 1 65540) [] ≡ stopped not_writable 0
+too-much-held : place_of (phase.Body 33 1 65540) [] ≡ stopped (stop_for not_writable) 0
 unfolding place_of
 too-much-held = refl
 
@@ -127,6 +129,6 @@ too-few-work-bytes : place_of (phase.Opening 3) (1 ∷ 2 ∷ []) ≡ stopped no_
 unfolding place_of
 too-few-work-bytes = refl
 
-none_needed : place_of (phase.Stopped 18 0) [] ≡ stopped bad_file 0
+none_needed : place_of (phase.Stopped 18 0) [] ≡ stopped (stop_for bad_file) 0
 unfolding place_of
 none_needed = refl

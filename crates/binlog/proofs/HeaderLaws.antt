@@ -10,6 +10,7 @@ use borrow.Author.Tests.{lt-ltb, le-ltb, le-leb, lt-leb}
 use Rattle.misc.specs.Refusal.{too_long, bad_file}
 use Rattle.misc.specs.Body.{body_limit}
 use Rattle.binlog.specs.Format.{type_in, size_in, is_read}
+use Rattle.binlog.specs.Stop.{stop_for}
 use Rattle.binlog.specs.Place.{Place, heading, stopped, arrived, passed, judged, headed}
 use Rattle.binlog.specs.Walk.{reached, is_whole, walked}
 use Rattle.binlog.specs.Run.{Done, at, settled, feed}
@@ -25,12 +26,12 @@ module _ (t : ℕ) (header : List ℕ) (full : length header ≡ 19) where
   unfolding headed
   headed-whole = rw (le-ltb (length header) 19 (omega arith))
 
-  pub judged-small : size_in header < 19 + t → judged t (type_in header) (size_in header) ≡ stopped bad_file 0
+  pub judged-small : size_in header < 19 + t → judged t (type_in header) (size_in header) ≡ stopped (stop_for bad_file) 0
   unfolding judged
   judged-small h = rw (lt-ltb (size_in header) (19 + t) h)
 
   pub judged-long : 19 + t ≤ size_in header → is_read (type_in header) ≡ true → body_limit < size_in header - (19 + t)
-      → judged t (type_in header) (size_in header) ≡ stopped too_long 0
+      → judged t (type_in header) (size_in header) ≡ stopped (stop_for too_long) 0
   unfolding judged
   judged-long h r l = rw (le-ltb (size_in header) (19 + t) h, r, lt-leb (size_in header - (19 + t)) body_limit l)
 
@@ -86,16 +87,18 @@ module _ {S A : Type 0} (does : S → ℕ → List ℕ → Done S A) (t : ℕ) (
       ∙ rw (drop_at header rest 19 full)
 
   pub feed-small : (header rest : List ℕ) → length header ≡ 19 → size_in header < 19 + t
-      → feed does t (at (heading []) s said) (header ++ rest) ≡ at (stopped bad_file 0) s said
+      → feed does t (at (heading []) s said) (header ++ rest) ≡ at (stopped (stop_for bad_file) 0) s said
   feed-small header rest full h =
-      feed-stops header rest (stopped bad_file 0) full (judged-small t header full h) (λ bs. walk-waits t (stopped bad_file 0) 19 bs refl)
-      ∙ still-stopped does t bad_file 0 s said rest
+      feed-stops header rest (stopped (stop_for bad_file) 0) full (judged-small t header full h)
+      (λ bs. walk-waits t (stopped (stop_for bad_file) 0) 19 bs refl)
+      ∙ still-stopped does t (stop_for bad_file) 0 s said rest
 
   pub feed-long : (header rest : List ℕ) → length header ≡ 19 → 19 + t ≤ size_in header → is_read (type_in header) ≡ true
-      → body_limit < size_in header - (19 + t) → feed does t (at (heading []) s said) (header ++ rest) ≡ at (stopped too_long 0) s said
+      → body_limit < size_in header - (19 + t) → feed does t (at (heading []) s said) (header ++ rest) ≡ at (stopped (stop_for too_long) 0) s said
   feed-long header rest full h r l =
-      feed-stops header rest (stopped too_long 0) full (judged-long t header full h r l) (λ bs. walk-waits t (stopped too_long 0) 19 bs refl)
-      ∙ still-stopped does t too_long 0 s said rest
+      feed-stops header rest (stopped (stop_for too_long) 0) full (judged-long t header full h r l)
+      (λ bs. walk-waits t (stopped (stop_for too_long) 0) 19 bs refl)
+      ∙ still-stopped does t (stop_for too_long) 0 s said rest
 
   module _ (header : List ℕ) (fine : HeaderFine t header) (came : List ℕ) (within : 19 + length came ≤ size_in header) where
     all-came : 19 + length came ≡ length (header ++ came)

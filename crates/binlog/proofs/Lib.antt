@@ -6,7 +6,6 @@ pub mod LayoutLaws
 pub mod ThroughLaws
 pub mod SaysLaws
 pub mod EndSaysLaws
-pub mod FillLaws
 pub mod PhaseLaws
 pub mod PlaceLaws
 pub mod HeldLaws

@@ -8,7 +8,7 @@ use lib.ListN.{length, take}
 use lib.Dec.{leb-zero}
 use lib.Seq.{length-take-le}
 use borrow.Author.Tests.{ltb-true, leb-true, lt-ltb, le-leb}
-use Rattle.misc.specs.Refusal.{number, numbered}
+use Rattle.binlog.specs.Stop.{stop_number, numbered}
 use Rattle.binlog.specs.Held.{work_len, made, needs, sound, place_in, place_of, phase_of, held_at, Front}
 use Rattle.binlog.specs.declared.Phase.{Phase}
 use Rattle.binlog.specs.declared.Phase.TheVariants as phase
@@ -62,7 +62,7 @@ stopped-fit r n room s = ltb-true 0 r (both _ _ s).0
 
 -- ---- the place of a sound phase: its phase again, and its bytes at the front of the work bytes
 
-pub renumber : (r : ℕ) → 0 < r → number (numbered r) ≡ r
+pub renumber : (r : ℕ) → 0 < r → stop_number (numbered r) ≡ r
 renumber r h = omega arith
 
 pub phase-kept : (p : Phase) (w : List ℕ) → sound p (length w) ≡ true → phase_of (place_in p w) ≡ p

@@ -7,10 +7,10 @@ use native.Mathlib.Omega.{arith}
 use lib.ListN.{length, take, get_or, length-append, length-take}
 use lib.Dec.{ltb, leb, eqb}
 use borrow.Author.Tests.{ltb-true, ltb-false, leb-true, lt-ltb, le-leb}
-use Rattle.misc.specs.Refusal.{Refusal, refusal, number}
 use Rattle.misc.specs.Body.{body_limit}
 use Rattle.misc.proofs.ParseLaws.{pick-either}
 use Rattle.binlog.specs.Format.{the_opening, type_in, size_in, is_read}
+use Rattle.binlog.specs.Stop.{Stop, stop, stop_number}
 use Rattle.binlog.specs.Place.{Place, opening, heading, inside, passing, whole, ended, stopped, opened, arrived, passed, judged, headed, next}
 use Rattle.binlog.specs.Run.{end_of}
 use Rattle.binlog.specs.Walk.{reached, waits, walked}
@@ -26,8 +26,8 @@ FitPlace p = made (phase_of p) ≡ true
 
 -- ---- where a byte leads
 
-pub fit-stopped : (r : Refusal) (n : ℕ) → FitPlace (stopped r n)
-fit-stopped (refusal m) n = lt-ltb 0 (m + 1) (omega arith)
+pub fit-stopped : (r : Stop) (n : ℕ) → FitPlace (stopped r n)
+fit-stopped (stop m) n = lt-ltb 0 (m + 1) (omega arith)
 
 fit_opened : (n : ℕ) → FitPlace (opened n)
 fit_opened n = either (ltb n 4) (λ h. rw (h, h)) (λ h. rw h)
@@ -108,7 +108,7 @@ place-back-in (inside type n came) w f = ap (inside type n) f.is
 place-back-in (passing n) w f = refl
 place-back-in (whole type body) w f = ap (whole type) f.is
 place-back-in ended w f = refl
-place-back-in (stopped (refusal m) n) w f = let one : m + 1 - 1 ≡ m = omega arith in ap (λ (x : ℕ). stopped (refusal x) n) one
+place-back-in (stopped (stop m) n) w f = let one : m + 1 - 1 ≡ m = omega arith in ap (λ (x : ℕ). stopped (stop x) n) one
 
 pub place-back-needs : (p : Place) (w : List ℕ) → FitPlace p → needs (phase_of p) ≤ length w → Front (held_at p) w → place_of (phase_of p) w ≡ p
 place-back-needs p w fit room f = place-sound (phase_of p) w (sound-by (phase_of p) (length w) fit room) ∙ place-back-in p w f
@@ -133,7 +133,7 @@ place-begin w room = place-back (opening 0) w refl room (front-none w)
 pub place-between : (w : List ℕ) → work_len ≤ length w → place_of (phase.Header 0) w ≡ heading []
 place-between w room = place-back (heading []) w refl room (front-none w)
 
-pub place-stopped : (r : Refusal) (n : ℕ) (w : List ℕ) → place_of (phase.Stopped (number r) n) w ≡ stopped r n
+pub place-stopped : (r : Stop) (n : ℕ) (w : List ℕ) → place_of (phase.Stopped (stop_number r) n) w ≡ stopped r n
 place-stopped r n w = place-back-needs (stopped r n) w (fit-stopped r n) (omega arith) (front-none w)
 
 -- an event that is whole: its body stands at the front of the work bytes

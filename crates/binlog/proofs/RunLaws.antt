@@ -3,7 +3,8 @@ use Prim.Native.Nat.{ℕ}
 use mathlib.Core.Path.{◌≡◌, refl, sym, ap, ◌∙◌}
 use mathlib.Core.Bool.{true, false}
 use mathlib.Core.List.{List, [], ◌∷◌, ◌++◌}
-use Rattle.misc.specs.Refusal.{Refusal, bad_file}
+use Rattle.misc.specs.Refusal.{bad_file}
+use Rattle.binlog.specs.Stop.{Stop, stop_for}
 use Rattle.binlog.specs.Place.{Place, opening, heading, inside, passing, whole, ended, stopped}
 use Rattle.binlog.specs.Run.{Done, Run, at, Word, chunk, end, begin, end_of, fed, feed, finish, walking, heard, hear, each_byte, spelled, chunks_of, joined}
 
@@ -49,11 +50,11 @@ module _ {S A : Type 0} (does : S → ℕ → List ℕ → Done S A) (t : ℕ) w
   -- ---- what repeats
 
   -- after a refusal all that comes is refused alike, and nothing changes
-  pub still-stopped : (x : Refusal) (n : ℕ) (s : S) (said : List A) (bs : List ℕ) → feed does t (at (stopped x n) s said) bs ≡ at (stopped x n) s said
+  pub still-stopped : (x : Stop) (n : ℕ) (s : S) (said : List A) (bs : List ℕ) → feed does t (at (stopped x n) s said) bs ≡ at (stopped x n) s said
   still-stopped x n s said [] = refl
   still-stopped x n s said (b ∷ bs) = still-stopped x n s said bs
 
-  pub stays-stopped : (x : Refusal) (n : ℕ) (s : S) (said : List A) (ws : List Word) → hear does t (at (stopped x n) s said) ws ≡ at (stopped x n) s said
+  pub stays-stopped : (x : Stop) (n : ℕ) (s : S) (said : List A) (ws : List Word) → hear does t (at (stopped x n) s said) ws ≡ at (stopped x n) s said
   stays-stopped x n s said [] = refl
   stays-stopped x n s said (chunk bs ∷ ws) = rw (still-stopped x n s said bs) (stays-stopped x n s said ws)
   stays-stopped x n s said (end ∷ ws) = stays-stopped x n s said ws
@@ -73,5 +74,5 @@ module _ {S A : Type 0} (does : S → ℕ → List ℕ → Done S A) (t : ℕ) w
       go (stopped r n) = refl
 
   -- bytes after the named end
-  pub after-end : (s : S) (said : List A) (b : ℕ) (bs : List ℕ) → feed does t (at ended s said) (b ∷ bs) ≡ at (stopped bad_file 0) s said
-  after-end s said b bs = still-stopped bad_file 0 s said bs
+  pub after-end : (s : S) (said : List A) (b : ℕ) (bs : List ℕ) → feed does t (at ended s said) (b ∷ bs) ≡ at (stopped (stop_for bad_file) 0) s said
+  after-end s said b bs = still-stopped (stop_for bad_file) 0 s said bs

@@ -10,6 +10,7 @@ use lib.Dec.{eqb}
 use lib.Seq.{append_snoc, take-suc, length-take-le}
 use borrow.Author.Tests.{eqb-true, eqb-false, lt-ltb, le-ltb, ne_eqb}
 use Rattle.misc.specs.Refusal.{bad_file}
+use Rattle.binlog.specs.Stop.{stop_for}
 use Rattle.misc.specs.Body.{body_limit}
 use Rattle.misc.proofs.ParseLaws.{split}
 use Rattle.binlog.specs.Format.{the_opening, type_in, size_in, is_read}
@@ -198,7 +199,7 @@ module _ {S A : Type 0} (does : S → ℕ → List ℕ → Done S A) (t : ℕ) (
   says-one (in_opening n h) = feed-opening n h
   says-one (wrong_opening n b rest h w) =
       feed-append does t (begin s) (take n the_opening) (b ∷ rest)
-      ∙ rw (feed-opening n h, ne_eqb b (get_or the_opening n 0) w) (still-stopped does t bad_file 0 s [] rest)
+      ∙ rw (feed-opening n h, ne_eqb b (get_or the_opening n 0) w) (still-stopped does t (stop_for bad_file) 0 s [] rest)
   says-one (in_header {es = es} {s' = s'} {said = said} came th h) = through-on does t s es s' said th came ∙ feed-heading does t s' said came h
   says-one (small_size {es = es} {s' = s'} {said = said} header rest th full l) =
       through-on does t s es s' said th (header ++ rest) ∙ feed-small does t s' said header rest full l

@@ -1,7 +1,9 @@
 -- The reader by value, and the work bytes that are lent to it: which place in the file the two stand for.
-use Rattle.std.specs.Prelude.{ℕ, zero, suc, ◌-◌, ◌≤◌, ◌<◌, ◌≡◌, Bool, true, ◌&&◌, List, [], length, take, drop, leb, ltb}
+use Rattle.std.specs.Prelude.{ℕ, zero, suc, ◌+◌, ◌-◌, ◌≤◌, ◌<◌, ◌≡◌, Bool, true, ◌&&◌, List, [], length, take, drop, leb, ltb, Result, Ok, Err}
 use Rattle.misc.specs.Pick.{pick}
-use Rattle.misc.specs.Refusal.{number, numbered, no_room, not_writable}
+use Rattle.misc.specs.declared.refusal.Refusal.{Refusal}
+use Rattle.misc.specs.Refusal.{number, not_writable}
+use Rattle.binlog.specs.Stop.{stop_number, numbered, stop_for, no_room}
 use Rattle.binlog.specs.Place.{Place, opening, heading, inside, passing, whole, ended, stopped, arrived}
 use Rattle.binlog.specs.Walk.{Walk, reached, waits, walked}
 use Rattle.binlog.specs.declared.Phase.{Phase}
@@ -47,7 +49,7 @@ place_in (phase.Stopped r n) w = stopped (numbered r) n
 
 -- any phase with any work bytes: 12 for one that no call made, 13 for too few work bytes
 unfoldable pub place_of : Phase → List ℕ → Place
-place_of p w = pick (sound p (length w)) (place_in p w) (pick (made p) (stopped no_room work_len) (stopped not_writable 0))
+place_of p w = pick (sound p (length w)) (place_in p w) (pick (made p) (stopped no_room work_len) (stopped (stop_for not_writable) 0))
 
 -- and back: the phase of a place, and what the work bytes hold at their front
 abbrev pub phase_of : Place → Phase
@@ -57,7 +59,7 @@ phase_of (inside type n came) = phase.Body type n (length came)
 phase_of (passing n) = phase.Skip n
 phase_of (whole type body) = phase.Whole type (length body)
 phase_of ended = phase.Ended
-phase_of (stopped r n) = phase.Stopped (number r) n
+phase_of (stopped r n) = phase.Stopped (stop_number r) n
 
 abbrev pub held_at : Place → List ℕ
 held_at (opening n) = []
@@ -104,20 +106,28 @@ pub record Starts (place : Place) (p : Phase) : Type 0 where
   pub is : (w : List ℕ) → place_in p w ≡ place
   pub fit : (room : ℕ) → work_len ≤ room → sound p room ≡ true
 
+-- the same where a header may be refused
+abbrev pub phase_in : Result Phase Refusal → Phase
+phase_in (Ok p) = p
+phase_in (Err r) = phase.Stopped (number r) 0
+
+pub record Begins (place : Place) (r : Result Phase Refusal) : Type 0 where
+  pub starts : Starts place (phase_in r)
+
 -- the same for n bytes of an event that are to come, whatever its trailer
 pub record Ready (type n : ℕ) (p : Phase) : Type 0 where
   pub starts : (t : ℕ) → Starts (arrived t type n []) p
 
--- a part of a walk through a chunk: from a phase, its work bytes and a place in the chunk to later ones
-pub record Moves (t : ℕ) (chunk w : List ℕ) (p : Phase) (at : ℕ) (w' : List ℕ) (p' : Phase) (at' : ℕ) : Type 0 where
-  pub goes : walked t (place_in p w) at (drop at chunk) ≡ walked t (place_in p' w') at' (drop at' chunk)
+-- a part of a walk through what is left of a chunk: from a phase and its work bytes to later ones, over so many bytes
+pub record Moves (t : ℕ) (rest w : List ℕ) (p : Phase) (w' : List ℕ) (p' : Phase) (n : ℕ) : Type 0 where
+  pub goes : (used : ℕ) → walked t (place_in p w) used rest ≡ walked t (place_in p' w') (used + n) (drop n rest)
   pub fit : sound p' (length w') ≡ true
-  pub on : at < at'
-  pub within : at' ≤ length chunk
+  pub on : 0 < n
+  pub within : n ≤ length rest
 
 -- the same where the work bytes stay as they are
-pub record Steps (chunk : List ℕ) (p : Phase) (at : ℕ) (p' : Phase) (at' : ℕ) : Type 0 where
-  pub moves : (t : ℕ) (w : List ℕ) → work_len ≤ length w → Moves t chunk w p at w p' at'
+pub record Steps (rest : List ℕ) (p p' : Phase) (n : ℕ) : Type 0 where
+  pub moves : (t : ℕ) (w : List ℕ) → work_len ≤ length w → Moves t rest w p w p' n
 
 -- whether the reader waits for its caller
 pub record Waiting (p : Phase) (r : Bool) : Type 0 where

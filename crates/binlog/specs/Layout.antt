@@ -2,9 +2,10 @@
 use Rattle.std.specs.Prelude.{ℕ, ◌+◌, ◌-◌, ◌≤◌, ◌<◌, ◌≡◌, true, false, List, [], ◌∷◌, ◌++◌, length, take, get_or}
 use Rattle.misc.specs.Pick.{pick}
 use Rattle.misc.specs.Refusal as refusals
-use Rattle.misc.specs.Refusal.{Refusal, too_long, bad_file}
+use Rattle.misc.specs.Refusal.{too_long, bad_file}
 use Rattle.misc.specs.Body.{body_limit}
 use Rattle.binlog.specs.Format.{the_opening, type_in, size_in, is_read}
+use Rattle.binlog.specs.Stop.{Stop, stop_for}
 use Rattle.binlog.specs.Place.{opening, heading, inside, passing, ended, stopped}
 use Rattle.binlog.specs.Run.{Done, did, fails, Run, at}
 
@@ -66,17 +67,17 @@ module _ {S A : Type 0} (does : S → ℕ → List ℕ → Done S A) (t : ℕ) (
     in_opening : (n : ℕ) → n < 4 → Says (take n the_opening) (at (opening n) s [])
     -- 18: a wrong byte of the opening, whatever follows it
     wrong_opening : (n b : ℕ) (rest : List ℕ) → n < 4 → (b ≡ get_or the_opening n 0 → ⊥)
-        → Says (take n the_opening ++ (b ∷ rest)) (at (stopped bad_file 0) s [])
+        → Says (take n the_opening ++ (b ∷ rest)) (at (stopped (stop_for bad_file) 0) s [])
     -- between two events, or in a header
     in_header : {es : List FileEvent} {s' : S} {said : List A} (came : List ℕ) → Through es s' said → length came < 19
         → Says (file_of es ++ came) (at (heading came) s' said)
     -- 18: a size too small for header and trailer, whatever the type
     small_size : {es : List FileEvent} {s' : S} {said : List A} (header rest : List ℕ) → Through es s' said → length header ≡ 19
-        → size_in header < 19 + t → Says (file_of es ++ (header ++ rest)) (at (stopped bad_file 0) s' said)
+        → size_in header < 19 + t → Says (file_of es ++ (header ++ rest)) (at (stopped (stop_for bad_file) 0) s' said)
     -- 11: a body that is too long, of a type that is read
     long_body : {es : List FileEvent} {s' : S} {said : List A} (header rest : List ℕ) → Through es s' said → length header ≡ 19
         → 19 + t ≤ size_in header → is_read (type_in header) ≡ true → body_limit < size_in header - (19 + t)
-        → Says (file_of es ++ (header ++ rest)) (at (stopped too_long 0) s' said)
+        → Says (file_of es ++ (header ++ rest)) (at (stopped (stop_for too_long) 0) s' said)
     -- in an event that is read, and in one that is skipped
     in_event : {es : List FileEvent} {s' : S} {said : List A} (header came : List ℕ) → Through es s' said → HeaderFine t header
         → is_read (type_in header) ≡ true → 19 + length came < size_in header
@@ -85,7 +86,7 @@ module _ {S A : Type 0} (does : S → ℕ → List ℕ → Done S A) (t : ℕ) (
         → is_read (type_in header) ≡ false → 19 + length came < size_in header
         → Says (file_of es ++ (header ++ came)) (at (passing (size_in header - 19 - length came)) s' said)
     -- an event that is whole and refused, whatever follows it
-    bad_event : {es : List FileEvent} {s' : S} {said : List A} {r : Refusal} {n : ℕ} (e : FileEvent) (rest : List ℕ) → Through es s' said → LaidOut t e
+    bad_event : {es : List FileEvent} {s' : S} {said : List A} {r : Stop} {n : ℕ} (e : FileEvent) (rest : List ℕ) → Through es s' said → LaidOut t e
         → is_read (type_in e.header) ≡ true → does s' (type_in e.header) e.body ≡ fails r n
         → Says (file_of es ++ (bytes_of e ++ rest)) (at (stopped r n) s' said)
 
@@ -94,10 +95,10 @@ module _ {S A : Type 0} (does : S → ℕ → List ℕ → Done S A) (t : ℕ) (
     -- well: the file is laid out, and none of its events is refused
     well : {es : List FileEvent} {s' : S} {said : List A} → Through es s' said → EndSays (file_of es) (at ended s' said)
     -- 1: inside the opening, a header, or an event
-    cut_opening : (n : ℕ) → n < 4 → EndSays (take n the_opening) (at (stopped refusals.ended 0) s [])
+    cut_opening : (n : ℕ) → n < 4 → EndSays (take n the_opening) (at (stopped (stop_for refusals.ended) 0) s [])
     cut_header : {es : List FileEvent} {s' : S} {said : List A} (came : List ℕ) → Through es s' said → 0 < length came → length came < 19
-        → EndSays (file_of es ++ came) (at (stopped refusals.ended 0) s' said)
+        → EndSays (file_of es ++ came) (at (stopped (stop_for refusals.ended) 0) s' said)
     cut_event : {es : List FileEvent} {s' : S} {said : List A} (header came : List ℕ) → Through es s' said → HeaderFine t header
-        → 19 + length came < size_in header → EndSays (file_of es ++ (header ++ came)) (at (stopped refusals.ended 0) s' said)
+        → 19 + length came < size_in header → EndSays (file_of es ++ (header ++ came)) (at (stopped (stop_for refusals.ended) 0) s' said)
     -- a refusal that came before stays
-    stays : {bs : List ℕ} {s' : S} {said : List A} {r : Refusal} {n : ℕ} → Says bs (at (stopped r n) s' said) → EndSays bs (at (stopped r n) s' said)
+    stays : {bs : List ℕ} {s' : S} {said : List A} {r : Stop} {n : ℕ} → Says bs (at (stopped r n) s' said) → EndSays bs (at (stopped r n) s' said)

@@ -1,13 +1,13 @@
 -- A run over a file that arrives in chunks, whatever its events do to what is kept: `does` says it of an event's type and body.
 use Rattle.std.specs.Prelude.{ℕ, Bool, true, false, List, [], ◌∷◌, ◌++◌}
 use Rattle.misc.specs.Refusal as refusals
-use Rattle.misc.specs.Refusal.{Refusal}
+use Rattle.binlog.specs.Stop.{Stop, stop_for}
 use Rattle.binlog.specs.Place.{Place, opening, heading, inside, passing, whole, ended, stopped, next}
 
 -- what an event comes to: an answer and what is kept then; or a refusal, and the length that it names
 pub data Done (S A : Type 0) : Type 0 where
   did : A → S → Done S A
-  fails : Refusal → ℕ → Done S A
+  fails : Stop → ℕ → Done S A
 
 -- the place in the file, what is kept, and the answers so far
 pub data Run (S A : Type 0) : Type 0 where
@@ -15,11 +15,11 @@ pub data Run (S A : Type 0) : Type 0 where
 
 -- the end is named: well between two events; elsewhere it is 1, and a refusal stays
 abbrev pub end_of : Place → Place
-end_of (opening n) = stopped refusals.ended 0
+end_of (opening n) = stopped (stop_for refusals.ended) 0
 end_of (heading []) = ended
-end_of (heading (b ∷ came)) = stopped refusals.ended 0
-end_of (inside type n came) = stopped refusals.ended 0
-end_of (passing n) = stopped refusals.ended 0
+end_of (heading (b ∷ came)) = stopped (stop_for refusals.ended) 0
+end_of (inside type n came) = stopped (stop_for refusals.ended) 0
+end_of (passing n) = stopped (stop_for refusals.ended) 0
 end_of (whole type body) = whole type body
 end_of ended = ended
 end_of (stopped r n) = stopped r n

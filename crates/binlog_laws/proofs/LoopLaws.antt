@@ -6,6 +6,7 @@ use mathlib.Core.List.{List, [], ◌∷◌, ◌++◌, append-nil, append_assoc}
 use lib.ListN.{length, take, drop}
 use lib.Seq.{drop-length}
 use Rattle.misc.specs.Refusal.{not_a_set}
+use Rattle.binlog.specs.Stop.{stop_for}
 use Rattle.binlog.specs.Format.{trailer}
 use Rattle.binlog.specs.Place.{Place}
 use Rattle.binlog.specs.Run.{at, Word, chunk, end_of, feed, hear}
@@ -130,5 +131,5 @@ begin-stands m set checksums is front enough = record {
     begin-between (form s) = refl
 
     begin-place : (l : Lent) (w : List ℕ) → work_len ≤ length w → place_of (phase_of (begins_at l)) w ≡ begins_at l
-    begin-place unfit w h = place-stopped not_a_set 0 w
+    begin-place unfit w h = place-stopped (stop_for not_a_set) 0 w
     begin-place (form s) w h = place-begin w h

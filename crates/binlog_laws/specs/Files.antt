@@ -1,6 +1,5 @@
 -- What reading a file comes to, as it arrives, and demand 3 over its events, in the words of `History` of resume_set_laws.
 use Rattle.std.specs.Prelude.{ℕ, ◌≡◌, Bool, false, ◌||◌, List, [], ◌∷◌, ◌++◌}
-use Rattle.misc.specs.Refusal.{number}
 use Rattle.misc.specs.Parse.{Parse, refuse, parsed, Bytes}
 use Rattle.packets.specs.Key.{Key}
 use Rattle.previous_gtids_event.specs.Entry.{Entry}
@@ -10,6 +9,7 @@ use Rattle.gtid_sets.specs.Lent.{form, lent_set, SetLaid}
 use Rattle.resume_set.specs.Answers.{event_of}
 use Rattle.resume_set_laws.specs.History.{Ids, none, all, among, Outcome, refused, accepted, member, id_of}
 use Rattle.binlog.specs.Format.{trailer}
+use Rattle.binlog.specs.Stop.{stop_number}
 use Rattle.binlog.specs.Run.{Done, did, fails, at, Word, chunk, end, hear}
 use Rattle.binlog_reader.specs.Does.{Judged, does}
 use Rattle.binlog_reader.specs.Step.{SetRun, said_at, begins_at}
@@ -35,7 +35,7 @@ ids_of j = told_ids j.told j.type j.body
 
 abbrev pub done_in : Done (List ℕ) Judged → Outcome
 done_in (did j set) = accepted (ids_of j) set
-done_in (fails r n) = refused (number r) n
+done_in (fails r n) = refused (stop_number r) n
 
 -- an event: its type and its body
 pub record FileTurn : Type 0 where

@@ -1,3 +1,2 @@
 pub mod DoesLaws
 pub mod SettleLaws
-pub mod StepLaws

@@ -1,7 +1,8 @@
 -- What an event does to the bytes of the set that is kept: types 33, 34 and 42 are offered, type 35 is joined.
-use Rattle.std.specs.Prelude.{ℕ, ◌≤◌, ◌≡◌, List, ◌++◌, length, take, drop, leb, eqb}
+use Rattle.std.specs.Prelude.{ℕ, ◌≤◌, ◌≡◌, List, ◌++◌, length, take, drop, leb, eqb, Result, Ok, Err, IfOk}
 use Rattle.misc.specs.Pick.{pick}
-use Rattle.misc.specs.Refusal.{numbered, no_room, not_a_set}
+use Rattle.misc.specs.declared.refusal.WriteError.{WriteError}
+use Rattle.misc.specs.Refusal.{not_a_set, error_number, error_needed}
 use Rattle.misc.specs.Output as output
 use Rattle.misc.specs.Output.{Output}
 use Rattle.previous_gtids_event.specs.Previous.{previous}
@@ -12,6 +13,7 @@ use Rattle.resume_set.specs.Answers.{event_of}
 use Rattle.set_join.specs.JoinIn.{joined_in}
 use Rattle.resume_set.specs.declared.Offered.{Offered}
 use Rattle.resume_set.specs.declared.Offered.TheVariants as offered
+use Rattle.binlog.specs.Stop.{numbered, stop_for, no_room}
 use Rattle.binlog.specs.Run.{Done, did, fails}
 use Rattle.binlog_reader.specs.declared.Told.{Told}
 use Rattle.binlog_reader.specs.declared.Told.TheVariants.{NoId, AlreadyThere, Taken, Joined}
@@ -31,14 +33,14 @@ abbrev pub offered_as : ℕ → Answer → List ℕ → Done (List ℕ) Told
 offered_as room no_id bs = fitted room NoId bs
 offered_as room already bs = fitted room AlreadyThere bs
 offered_as room taken bs = fitted room Taken bs
-offered_as room (refused r) bs = fails r 0
+offered_as room (refused r) bs = fails (stop_for r) 0
 
 abbrev pub offers : ℕ → Lent → Event → Done (List ℕ) Told
-offers room unfit e = fails not_a_set 0
+offers room unfit e = fails (stop_for not_a_set) 0
 offers room (form s) e = offered_as room (answer s e) (body_bytes (after s e))
 
 abbrev pub joins : ℕ → Output → Done (List ℕ) Told
-joins room (output.refused r) = fails r 0
+joins room (output.refused r) = fails (stop_for r) 0
 joins room (output.bytes bs) = fitted room Joined bs
 
 abbrev pub tells : ℕ → List ℕ → Done (List ℕ) Told → Done (List ℕ) Judged
@@ -57,20 +59,21 @@ does room set type body = tells type body (acts room set type body)
 
 -- an offer's answer
 abbrev pub acted_as : Offered → Acted
-acted_as (offered.NoId n) = record { refusal = 0; told = NoId; len = n }
-acted_as (offered.AlreadyThere n) = record { refusal = 0; told = AlreadyThere; len = n }
-acted_as (offered.Taken n) = record { refusal = 0; told = Taken; len = n }
-acted_as (offered.Refused r n) = record { refusal = r; told = NoId; len = n }
+acted_as (offered.NoId n) = record { told = NoId; len = n }
+acted_as (offered.AlreadyThere n) = record { told = AlreadyThere; len = n }
+acted_as (offered.Taken n) = record { told = Taken; len = n }
 
--- what was answered and written, as what an event does, lent the output `before`
-abbrev pub done_of : Acted → List ℕ → Done (List ℕ) Told
-done_of a out = pick (eqb a.refusal 0) (did a.told (take a.len out)) (fails (numbered a.refusal) a.len)
+-- what was answered and written, as what an event does
+abbrev pub done_of : Result Acted WriteError → List ℕ → Done (List ℕ) Told
+done_of (Ok a) out = did a.told (take a.len out)
+done_of (Err e) out = fails (numbered (error_number e)) (error_needed e)
 
 abbrev pub left_in : List ℕ → Done (List ℕ) Told → List ℕ
 left_in before (did t bs) = bs ++ drop (length bs) before
 left_in before (fails r n) = before
 
-pub record ActedIs (wanted : Done (List ℕ) Told) (before out : List ℕ) (a : Acted) : Type 0 where
-  pub is : done_of a out ≡ wanted
-  pub fit : a.refusal ≡ 0 → a.len ≤ length out
+-- lent the output `before`
+pub record ActedIs (wanted : Done (List ℕ) Told) (before out : List ℕ) (r : Result Acted WriteError) : Type 0 where
+  pub is : done_of r out ≡ wanted
+  pub fit : IfOk r (λ a. a.len ≤ length out)
   pub leaves : out ≡ left_in before wanted

@@ -1,7 +1,8 @@
 -- A step through a chunk: a walk up to the first event that is whole, a refusal or the chunk's end; such an event is judged at once.
 use Rattle.std.specs.Prelude.{ℕ, min, Bool, List, [], ◌∷◌, ◌++◌, length, take, drop}
-use Rattle.misc.specs.Refusal.{number, not_a_set}
+use Rattle.misc.specs.Refusal.{not_a_set}
 use Rattle.binlog.specs.Format.{trailer}
+use Rattle.binlog.specs.Stop.{stop_number, stop_for}
 use Rattle.binlog.specs.Place.{Place, opening, heading, inside, passing, whole, ended, stopped}
 use Rattle.binlog.specs.Run.{Run, at, answered, settled}
 use Rattle.binlog.specs.Walk.{Walk, reached, walked}
@@ -46,7 +47,7 @@ said_at (inside type n came) = MoreWanted
 said_at (passing n) = MoreWanted
 said_at (whole type body) = MoreWanted
 said_at ended = Ended
-said_at (stopped r n) = Refused (number r) n
+said_at (stopped r n) = Refused (stop_number r) n
 
 -- what a step says: an event's answer, with its type and the length of its body; or how the reader is
 abbrev pub said_of : SetRun → Said
@@ -81,7 +82,7 @@ step_holds (at p set (j ∷ js)) = j.body
 -- ---- `begin` and `end`
 
 abbrev pub begins_at : Lent → Place
-begins_at unfit = stopped not_a_set 0
+begins_at unfit = stopped (stop_for not_a_set) 0
 begins_at (form s) = opening 0
 
 -- a reader at a place, of a set of so many bytes

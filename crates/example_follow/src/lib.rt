@@ -14,12 +14,11 @@ pub enum Then {
 }
 
 pub fn at_gtid_event(set: &[u8], event_type: u8, body: &[u8], next: &mut [u8]) -> Then {
-    let offered = offer(set, event_type, body, next);
-    match offered {
-        Offered::Taken(len) => Then::Copy(len),
+    match offer(set, event_type, body, next) {
+        Ok(Offered::Taken(len)) => Then::Copy(len),
         // No id: the set can't tell whether it was copied before, so it is copied.
-        Offered::NoId(len) => Then::Copy(len),
-        Offered::AlreadyThere(_) => Then::PassOver,
-        Offered::Refused(number, _) => Then::Stop(number),
+        Ok(Offered::NoId(len)) => Then::Copy(len),
+        Ok(Offered::AlreadyThere(_)) => Then::PassOver,
+        Err(error) => Then::Stop(error.number()),
     }
 }

@@ -6,7 +6,7 @@ use mathlib.Core.List.{List, []}
 use lib.ListN.{get_or, drop, set}
 use Rattle.packets.specs.Kept.{padded}
 use Rattle.packets.specs.Tag.{is_tag}
-use Rattle.gtid_event.specs.Event.{new_untagged, new_tagged, with_tag, set_number}
+use Rattle.gtid_event.specs.Event.{undefined_version, fresh, new_untagged, new_tagged, with_tag, set_number, set_tag}
 use Rattle.gtid_event.specs.Parts.{parts, only, tag_part, new_parts, Gives, IsNumber, Built}
 use Rattle.gtid_event.specs.declared.GtidEvent.{GtidEvent}
 
@@ -63,11 +63,11 @@ with_number IsNumber.commit_group_ticket v e = refl
 
 with_tag_lem : (tag : List ℕ) (e : GtidEvent) → is_tag tag ≡ true → Gives (with_tag tag e) (set (parts e) 3 (tag_part tag))
 unfolding with_tag
-with_tag_lem tag e is = rw is (refl, refl)
+with_tag_lem tag e is = (set_tag tag e, rw is, refl)
 
 new_tagged_lem : (sid tag : List ℕ) (gno : ℕ) → is_tag tag ≡ true → Gives (new_tagged sid tag gno) (new_parts sid tag gno 0)
-unfolding new_tagged with_tag
-new_tagged_lem sid tag gno is = rw is (refl, refl)
+unfolding new_tagged
+new_tagged_lem sid tag gno is = with_tag_lem tag (fresh sid gno 0 undefined_version) is
 
 pub built : Built
 built = record {

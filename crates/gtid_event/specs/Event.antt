@@ -1,15 +1,20 @@
 -- The GTID record: its first values, and what each building step makes of it. A tag of length 0 is none, and so is typecode 0.
-use Rattle.std.specs.Prelude.{ℕ, Bool, List, length, replicate, ltb, eqb}
+use mathlib.Core.Logic.{◌⊎◌}
+use Rattle.std.specs.Prelude.{ℕ, ◌≡◌, Bool, List, length, replicate, ltb, eqb, Result, Ok, Err}
 use Rattle.misc.specs.Pick.{pick}
-use Rattle.misc.specs.Refusal.{number, bad_tag}
+use Rattle.misc.specs.Refusal.{bad_tag}
+use Rattle.misc.specs.declared.refusal.Refusal.{Refusal}
 use Rattle.packets.specs.Kept.{padded}
 use Rattle.packets.specs.Tag.{is_tag}
-use Rattle.gtid_event.specs.declared.EventStep.{EventStep}
 use Rattle.gtid_event.specs.declared.GtidEvent.{GtidEvent}
 
 -- the server version that stands for an unknown one; a new record has it in both versions
 abbrev pub undefined_version : ℕ
 undefined_version = 999999
+
+-- a pair's numbers have so many bytes: commit timestamps seven, server versions four
+abbrev pub IsWidth : ℕ → Type 0
+IsWidth width = (width ≡ 7) ⊎ (width ≡ 4)
 
 -- all zero but for uuid, gno, typecode and server versions
 abbrev pub fresh : List ℕ → ℕ → ℕ → ℕ → GtidEvent
@@ -31,7 +36,7 @@ fresh sid gno typecode version =
       commit_group_ticket = 0;
     }
 
--- the record that a refusal hands out
+-- no event: zeros
 abbrev pub no_event : GtidEvent
 no_event = fresh (replicate 16 0) 0 0 0
 
@@ -101,10 +106,10 @@ set_tag tag e = set_others e.sid (padded 32 tag) (length tag) e.lc_typecode e
 abbrev pub set_typecode : ℕ → GtidEvent → GtidEvent
 set_typecode typecode e = set_others e.sid e.tag e.tag_len typecode e
 
--- the record with a tag, or refusal 6 and no record
-unfoldable pub with_tag : List ℕ → GtidEvent → EventStep
-with_tag tag e = pick (is_tag tag) (record { refusal = 0; event = set_tag tag e }) (record { refusal = number bad_tag; event = no_event })
+-- the record with a tag, if it is one
+unfoldable pub with_tag : List ℕ → GtidEvent → Result GtidEvent Refusal
+with_tag tag e = pick (is_tag tag) (Ok (set_tag tag e)) (Err bad_tag)
 
 -- a new tagged record: no typecode
-unfoldable pub new_tagged : List ℕ → List ℕ → ℕ → EventStep
+unfoldable pub new_tagged : List ℕ → List ℕ → ℕ → Result GtidEvent Refusal
 new_tagged sid tag gno = with_tag tag (fresh sid gno 0 undefined_version)

@@ -1,9 +1,9 @@
 -- The building of a record told once more, part by part: which parts a new record has, and that each step changes its own part alone.
-use Rattle.std.specs.Prelude.{ℕ, ◌≡◌, true, List, [], ◌∷◌, length, set}
+use Rattle.std.specs.Prelude.{ℕ, ◌≡◌, true, List, [], ◌∷◌, length, set, Result, Ok}
+use Rattle.misc.specs.declared.refusal.Refusal.{Refusal}
 use Rattle.packets.specs.Kept.{padded}
 use Rattle.packets.specs.Tag.{is_tag}
 use Rattle.gtid_event.specs.Event.{new_untagged, new_tagged, with_tag, set_number, set_sid, set_typecode}
-use Rattle.gtid_event.specs.declared.EventStep.{EventStep}
 use Rattle.gtid_event.specs.declared.GtidEvent.{GtidEvent}
 
 -- a number as a part
@@ -40,8 +40,8 @@ new_parts sid tag gno typecode =
     ∷ only 999999 ∷ only 999999 ∷ only 0 ∷ only typecode ∷ []
 
 -- not refused, and a record with these parts
-abbrev pub Gives : EventStep → List (List ℕ) → Type 0
-Gives r ps = (r.refusal ≡ 0) × (parts r.event ≡ ps)
+abbrev pub Gives : Result GtidEvent Refusal → List (List ℕ) → Type 0
+Gives r ps = (e : GtidEvent) × (r ≡ Ok e) × (parts e ≡ ps)
 
 -- the parts that are numbers
 pub data IsNumber : ℕ → Type 0 where

@@ -1,12 +1,12 @@
-// The record of a GTID event, traditional or tagged, by value, and the steps that build it. Each step hands the changed record
-// back; a tag that breaks its rule is refusal 6 and hands back none.
+// The record of a GTID event, traditional or tagged, by value, and the steps that build it. Each step is public and has the name of the
+// part that it changes, so none are merged: it takes the record and hands it back; a tag that breaks its rule is refused.
 #![tactic(auto)]
 
 ghost use Rattle.std.specs.Prelude.{◌≡◌};
 ghost use Rattle.gtid_event.specs.Event.{fresh, no_event, new_untagged, new_tagged, with_tag, set_number, set_sid, set_typecode, tagged, type_of};
 
 use misc::UUID_LEN;
-use misc::refusal::BAD_TAG;
+use misc::refusal::Refusal;
 use packets::{MAX_TAG, is_tag, tag_bytes};
 
 pub mod field_id;
@@ -36,7 +36,8 @@ pub const MOST_OF_BYTE: u64 = 0xff;
 
 pub const MOST_OF_VERSION: u64 = 0xffff_ffff;
 
-// A GTID event. The tag stands in the first tag_len bytes of its field; 0 is no tag. Typecode 0 is none.
+// A GTID event. The tag stands in the first tag_len bytes of its field; 0 is no tag. Typecode 0 is none. The record is a plain value in
+// fixed memory, with no heap and nothing borrowed, so the tag is an array and a length.
 #[derive(Clone, Copy)]
 pub struct GtidEvent {
     pub flags: u8,
@@ -53,13 +54,6 @@ pub struct GtidEvent {
     pub immediate_server_version: u32,
     pub original_server_version: u32,
     pub commit_group_ticket: u64,
-}
-
-// A changed record, or a refusal and zeros.
-#[derive(Clone, Copy)]
-pub struct EventStep {
-    pub refusal: u8,
-    pub event: GtidEvent,
 }
 
 impl GtidEvent {
@@ -85,7 +79,7 @@ impl GtidEvent {
         }
     }
 
-    // The record that a refusal hands out: zeros.
+    // No event: zeros.
     pub fn none() -> Self
         ensures { result ≡ no_event }
     {
@@ -105,11 +99,11 @@ impl GtidEvent {
     }
 
     // A new tagged event.
-    pub fn new_tagged(sid: [u8; UUID_LEN], tag: &[u8], gno: u64) -> EventStep
+    #[tactic(auto, unfolding(crate::specs::Event::new_tagged))]
+    pub fn new_tagged(sid: [u8; UUID_LEN], tag: &[u8], gno: u64) -> Result<Self, Refusal>
         ensures { result ≡ new_tagged sid tag.now gno }
     {
-        let event = Self::fresh(sid, gno, 0, UNDEFINED_SERVER_VERSION);
-        event.with_tag(tag)
+        Self::fresh(sid, gno, 0, UNDEFINED_SERVER_VERSION).with_tag(tag)
     }
 
     pub fn is_tagged(self) -> bool
@@ -121,29 +115,22 @@ impl GtidEvent {
     pub fn event_type(self) -> u8
         ensures { result ≡ type_of self }
     {
-        if 0 < self.tag_len {
+        if self.is_tagged() {
             return GTID_TAGGED_LOG_EVENT;
         }
         GTID_EVENT
     }
 
     // With a tag. All else stays: the typecode, as in the Rust, and the versions, whatever they are.
-    pub fn with_tag(mut self, tag: &[u8]) -> EventStep
+    pub fn with_tag(mut self, tag: &[u8]) -> Result<Self, Refusal>
         ensures { result ≡ with_tag tag.now self }
     {
         if is_tag(tag) {
-            let bytes = tag_bytes(tag);
-            self.tag = bytes;
+            self.tag = tag_bytes(tag);
             self.tag_len = tag.len() as u8;
-            return EventStep {
-                refusal: 0,
-                event: self,
-            };
+            return Ok(self);
         }
-        EventStep {
-            refusal: BAD_TAG,
-            event: Self::none(),
-        }
+        Err(Refusal::BadTag)
     }
 
     pub fn with_lc_typecode(mut self) -> Self

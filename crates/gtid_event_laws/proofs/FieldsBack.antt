@@ -18,7 +18,8 @@ use Rattle.packets.specs.Tag.{is_tag}
 use Rattle.packets.proofs.Tests.{split}
 use Rattle.packets.proofs.TagLaws.{tag-at-most-32}
 use Rattle.gtid_event_read.specs.declared.Fields.{Fields}
-use Rattle.gtid_event_read.specs.Fields.{Kind, any_number, up_to, natural, kind_of, with_number, with_uuid, with_tag_bytes, limited_at, uuid_at, tag_at, value_at}
+use Rattle.gtid_event_read.specs.Fields.{Kind, any_number, up_to, natural, kind_of, with_number, with_uuid, with_tag_bytes}
+use Rattle.gtid_event_read.specs.Fields.{limited_at, uuid_at, tag_at, value_at}
 use Rattle.gtid_event_read.specs.Fields.{field_at, fields_from}
 use Rattle.gtid_event_write.specs.Layout.{number_bytes, unless_bytes, items_bytes}
 use Rattle.gtid_event_laws.proofs.Stands.{Stands, each, bytes-stand, varlen-stands}

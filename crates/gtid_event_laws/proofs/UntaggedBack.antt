@@ -21,7 +21,8 @@ use Rattle.packets.proofs.Tests.{split}
 use Rattle.gtid_event.specs.Event.{undefined_version, tagged}
 use Rattle.gtid_event.specs.declared.GtidEvent.{GtidEvent}
 use Rattle.gtid_event.proofs.BuiltLaws.{same-event}
-use Rattle.gtid_event_read.specs.Untagged.{Pair, pair, pair_at, timestamps_at, length_at, versions_at, opened, opening_at, clocked, clock_at, typecode_at, untagged}
+use Rattle.gtid_event_read.specs.Untagged.{Pair, pair, pair_at, timestamps_at, length_at, versions_at, opened, opening_at}
+use Rattle.gtid_event_read.specs.Untagged.{clocked, clock_at, typecode_at, untagged}
 use Rattle.gtid_event_read.specs.Untagged.{if_left}
 use Rattle.gtid_event_write.specs.Writable.{writable}
 use Rattle.gtid_event_write.specs.Layout.{pair_bytes, opening_bytes, later_bytes, untagged_bytes}

@@ -1,30 +1,26 @@
 -- Laws of the fields (`specs/Fields.antt`), in the form in which the functions over one field and over all of them use them.
-use mathlib.Core.Path.{◌≡◌, refl, sym, ap, subst, ◌∙◌}
-use mathlib.Core.Bool.{true, false}
+use mathlib.Core.Path.{◌≡◌, refl, ap, ◌∙◌}
 use mathlib.Core.List.{List, [], ◌++◌, append_assoc, append-nil}
 use Prim.Native.Nat.{ℕ, zero, suc, ◌+◌, ◌-◌, ◌≤◌, ◌<◌}
-use native.Mathlib.Nat.{add-sub_cancel_left}
 use native.Mathlib.Numerals.{add-one}
 use native.Mathlib.Omega.{arith}
 use lib.Dec.{leb}
 use lib.IntN.{ℤ, pos, negsuc}
-use lib.ListN.{length, take, set, get_or-eq_default}
+use lib.ListN.{length, take, set}
 use lib.Seq.{take_all, take-suc-set}
 use borrow.Author.Tests.{leb-true, lt-ltb, le-ltb}
-use Rattle.misc.specs.Refusal.{ended, too_large, bad_tag}
-use Rattle.misc.specs.Parse.{Parse, refuse, parsed, and_then, mapped, many, part, bytes_at}
+use Rattle.misc.specs.Refusal.{too_large, bad_tag}
+use Rattle.misc.specs.declared.refusal.Refusal.{Refusal}
+use Rattle.misc.specs.Parse.{Parse, refuse, parsed, and_then, mapped, many, bytes_at}
 use Rattle.misc.specs.Varlen.{varlen_at}
 use Rattle.misc.specs.Signed.{natural_at, signed_at, meant_by, not_negative}
-use Rattle.misc.proofs.ParseLaws.{never, then-parsed, mapped-parsed, judged-parsed, pick-either, bytes-here, bytes-gone, bytes-parsed}
+use Rattle.misc.proofs.ParseLaws.{never, then-parsed, mapped-parsed, judged-parsed, pick-either, bytes-parsed}
 use Rattle.misc.proofs.Walk.{SoFar, ahead, walk-next, walk_refused, walk_end}
 use Rattle.misc.proofs.Forward.{varlen-forward}
 use Rattle.packets.specs.Tag.{is_tag}
-use Rattle.gtid_event_read.specs.Fields.{Kind, any_number, up_to, natural, uuid, tag, unknown, field_table, kind_of, no_fields, with_number, with_uuid}
+use Rattle.gtid_event_read.specs.Fields.{Kind, any_number, up_to, natural, uuid, tag, unknown, kind_of, no_fields, with_number, with_uuid}
 use Rattle.gtid_event_read.specs.Fields.{with_tag_bytes, limited_at, uuid_at, tag_at, value_at, field_at, fields_from, fields_of}
-use Rattle.gtid_event_read.specs.Told.{Told, ToldPart}
 use Rattle.gtid_event_read.specs.declared.Fields.{Fields}
-use Rattle.gtid_event_read.specs.declared.field.FieldsRead.{FieldsRead}
-use Rattle.gtid_event_read.proofs.Telling.{got, stopped, refused-by, stops-mapped, passes}
 
 -- ---- an integer with a limit
 pub limited-parsed : (limit : ℕ) (s : List ℕ) (at v next : ℕ) → limited_at limit s at ≡ parsed v next → (varlen_at s at ≡ parsed v next) × (v ≤ limit)
@@ -57,64 +53,18 @@ uuid-end done at h = rw (append-nil, take_all 16 done (omega arith))
 
 module _ (s : List ℕ) (at : ℕ) (done : List ℕ) (next i : ℕ) (all : length done ≡ 16)
     (so_far : SoFar uuid_after (limited_at 255 s) 16 (uuid_at s at) (take i done) next i) where
-  pub uuid-done : i ≡ 16 → Told (uuid_at s at) 0 done next
-  uuid-done e = got (walk_end uuid_after (limited_at 255 s) 16 (uuid_at s at) (take i done) next i so_far e ∙ rw e (uuid-end done next all))
+  pub uuid-done : i ≡ 16 → uuid_at s at ≡ parsed done next
+  uuid-done e = walk_end uuid_after (limited_at 255 s) 16 (uuid_at s at) (take i done) next i so_far e ∙ rw e (uuid-end done next all)
 
-  module _ (h : i < 16) {refusal v m : ℕ} (told : Told (limited_at 255 s next) refusal v m) where
-    pub uuid-turn : refusal ≡ 0 → SoFar uuid_after (limited_at 255 s) 16 (uuid_at s at) (take (i + 1) (set done i v)) m (i + 1)
-    uuid-turn z =
-        walk-next uuid_after (limited_at 255 s) 16 (uuid_at s at) (take i done) next i so_far h v m (told.found z)
+  module _ (h : i < 16) where
+    pub uuid-turn : (v m : ℕ) → limited_at 255 s next ≡ parsed v m
+        → SoFar uuid_after (limited_at 255 s) 16 (uuid_at s at) (take (i + 1) (set done i v)) m (i + 1)
+    uuid-turn v m e =
+        walk-next uuid_after (limited_at 255 s) 16 (uuid_at s at) (take i done) next i so_far h v m e
         (take (i + 1) (set done i v)) (uuid-next done i v (omega arith))
 
-    pub uuid-stops : (refusal ≡ 0 → ⊥) → {l : List ℕ} {last : ℕ} → Told (uuid_at s at) refusal l last
-    uuid-stops ne =
-        let (x, e, n) = refused-by told ne in
-        stopped x n (walk_refused uuid_after (limited_at 255 s) 16 (uuid_at s at) (take i done) next i so_far h x e)
-
--- ---- bytes after their length
-module _ (s : List ℕ) (start n : ℕ) where
-  pub string-here : start + n ≤ length s → Told (bytes_at n s start) 0 (part s start (start + n - start)) (start + n)
-  string-here h = rw (add-sub_cancel_left start n) (got (bytes-here n s start h))
-
-  pub string-gone : length s < start + n → {a : List ℕ} {next : ℕ} → Told (bytes_at n s start) 1 a next
-  string-gone h = stopped ended refl (bytes-gone n s start h)
-
-module _ (s : List ℕ) (at : ℕ) (f : Fields) {refusal start end : ℕ}
-    (read : ToldPart s (and_then (varlen_at s at) (λ (n from : ℕ). bytes_at n s from)) refusal start end) where
-  pub tag-refused : (refusal ≡ 0 → ⊥) → {g : Fields} {next : ℕ} → Told (mapped (with_tag_bytes f) (tag_at s at)) refusal g next
-  unfolding tag_at
-  tag-refused ne = stops-mapped (passes is_tag bad_tag read.told (λ z. absurd (ne z))) ne (with_tag_bytes f)
-
-  pub tag-bad : refusal ≡ 0 → is_tag (part s start (end - start)) ≡ false → {g : Fields} {next : ℕ} → Told (mapped (with_tag_bytes f) (tag_at s at)) 6 g next
-  unfolding tag_at
-  tag-bad z isnt = stopped bad_tag refl (rw (read.told.found z, isnt))
-
-  pub tag-here : refusal ≡ 0 → is_tag (part s start (end - start)) ≡ true
-      → Told (mapped (with_tag_bytes f) (tag_at s at)) 0 (with_tag_bytes f (part s start (end - start))) end
-  unfolding tag_at
-  tag-here z is = got (rw (read.told.found z, is))
-
--- what a function that keeps a value answers
-pub answered : {p : Parse Fields} {refusal : ℕ} {g : Fields} {next : ℕ} (o : FieldsRead)
-    → o ≡ record { refusal = refusal; fields = g; next = next } → Told p refusal g next → Told p o.refusal o.fields o.next
-answered o is told = rw is told
-
--- ---- which field: k is the id of one that the table has
-pub at-id : (s : List ℕ) (last : ℕ) (f : Fields) (at id k : ℕ) → id ≡ k → {r : ℕ} {g : Fields} {next : ℕ}
-    → Told (value_at (kind_of k) last id s f at) r g next → Told (value_at (kind_of id) last id s f at) r g next
-at-id s last f at id k e {r} {g} {next} told = subst (λ (n : ℕ). Told (value_at (kind_of n) last id s f at) r g next) (sym e) told
-
--- an id that is none of the n lowest
-abbrev Passed : ℕ → ℕ → Type 0
-Passed zero id = Unit
-Passed (suc n) id = Passed n id × (id ≡ n → ⊥)
-
-passed : (n id : ℕ) → Passed n id → n ≤ id
-passed zero id p = omega arith
-passed (suc n) id p = omega (arith, passed n id p.0, p.1)
-
-pub no_kind : (id : ℕ) → Passed 12 id → kind_of id ≡ unknown
-no_kind id p = get_or-eq_default field_table unknown (passed 12 id p)
+    pub uuid-stops : {x : Refusal} → limited_at 255 s next ≡ refuse x → uuid_at s at ≡ refuse x
+    uuid-stops {x} e = walk_refused uuid_after (limited_at 255 s) 16 (uuid_at s at) (take i done) next i so_far h x e
 
 -- ---- places: a field ends behind its start
 module _ (s : List ℕ) where
@@ -221,9 +171,7 @@ module _ (last : ℕ) (s : List ℕ) (f : Fields) (at : ℕ) where
         let (n, k, is) = turn h in
         record { bound = n; enough = omega (arith, field-forward s last f at e); is = is ∙ rw e }
 
-    pub fields-stop : at < length s → {refusal : ℕ} {g : Fields} {next : ℕ} → Told (field_at last s f at) refusal g next → (refusal ≡ 0 → ⊥)
-        → Told (fields_of last s) refusal g next
-    fields-stop h told ne =
+    pub fields-stop : at < length s → {x : Refusal} → field_at last s f at ≡ refuse x → fields_of last s ≡ refuse x
+    fields-stop h e =
         let (n, k, is) = turn h in
-        let (x, e, m) = refused-by told ne in
-        stopped x m (is ∙ ap (λ (q : Parse Fields). and_then q (λ more next. fields_from n last s more next)) e)
+        is ∙ ap (λ (q : Parse Fields). and_then q (λ more next. fields_from n last s more next)) e

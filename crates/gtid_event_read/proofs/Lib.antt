@@ -1,6 +1,5 @@
--- Laws of this crate's definitions: in the form in which its functions use them (`Telling`, `UntaggedLaws`, `FieldLaws`, `TaggedLaws`,
+-- Laws of this crate's definitions: in the form in which its functions use them (`UntaggedLaws`, `FieldLaws`, `TaggedLaws`,
 -- `ReadLaws`, `PresentLaws`), and what holds of every record that is read (`FieldRanges`, `Ranges`).
-pub mod Telling
 pub mod UntaggedLaws
 pub mod FieldLaws
 pub mod FieldRanges

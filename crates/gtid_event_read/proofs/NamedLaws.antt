@@ -5,14 +5,15 @@ use mathlib.Core.Logic.{◌⊎◌, inl, inr}
 use mathlib.Core.List.{List}
 use native.Mathlib.Omega.{arith}
 use lib.ListN.{length, length-append, length-replicate}
-use Rattle.misc.specs.Refusal.{Refusal, number}
+use Rattle.misc.specs.declared.refusal.Refusal.{Refusal}
 use Rattle.misc.specs.Parse.{refuse, parsed, Bytes}
 use Rattle.packets.specs.Kept.{padded}
 use Rattle.packets.proofs.TagLaws.{tag-at-most-32}
 use Rattle.gtid_event.specs.declared.GtidEvent.{GtidEvent}
 use Rattle.gtid_event_read.specs.Read.{record_in, gtid, named, gtid_read}
 use Rattle.gtid_event_read.specs.declared.GtidRead.{GtidRead}
-use Rattle.gtid_event_read.proofs.Telling.{refused-by, gtid-told}
+use Rattle.gtid_event_read.proofs.ReadLaws.{record-told, record-stopped}
+use Rattle.std.specs.Prelude.{Ok, Err}
 use Rattle.gtid_event_read.proofs.PresentLaws.{named-record}
 use Rattle.gtid_event_read.proofs.Ranges.{UntaggedRange, TaggedRange, gtid-range}
 
@@ -32,12 +33,13 @@ key-parts type body ok {e} read = go (gtid-range type body ok read)
       rw t.kept (simp (length-append, length-replicate) (omega (arith, tag-at-most-32 t.tag t.valid))),
     )
 
-module _ (type : ℕ) (body : List ℕ) (said : GtidRead) (is : said ≡ gtid_read (named type body)) where
-  pub named-stopped : (said.refusal ≡ 0 → ⊥) → (x : Refusal) × (record_in (named type body) ≡ refuse x) × (said.refusal ≡ number x)
-  named-stopped h = refused-by (gtid-told (named type body) is) h
+module _ (type : ℕ) (body : List ℕ) where
+  pub named-stopped : {x : Refusal} → Err x ≡ gtid_read (named type body) → record_in (named type body) ≡ refuse x
+  named-stopped is = record-stopped (named type body) is
 
-  pub named-told : said.refusal ≡ 0 → record_in (named type body) ≡ parsed said.event said.used
-  named-told h = (gtid-told (named type body) is).found h
+  module _ {said : GtidRead} (is : Ok said ≡ gtid_read (named type body)) where
+    pub named-told : record_in (named type body) ≡ parsed said.event said.used
+    named-told = record-told (named type body) is
 
-  pub named-parts : said.refusal ≡ 0 → Bytes body → KeyParts said.event
-  named-parts h ok = key-parts type body ok (named-record type body (named-told h))
+    pub named-parts : Bytes body → KeyParts said.event
+    named-parts ok = key-parts type body ok (named-record type body named-told)

@@ -10,12 +10,14 @@ use lib.ListN.{length, get_or, drop}
 use lib.Seq.{drop-cons, drop-length}
 use Rattle.misc.specs.Pick.{pick}
 use Rattle.misc.specs.Mark.{has_bit}
-use Rattle.misc.specs.Refusal.{Refusal, absent_id}
+use Rattle.misc.specs.Refusal.{absent_id}
+use Rattle.misc.specs.declared.refusal.Refusal.{Refusal}
 use Rattle.misc.specs.Parse.{Parse, refuse, parsed, judged}
-use Rattle.misc.proofs.ParseLaws.{never, no_zero, judged-parsed, mapped-parsed, pick-either}
+use Rattle.misc.proofs.ParseLaws.{never, judged-parsed, mapped-parsed, pick-either, answered-ok, answered-err}
 use Rattle.gtid_event.specs.declared.GtidEvent.{GtidEvent}
 use Rattle.gtid_event_read.specs.Seen.{Seen, bits_of}
-use Rattle.gtid_event_read.specs.Read.{seen, record_in, gtid, sends_id, named, refused_read, gtid_read, tells_id}
+use Rattle.gtid_event_read.specs.Read.{seen, record_in, gtid, sends_id, named, told, gtid_read, tells_id}
+use Rattle.std.specs.Prelude.{Ok, Err}
 use Rattle.gtid_event_read.specs.declared.GtidRead.{GtidRead}
 
 -- ---- the bits
@@ -71,35 +73,31 @@ sent-told : (type : ℕ) (x : Seen) → tells_id type (bits_of x.present) ≡ se
 sent-told type x = rw (bit-of 1 x.present, bit-of 2 x.present)
 
 -- from what reading answered
-module _ (type : ℕ) (s : List ℕ) (said : GtidRead) (is : said ≡ gtid_read (seen type s)) where
-  pub named-broken : (said.refusal ≡ 0 → ⊥) → said ≡ gtid_read (named type s)
+module _ (type : ℕ) (s : List ℕ) where
+  pub named-broken : {x : Refusal} → Err x ≡ gtid_read (seen type s) → Err x ≡ gtid_read (named type s)
   unfolding named
-  named-broken ne = go (seen type s) is
-    where
-      go : (p : Parse Seen) → said ≡ gtid_read p → said ≡ gtid_read (judged (sends_id type) absent_id p)
-      go (refuse r) e = e
-      go (parsed x next) e = absurd (ne (ap (λ (y : GtidRead). y.refusal) e))
+  named-broken is = is ∙ rw (answered-err told (seen type s) is)
 
-  module _ (told : said.refusal ≡ 0) (sent : Bool) (bits : sent ≡ tells_id type said.present) where
-    sends : (x : Seen) {next : ℕ} → said ≡ gtid_read (parsed x next) → sends_id type x ≡ sent
-    sends x e =
-        sym (bits ∙ ap (λ (y : GtidRead). tells_id type y.present) e ∙ sent-told type x)
+  module _ {said : GtidRead} (is : Ok said ≡ gtid_read (seen type s)) {sent : Bool} (bits : sent ≡ tells_id type said.present) where
+    -- what was seen, and whether it was sent with its id
+    sends : (x : Seen) × (next : ℕ) × (seen type s ≡ parsed x next) × (said ≡ told x next) × (sends_id type x ≡ sent)
+    sends =
+        let (x, next, e, same) = answered-ok told (seen type s) is in
+        (x, next, e, same, sym (bits ∙ ap (λ (y : GtidRead). tells_id type y.present) same ∙ sent-told type x))
 
-    pub named-sent : sent ≡ true → said ≡ gtid_read (named type s)
+    pub named-sent : sent ≡ true → Ok said ≡ gtid_read (named type s)
     unfolding named
-    named-sent there = go (seen type s) is
-      where
-        go : (p : Parse Seen) → said ≡ gtid_read p → said ≡ gtid_read (judged (sends_id type) absent_id p)
-        go (refuse r) e = e
-        go (parsed x next) e = e ∙ rw (sends x e, there)
+    named-sent there =
+        let (x, next, e, same, id) = sends in
+        let has : sends_id type x ≡ true = id ∙ there in
+        rw (same, e, has)
 
-    pub named-absent : sent ≡ false → refused_read 21 ≡ gtid_read (named type s)
+    pub named-absent : sent ≡ false → Err absent_id ≡ gtid_read (named type s)
     unfolding named
-    named-absent lacks = go (seen type s) is
-      where
-        go : (p : Parse Seen) → said ≡ gtid_read p → refused_read 21 ≡ gtid_read (judged (sends_id type) absent_id p)
-        go (refuse r) e = absurd (no_zero r (sym (ap (λ (y : GtidRead). y.refusal) e) ∙ told))
-        go (parsed x next) e = rw (sends x e, lacks)
+    named-absent lacks =
+        let (x, next, e, same, id) = sends in
+        let lacks_it : sends_id type x ≡ false = id ∙ lacks in
+        rw (e, lacks_it)
 
 -- ---- what is named was seen, and its record read
 module _ (type : ℕ) (s : List ℕ) where

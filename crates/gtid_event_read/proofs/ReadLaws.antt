@@ -1,5 +1,5 @@
 -- Laws of reading by the event's type (`specs/Read.antt`): which layout is read, and that what is used lies in the body.
-use mathlib.Core.Path.{◌≡◌, sym}
+use mathlib.Core.Path.{◌≡◌, sym, ap, ◌∙◌}
 use mathlib.Core.Logic.{◌⊎◌, inl, inr}
 use mathlib.Core.Bool.{true, ◌||◌}
 use mathlib.Core.List.{List}
@@ -8,13 +8,14 @@ use native.Mathlib.Omega.{arith}
 use lib.Dec.{leb, eqb}
 use lib.ListN.{length}
 use borrow.Author.Tests.{leb-true, eqb-true, ne_eqb}
-use Rattle.misc.specs.Refusal.{Refusal, wrong_type, too_long}
+use Rattle.misc.specs.Refusal.{wrong_type, too_long}
+use Rattle.misc.specs.declared.refusal.Refusal.{Refusal}
 use Rattle.misc.specs.Parse.{Parse, refuse, parsed, mapped}
 use Rattle.misc.specs.Body.{body_limit}
 use Rattle.misc.specs.Le.{le_at}
 use Rattle.misc.specs.Lenenc.{lenenc_at}
 use Rattle.misc.specs.Mark.{has_bit, clear_bit}
-use Rattle.misc.proofs.ParseLaws.{split, never, then-parsed, mapped-parsed, pick-either, pick-parsed}
+use Rattle.misc.proofs.ParseLaws.{split, never, then-parsed, mapped-parsed, pick-either, pick-parsed, answered-ok, answered-err}
 use Rattle.misc.proofs.BodyLaws.{body-fits, body-too-long}
 use Rattle.misc.proofs.Forward.{le-forward, lenenc-forward}
 use Rattle.packets.proofs.Tests as tests
@@ -25,10 +26,9 @@ use Rattle.gtid_event_read.specs.Untagged.{Pair, pair, original_after, pair_at, 
 use Rattle.gtid_event_read.specs.Untagged.{typecode_at}
 use Rattle.gtid_event_read.specs.Untagged.{untagged}
 use Rattle.gtid_event_read.specs.Tagged.{tagged}
-use Rattle.gtid_event_read.specs.Read.{seen, record_in, gtid, gtid_read}
-use Rattle.gtid_event_read.specs.Told.{Told}
+use Rattle.gtid_event_read.specs.Read.{seen, record_in, gtid, told, gtid_read}
+use Rattle.std.specs.Prelude.{Ok, Err}
 use Rattle.gtid_event_read.specs.declared.GtidRead.{GtidRead}
-use Rattle.gtid_event_read.proofs.Telling.{gtid-told}
 use Rattle.gtid_event_read.proofs.UntaggedLaws.{opening-parsed, clock-parsed}
 use Rattle.gtid_event_read.proofs.TaggedLaws.{tagged-parsed}
 
@@ -118,10 +118,20 @@ seen-parsed type s {x} {next} p plain with-fields =
 seen-inside : (type : ℕ) (s : List ℕ) {x : Seen} {next : ℕ} → seen type s ≡ parsed x next → next ≤ length s
 seen-inside type s p = seen-parsed type s p (λ _ _ e u is. untagged-inside s u) (λ _ _ u. tagged-inside s u)
 
--- the record that reading tells
-pub gtid-said : (type : ℕ) (s : List ℕ) {r : GtidRead} → r ≡ gtid_read (seen type s) → Told (gtid type s) r.refusal r.event r.used
+-- what an answer tells of the record
+pub record-told : (p : Parse Seen) {r : GtidRead} → Ok r ≡ gtid_read p → record_in p ≡ parsed r.event r.used
+record-told p is = let (x, next, e, same) = answered-ok told p is in ap record_in e ∙ cc
+
+pub record-stopped : (p : Parse Seen) {x : Refusal} → Err x ≡ gtid_read p → record_in p ≡ refuse x
+record-stopped p is = ap record_in (answered-err told p is)
+
+pub gtid-said : (type : ℕ) (s : List ℕ) {r : GtidRead} → Ok r ≡ gtid_read (seen type s) → gtid type s ≡ parsed r.event r.used
 unfolding gtid
-gtid-said type s is = gtid-told (seen type s) is
+gtid-said type s is = record-told (seen type s) is
+
+pub gtid-stopped : (type : ℕ) (s : List ℕ) {x : Refusal} → Err x ≡ gtid_read (seen type s) → gtid type s ≡ refuse x
+unfolding gtid
+gtid-stopped type s is = record-stopped (seen type s) is
 
 -- it is that of what is seen
 pub gtid-parsed : (type : ℕ) (s : List ℕ) {e : GtidEvent} {next : ℕ} → gtid type s ≡ parsed e next → (x : Seen) × (seen type s ≡ parsed x next) × (e ≡ x.event)

@@ -14,10 +14,7 @@ use Rattle.misc.proofs.ParseLaws.{never, then-parsed, judged-parsed, pick-parsed
 use Rattle.gtid_event_read.specs.Seen.{Seen}
 use Rattle.gtid_event_read.specs.Fields.{fields_of}
 use Rattle.gtid_event_read.specs.Tagged.{seen_of, finished, payload_at, tagged}
-use Rattle.gtid_event_read.specs.Read.{refused_read, gtid_read}
-use Rattle.gtid_event_read.specs.Told.{Told}
 use Rattle.gtid_event_read.specs.declared.Fields.{Fields}
-use Rattle.gtid_event_read.proofs.Telling.{got, refused-by}
 
 -- ---- the envelope
 module _ (s : List ℕ) where
@@ -30,12 +27,12 @@ module _ (s : List ℕ) where
   tagged-other h ne = rw (byte-here s 0 h, ne_eqb (get_or s 0 0) 2 ne)
 
   module _ (h : 1 ≤ length s) (two : get_or s 0 0 ≡ 2) where
-    pub version-here : Told (judged (λ (version : ℕ). eqb version 2) wrong_version (byte_at s 0)) 0 (get_or s 0 0) 1
-    version-here = got (rw (byte-here s 0 h, eq-eqb (get_or s 0 0) 2 two))
+    pub version-here : judged (λ (version : ℕ). eqb version 2) wrong_version (byte_at s 0) ≡ parsed (get_or s 0 0) 1
+    version-here = rw (byte-here s 0 h, eq-eqb (get_or s 0 0) 2 two)
 
     pub tagged-here : {size at last start : ℕ} → varlen_at s 1 ≡ parsed size at → varlen_at s at ≡ parsed last start → tagged s ≡ payload_at s size last start
     unfolding tagged
-    tagged-here p q = rw (version-here.found refl, p, q)
+    tagged-here p q = rw (version-here, p, q)
 
 -- ---- the payload
 module _ (s : List ℕ) (size last start : ℕ) where
@@ -45,18 +42,6 @@ module _ (s : List ℕ) (size last start : ℕ) where
   module _ (large : start ≤ size) where
     pub payload_cut : length s < size → payload_at s size last start ≡ refuse ended
     payload_cut h = rw (le-leb start size large, lt-leb size (length s) h)
-
-    module _ (here : size ≤ length s) {refusal : ℕ} {f : Fields} {next : ℕ} (told : Told (fields_of last (part s start (size - start))) refusal f next) where
-      payload-here : payload_at s size last start ≡ finished size (fields_of last (part s start (size - start)))
-      payload-here = rw (le-leb start size large, le-leb size (length s) here)
-
-      pub payload-refused : (refusal ≡ 0 → ⊥) → refused_read refusal ≡ gtid_read (payload_at s size last start)
-      payload-refused ne =
-          let (x, e, n) = refused-by told ne in
-          ap refused_read n ∙ ap (λ (q : Parse Fields). gtid_read (finished size q)) (sym e) ∙ ap gtid_read (sym payload-here)
-
-      pub payload-read : refusal ≡ 0 → gtid_read (finished size (parsed f 0)) ≡ gtid_read (payload_at s size last start)
-      payload-read z = ap (λ (q : Parse Fields). gtid_read (finished size q)) (sym (told.found z)) ∙ ap gtid_read (sym payload-here)
 
 -- ---- what a success says of the parts
 pub record TaggedParts (s : List ℕ) (e : Seen) (next : ℕ) : Type 0 where

@@ -1,35 +1,33 @@
 -- Laws of the untagged layout (`specs/Untagged.antt`): what its parts give where they are there, and where they are not.
-use mathlib.Core.Path.{◌≡◌, refl, ap, ◌∙◌}
+use mathlib.Core.Path.{◌≡◌}
 use mathlib.Core.Bool.{true, false}
 use mathlib.Core.List.{List}
-use Prim.Native.Nat.{ℕ, ◌+◌, ◌-◌, ◌*◌, ◌≤◌, ◌<◌}
+use Prim.Native.Nat.{ℕ, ◌-◌, ◌*◌, ◌≤◌, ◌<◌}
 use native.Mathlib.Omega.{arith}
 use lib.ListN.{length, get_or}
 use Rattle.packets.proofs.KeptLaws.{kept_whole}
 use borrow.Author.Tests.{le-leb, lt-leb, lt-ltb, le-ltb, eq-eqb, ne_eqb}
 use Rattle.misc.specs.Refusal.{ended}
-use Rattle.misc.specs.Parse.{Parse, refuse, parsed, part, byte_at, bytes_at, uint_read}
-use Rattle.misc.specs.declared.ReadUint.{ReadUint}
+use Rattle.misc.specs.Parse.{Parse, refuse, parsed, mapped, part, byte_at, bytes_at}
 use Rattle.misc.specs.Le.{le_of, le_at}
 use Rattle.misc.specs.Mark.{has_bit, clear_bit}
-use Rattle.misc.proofs.ParseLaws.{split, then-parsed, mapped-parsed, part_length, byte-here, byte-gone, bytes-here, bytes-gone}
+use Rattle.std.specs.Prelude.{Ok}
+use Rattle.misc.specs.declared.Read.{Read}
+use Rattle.gtid_event_read.specs.declared.untagged.Pair.{Pair as PairRead}
+use Rattle.gtid_event_read.specs.Pairs.{paired, pair_read}
+use Rattle.misc.proofs.ParseLaws.{ok-err, split, then-parsed, mapped-parsed, part_length, byte-here, byte-gone, bytes-here, bytes-gone}
 use Rattle.misc.proofs.LeLaws.{le-here, le-gone}
 use Rattle.packets.specs.Kept.{kept}
 use Rattle.gtid_event.specs.declared.GtidEvent.{GtidEvent}
-use Rattle.gtid_event_read.specs.Untagged.{Pair, pair, original_after, pair_at, if_left, timestamps_at, length_at, versions_at, opened, opening_at, clocked}
+use Rattle.gtid_event_read.specs.Untagged.{Pair, pair, pair_at, if_left, timestamps_at, length_at, versions_at, opened, opening_at, clocked}
 use Rattle.gtid_event_read.specs.Untagged.{clock_at, untagged}
-use Rattle.gtid_event_read.specs.Told.{Told, later_at}
-use Rattle.gtid_event_read.proofs.Telling.{got, uint, goes, maps}
+use Rattle.gtid_event_read.specs.Untagged.{later_at}
 
 -- ---- flags, uuid, gno and the typecode
 module _ (s : List ℕ) where
   pub opening-here : 25 ≤ length s → opening_at s 0 ≡ parsed (opened (get_or s 0 0) (part s 1 16) (le_of (part s 17 8))) 25
   unfolding opening_at
   opening-here h = rw (byte-here s 0 (omega arith), bytes-here 16 s 1 (omega arith), le-here 8 s 17 (omega arith))
-
-  -- the answer of the reader of the gno
-  pub gno-here : 25 ≤ length s → {r : ReadUint} → r ≡ uint_read (le_at 8 s 17) → r.value ≡ le_of (part s 17 8)
-  gno-here h {r} is = ap (λ (y : ReadUint). y.value) is ∙ rw (le-here 8 s 17 (omega arith))
 
   -- the uuid's sixteen bytes are kept as they are
   pub uuid-here : 25 ≤ length s → kept 16 (part s 1 16) ≡ part s 1 16
@@ -68,27 +66,26 @@ clock-later s e at p q = rw (p, q)
 
 -- ---- parts that may be absent
 module _ {A : Type 0} (n : ℕ) (s : List ℕ) (at : ℕ) (absent : A) (item : Parse A) where
-  pub left-absent : length s - at < n → Told (if_left n s at absent item) 0 absent at
-  left-absent h = rw (lt-leb n (length s - at) h) (got refl)
+  pub left-absent : length s - at < n → if_left n s at absent item ≡ parsed absent at
+  left-absent h = rw (lt-leb n (length s - at) h)
 
-  pub left_there : n ≤ length s - at → {r : ℕ} {a : A} {next : ℕ} → Told item r a next → Told (if_left n s at absent item) r a next
-  left_there h told = rw (le-leb n (length s - at) h) told
+  pub left_there : n ≤ length s - at → if_left n s at absent item ≡ item
+  left_there h = rw (le-leb n (length s - at) h)
 
--- ---- pairs: r is what is read first
-module _ (w : ℕ) (s : List ℕ) (at : ℕ) (room : at + w ≤ length s) {r : ReadUint} (is : r ≡ uint_read (le_at w s at)) where
-  first-here : r.refusal ≡ 0
-  first-here = ap (λ (y : ReadUint). y.refusal) is ∙ rw (le-here w s at room)
-
-  pub pair-both : has_bit (8 * w - 1) r.value ≡ true → {i : ℕ} → i ≡ clear_bit (8 * w - 1) r.value → {o : ReadUint} → o ≡ uint_read (le_at w s r.next)
-      → Told (pair_at w s at) o.refusal (pair i o.value) o.next
+-- ---- pairs, whose first number is v
+module _ (w : ℕ) (s : List ℕ) (at : ℕ) {v next : ℕ} (first : le_at w s at ≡ parsed v next) where
+  pub pair-both : has_bit (8 * w - 1) v ≡ true → pair_at w s at ≡ mapped (pair (clear_bit (8 * w - 1) v)) (le_at w s next)
   unfolding pair_at
-  pair-both bit i-is o_is =
-      goes (uint (le_at w s at) is) first-here (original_after w s)
-      (rw (bit, i-is) (maps (uint (le_at w s r.next) o_is) (pair (clear_bit (8 * w - 1) r.value))))
+  pair-both bit = rw (first, bit)
 
-  pub pair_one : has_bit (8 * w - 1) r.value ≡ false → Told (pair_at w s at) 0 (pair r.value r.value) r.next
+  pub pair_one : has_bit (8 * w - 1) v ≡ false → pair_at w s at ≡ parsed (pair v v) next
   unfolding pair_at
-  pair_one bit = goes (uint (le_at w s at) is) first-here (original_after w s) (rw bit (got refl))
+  pair_one bit = rw (first, bit)
+
+-- from the answer of a reader of them
+pub pair-told : (p : Parse Pair) {r : Read PairRead} → Ok r ≡ pair_read p → p ≡ parsed (pair r.value.immediate r.value.original) r.next
+pair-told (refuse x) e = absurd (ok-err e)
+pair-told (parsed (pair i o) next) {r} e = let same : r ≡ paired (pair i o) next = cc in rw same
 
 -- ---- what a success says of the parts
 pub record OpeningParts (s : List ℕ) (at : ℕ) (e : GtidEvent) (next : ℕ) : Type 0 where

@@ -75,9 +75,13 @@ limited_at limit s at = judged (λ v. leb v limit) too_large (varlen_at s at)
 unfoldable pub uuid_at : List ℕ → ℕ → Parse (List ℕ)
 uuid_at s at = many (limited_at 255 s) 16 at
 
+-- a length, and so many bytes
+abbrev pub string_at : List ℕ → ℕ → Parse (List ℕ)
+string_at s at = and_then (varlen_at s at) (λ n from. bytes_at n s from)
+
 -- the tag with its length is one item
 unfoldable pub tag_at : List ℕ → ℕ → Parse (List ℕ)
-tag_at s at = judged is_tag bad_tag (and_then (varlen_at s at) (λ n from. bytes_at n s from))
+tag_at s at = judged is_tag bad_tag (string_at s at)
 
 -- the value of the field with this id, read and kept. An unknown field is refused up to the last id that may not be ignored, and
 -- above it ends the fields

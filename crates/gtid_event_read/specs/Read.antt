@@ -1,11 +1,11 @@
 -- A GTID event by its type, and what the calls answer.
-use Rattle.std.specs.Prelude.{ℕ, Bool, true, false, ◌&&◌, ◌||◌, List, eqb, get_or}
+use Rattle.std.specs.Prelude.{ℕ, Bool, true, false, ◌&&◌, ◌||◌, List, eqb, get_or, Result}
 use Rattle.misc.specs.Pick.{pick}
-use Rattle.misc.specs.Refusal.{number, wrong_type, absent_id}
-use Rattle.misc.specs.Parse.{Parse, refuse, parsed, mapped, judged}
+use Rattle.misc.specs.Refusal.{wrong_type, absent_id}
+use Rattle.misc.specs.declared.refusal.Refusal.{Refusal}
+use Rattle.misc.specs.Parse.{Parse, refuse, mapped, judged, answered}
 use Rattle.misc.specs.Body.{of_body}
 use Rattle.misc.specs.Mark.{has_bit}
-use Rattle.gtid_event.specs.Event.{no_event}
 use Rattle.gtid_event.specs.declared.GtidEvent.{GtidEvent}
 use Rattle.gtid_event_read.specs.Seen.{Seen, untagged_seen, bits_of}
 use Rattle.gtid_event_read.specs.Untagged.{untagged}
@@ -33,16 +33,15 @@ named type s = judged (sends_id type) absent_id (seen type s)
 
 -- ---- answers
 
-abbrev pub refused_read : ℕ → GtidRead
-refused_read refusal = record { refusal = refusal; used = 0; event = no_event; present = 0 }
+abbrev pub told : Seen → ℕ → GtidRead
+told x next = record { used = next; event = x.event; present = bits_of x.present }
 
-abbrev pub gtid_read : Parse Seen → GtidRead
-gtid_read (refuse r) = refused_read (number r)
-gtid_read (parsed x next) = record { refusal = 0; used = next; event = x.event; present = bits_of x.present }
+abbrev pub gtid_read : Parse Seen → Result GtidRead Refusal
+gtid_read p = answered told p
 
 -- whether an answer tells that the id was sent, where one is asked for
 abbrev pub tells_id : ℕ → ℕ → Bool
 tells_id type bits = pick (eqb type 42) (has_bit 1 bits && has_bit 2 bits) true
 
-abbrev pub untagged_read : Parse GtidEvent → GtidRead
+abbrev pub untagged_read : Parse GtidEvent → Result GtidRead Refusal
 untagged_read p = gtid_read (mapped untagged_seen p)

@@ -2,8 +2,8 @@
 -- reaches.
 use Rattle.std.specs.Prelude.{ℕ, ◌+◌, ◌-◌, ◌*◌, Bool, ◌&&◌, List, length, get_or, leb, ltb, eqb}
 use Rattle.misc.specs.Pick.{pick}
-use Rattle.misc.specs.Parse.{Parse, parsed, and_then, mapped, byte_at, bytes_at}
-use Rattle.misc.specs.Le.{le_at}
+use Rattle.misc.specs.Parse.{Parse, parsed, and_then, mapped, part, byte_at, bytes_at}
+use Rattle.misc.specs.Le.{le_of, le_at}
 use Rattle.misc.specs.Lenenc.{lenenc_at}
 use Rattle.misc.specs.Mark.{has_bit, clear_bit}
 use Rattle.gtid_event.specs.Event.{undefined_version, fresh, set_number, set_typecode}
@@ -69,3 +69,16 @@ typecode_at s at = ltb at (length s) && eqb (get_or s at 0) 2
 
 unfoldable pub untagged : List ℕ → Parse GtidEvent
 untagged s = and_then (opening_at s 0) (λ e at. pick (typecode_at s at) (clock_at s e (at + 1)) (parsed e at))
+
+-- ---- inside
+
+-- the record of flags, uuid and gno, which stand in the first 25 bytes
+abbrev pub opened_in : List ℕ → GtidEvent
+opened_in s = opened (get_or s 0 0) (part s 1 16) (le_of (part s 17 8))
+
+-- what `clock_at` reads after the sequence number
+abbrev pub later_at : List ℕ → GtidEvent → ℕ → ℕ → ℕ → Parse GtidEvent
+later_at s e last sequence at =
+    and_then (timestamps_at s at) (λ timestamps at₁.
+    and_then (length_at s at₁) (λ len at₂.
+    mapped (clocked e last sequence timestamps len) (versions_at s at₂)))

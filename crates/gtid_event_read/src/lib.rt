@@ -3,10 +3,10 @@
 
 ghost use Rattle.std.specs.Prelude.{◌≡◌};
 ghost use Rattle.misc.specs.Body.{used_of, unread_of, onward};
-ghost use Rattle.gtid_event_read.specs.Read.{seen, gtid, named, refused_read, gtid_read, tells_id};
+ghost use Rattle.gtid_event_read.specs.Read.{seen, gtid, named, gtid_read, tells_id};
 
 use gtid_event::{ANONYMOUS_GTID_EVENT, GTID_EVENT, GTID_TAGGED_LOG_EVENT, GtidEvent, field_id};
-use misc::refusal::{ABSENT_ID, TOO_LONG, WRONG_TYPE};
+use misc::refusal::Refusal;
 use misc::{MAX_BODY, UUID_LEN};
 use packets::MAX_TAG;
 
@@ -15,10 +15,9 @@ mod tagged;
 mod untagged;
 
 // A record that was read and the bytes used, and of a tagged event which of the twelve fields were there: bit k tells of the field with
-// the id k. Or a refusal and zeros.
+// the id k.
 #[derive(Clone, Copy)]
 pub struct GtidRead {
-    pub refusal: u8,
     pub used: usize,
     pub event: GtidEvent,
     pub present: u16,
@@ -35,30 +34,17 @@ pub struct Fields {
     pub present: [bool; field_id::FIELDS],
 }
 
-impl GtidRead {
-    pub(crate) fn refused(refusal: u8) -> Self
-        ensures { result ≡ refused_read refusal }
-    {
-        Self {
-            refusal,
-            used: 0,
-            event: GtidEvent::none(),
-            present: 0,
-        }
-    }
-}
-
-// The record in a body of this event type, the bytes used, and the fields that were there; or a refusal.
-pub fn read(event_type: u8, body: &[u8]) -> GtidRead
+// The record in a body of this event type, the bytes used, and the fields that were there.
+pub fn read(event_type: u8, body: &[u8]) -> Result<GtidRead, Refusal>
     ensures { result ≡ gtid_read (seen event_type body.now) }
 {
     if MAX_BODY < body.len() {
-        return GtidRead::refused(TOO_LONG);
+        return Err(Refusal::TooLong);
     }
     match event_type {
         GTID_EVENT | ANONYMOUS_GTID_EVENT => untagged::deserialize_untagged(body),
         GTID_TAGGED_LOG_EVENT => tagged::deserialize_tagged(body),
-        _ => GtidRead::refused(WRONG_TYPE),
+        _ => Err(Refusal::WrongType),
     }
 }
 
@@ -73,18 +59,15 @@ fn sends_id(event_type: u8, present: u16) -> bool
 }
 
 // The same where the event's id is asked for, by an offer or a listing: after all else a tagged event is refused whose uuid or gno was
-// not sent (21).
-pub fn read_named(event_type: u8, body: &[u8]) -> GtidRead
+// not sent.
+pub fn read_named(event_type: u8, body: &[u8]) -> Result<GtidRead, Refusal>
     ensures { result ≡ gtid_read (named event_type body.now) }
 {
-    let said = read(event_type, body);
-    if said.refusal != 0 {
-        return said;
-    }
+    let said = read(event_type, body)?;
     if sends_id(event_type, said.present) {
-        return said;
+        return Ok(said);
     }
-    GtidRead::refused(ABSENT_ID)
+    Err(Refusal::AbsentId)
 }
 
 // The caller's own bytes after those that were used; none where the body is refused.
@@ -92,11 +75,8 @@ pub fn unread(event_type: u8, body: &[u8]) -> &[u8]
     ensures result_value { result.now ≡ unread_of body.now (gtid event_type body.now) }
     ensures ref_ptr_value { result.ref_ptr ≡ onward body.entry.ref_ptr (used_of (gtid event_type body.now)) }
 {
-    let event = read(event_type, body);
-    let refusal = event.refusal;
-    if refusal != 0 {
-        return &body[..0];
+    match read(event_type, body) {
+        Ok(said) => &body[said.used..],
+        Err(_) => &body[..0],
     }
-    let used = event.used;
-    &body[used..]
 }

@@ -10,7 +10,7 @@ ghost use Rattle.gtid_event_read.specs.Range.{InRange};
 use crate::field::read_fields;
 use crate::{Fields, GtidRead};
 use gtid_event::{GtidEvent, TAGGED_SERIALIZATION_VERSION_V2, field_id};
-use misc::refusal::{ENDED, NO_TAG, SMALL_PAYLOAD, WRONG_VERSION};
+use misc::refusal::Refusal;
 use misc::varlen::read_varlen_uint;
 
 // The original where it was sent, otherwise the immediate.
@@ -60,29 +60,26 @@ fn bits_of(present: [bool; field_id::FIELDS]) -> u16
     ensures { result ≡ bits_of present }
 {
     let mut bits: u16 = 0;
-    let mut left = field_id::FIELDS;
-    while 0 < left {
-        left -= 1;
-        bits = 2 * bits + present[left] as u16;
+    for id in (0..field_id::FIELDS).rev() {
+        bits = 2 * bits + present[id] as u16;
     }
     bits
 }
 
 // The fields have ended: a tag must have been sent.
-fn finished(f: Fields, used: usize) -> GtidRead
+fn finished(f: Fields, used: usize) -> Result<GtidRead, Refusal>
     requires { InRange f.numbers }
     ensures { result ≡ gtid_read (finished used (parsed f 0)) }
 {
     let present = f.present;
     if present[field_id::TAG] {
-        return GtidRead {
-            refusal: 0,
+        return Ok(GtidRead {
             used,
             event: record_of(f),
             present: bits_of(present),
-        };
+        });
     }
-    GtidRead::refused(NO_TAG)
+    Err(Refusal::NoTag)
 }
 
 // The payload, whose fields begin at `start`. They are read from a part of the body that ends where the payload ends.
@@ -91,40 +88,31 @@ fn read_payload(
     payload_size: u64,
     last_non_ignorable_field_id: u64,
     start: usize,
-) -> GtidRead
+) -> Result<GtidRead, Refusal>
     ensures { result ≡ gtid_read (payload_at body.now payload_size last_non_ignorable_field_id start) }
 {
     if payload_size < (start as u64) {
-        return GtidRead::refused(SMALL_PAYLOAD);
+        return Err(Refusal::SmallPayload);
     }
     if (body.len() as u64) < payload_size {
-        return GtidRead::refused(ENDED);
+        return Err(Refusal::Ended);
     }
     let end = payload_size as usize;
-    let read = read_fields(&body[start..end], last_non_ignorable_field_id);
-    if read.refusal != 0 {
-        return GtidRead::refused(read.refusal);
-    }
-    finished(read.fields, end)
+    let fields = read_fields(&body[start..end], last_non_ignorable_field_id)?;
+    finished(fields, end)
 }
 
-pub(crate) fn deserialize_tagged(body: &[u8]) -> GtidRead
+pub(crate) fn deserialize_tagged(body: &[u8]) -> Result<GtidRead, Refusal>
     ensures { result ≡ gtid_read (tagged body.now) }
 {
     if body.len() < 1 {
-        return GtidRead::refused(ENDED);
+        return Err(Refusal::Ended);
     }
     if body[0] != TAGGED_SERIALIZATION_VERSION_V2 {
-        return GtidRead::refused(WRONG_VERSION);
+        return Err(Refusal::WrongVersion);
     }
-    let payload_size = read_varlen_uint(body, 1);
-    if payload_size.refusal != 0 {
-        return GtidRead::refused(payload_size.refusal);
-    }
-    let last_non_ignorable_field_id = read_varlen_uint(body, payload_size.next);
-    if last_non_ignorable_field_id.refusal != 0 {
-        return GtidRead::refused(last_non_ignorable_field_id.refusal);
-    }
+    let payload_size = read_varlen_uint(body, 1)?;
+    let last_non_ignorable_field_id = read_varlen_uint(body, payload_size.next)?;
     read_payload(
         body,
         payload_size.value,

@@ -1,20 +1,23 @@
 // Untagged events: what stands at fixed places, and parts that are there as far as the body reaches.
-ghost use Rattle.std.specs.Prelude.{◌≡◌, ◌≤◌, length};
-ghost use Rattle.gtid_event_read.specs.Untagged.{pair, timestamps_at, length_at, versions_at, clocked, clock_at, untagged};
+ghost use Rattle.std.specs.Prelude.{◌≡◌, ◌+◌, ◌*◌, ◌-◌, ◌^◌, ◌≤◌, ◌<◌, length, IfOk};
+ghost use Rattle.misc.specs.Parse.{read_of};
+ghost use Rattle.misc.specs.Le.{le_at};
+ghost use Rattle.gtid_event_read.specs.Untagged.{pair, pair_at, if_left, length_at, opened_in, clocked, clock_at, untagged};
+ghost use Rattle.gtid_event_read.specs.Pairs.{pair_read};
+ghost use Rattle.gtid_event.specs.Event.{IsWidth};
 ghost use Rattle.gtid_event_read.specs.Read.{untagged_read};
-ghost use Rattle.gtid_event_read.specs.Told.{Told, opened_in, later_at};
 
 use crate::GtidRead;
 use gtid_event::{
     ENCODED_SID_LENGTH, GtidEvent, IMMEDIATE_COMMIT_TIMESTAMP_LENGTH,
     IMMEDIATE_SERVER_VERSION_LENGTH, LOGICAL_TIMESTAMP_TYPECODE, UNDEFINED_SERVER_VERSION,
 };
-use misc::ReadUint;
+use misc::Read;
 use misc::bytes::left_at;
-use misc::le::{read_u32_le, read_u56_le, read_u64_le};
+use misc::le::{number_at, read_u32_le, read_u56_le, read_u64_le};
 use misc::lenenc::read_lenenc_int;
-use misc::mark::{clear_bit_31, clear_bit_55, has_bit_31, has_bit_55};
-use misc::refusal::ENDED;
+use misc::mark::{clear_bit, has_bit};
+use misc::refusal::Refusal;
 use packets::uuid_bytes;
 
 // Flags, uuid and gno.
@@ -22,22 +25,11 @@ const GNO_PLACE: usize = 1 + ENCODED_SID_LENGTH;
 
 const OPENING_LENGTH: usize = GNO_PLACE + 8;
 
-// The immediate and the original commit timestamp.
+// An immediate number, and the original: of the commit timestamps, or of the server versions.
 #[derive(Clone, Copy)]
-pub(crate) struct Timestamps {
-    pub refusal: u8,
+pub(crate) struct Pair {
     pub immediate: u64,
     pub original: u64,
-    pub next: usize,
-}
-
-// The immediate and the original server version.
-#[derive(Clone, Copy)]
-pub(crate) struct Versions {
-    pub refusal: u8,
-    pub immediate: u32,
-    pub original: u32,
-    pub next: usize,
 }
 
 // Flags, uuid and gno; all else absent.
@@ -46,85 +38,68 @@ fn read_opening(s: &[u8]) -> GtidEvent
     ensures { result ≡ opened_in s.now }
 {
     let sid = uuid_bytes(&s[1..GNO_PLACE]);
-    let gno = read_u64_le(s, GNO_PLACE);
-    let mut event = GtidEvent::new(sid, gno.value);
+    let mut event = GtidEvent::new(sid, number_at(s, GNO_PLACE));
     event.flags = s[0];
     event.lc_typecode = 0;
     event
 }
 
-// Bit 55 of the immediate one says that the original follows; otherwise they are equal.
-fn read_timestamps(s: &[u8], at: usize) -> Timestamps
-    ensures { Told (timestamps_at s.now at) result.refusal (pair result.immediate result.original) result.next }
+// A number of a timestamp's width, or of a server version's.
+fn read_wide<const WIDTH: usize>(s: &[u8], at: usize) -> Result<Read<u64>, Refusal>
+    requires { IsWidth WIDTH }
+    ensures value { result ≡ read_of (le_at WIDTH s.now at) }
+    ensures bound { IfOk result (λ read. read.value < 256 ^ WIDTH) }
 {
-    if left_at(s, at) < IMMEDIATE_COMMIT_TIMESTAMP_LENGTH {
-        return Timestamps {
-            refusal: 0,
-            immediate: 0,
-            original: 0,
-            next: at,
-        };
+    if WIDTH == IMMEDIATE_COMMIT_TIMESTAMP_LENGTH {
+        return read_u56_le(s, at);
     }
-    let immediate = read_u56_le(s, at);
-    if has_bit_55(immediate.value) {
-        let original = read_u56_le(s, immediate.next);
-        return Timestamps {
-            refusal: original.refusal,
-            immediate: clear_bit_55(immediate.value),
-            original: original.value,
-            next: original.next,
-        };
-    }
-    Timestamps {
-        refusal: 0,
-        immediate: immediate.value,
-        original: immediate.value,
-        next: immediate.next,
-    }
+    read_u32_le(s, at)
 }
 
-fn read_tx_length(s: &[u8], at: usize) -> ReadUint
-    ensures { Told (length_at s.now at) result.refusal result.value result.next }
+// The highest bit of the immediate number says that the original follows; otherwise they are equal. Where the body ends before them, both
+// are what an absent number is.
+fn read_pair<const WIDTH: usize>(s: &[u8], at: usize, absent: u64) -> Result<Read<Pair>, Refusal>
+    requires { IsWidth WIDTH × (absent < 256 ^ WIDTH) }
+    ensures value { result ≡ pair_read (if_left WIDTH s.now at (pair absent absent) (pair_at WIDTH s.now at)) }
+    ensures bound { IfOk result (λ read. (read.value.immediate < 256 ^ WIDTH) × (read.value.original < 256 ^ WIDTH)) }
+{
+    if left_at(s, at) < WIDTH {
+        return Ok(Read {
+            value: Pair {
+                immediate: absent,
+                original: absent,
+            },
+            next: at,
+        });
+    }
+    let first = read_wide::<WIDTH>(s, at)?;
+    let mark = 8 * WIDTH as u32 - 1;
+    if has_bit(first.value, mark) {
+        let original = read_wide::<WIDTH>(s, first.next)?;
+        return Ok(Read {
+            value: Pair {
+                immediate: clear_bit(first.value, mark),
+                original: original.value,
+            },
+            next: original.next,
+        });
+    }
+    Ok(Read {
+        value: Pair {
+            immediate: first.value,
+            original: first.value,
+        },
+        next: first.next,
+    })
+}
+
+fn read_tx_length(s: &[u8], at: usize) -> Result<Read<u64>, Refusal>
+    ensures { result ≡ read_of (length_at s.now at) }
 {
     if left_at(s, at) < 1 {
-        return ReadUint {
-            refusal: 0,
-            value: 0,
-            next: at,
-        };
+        return Ok(Read { value: 0, next: at });
     }
     read_lenenc_int(s, at)
-}
-
-// Bit 31 says the same here.
-fn read_versions(s: &[u8], at: usize) -> Versions
-    ensures { Told (versions_at s.now at) result.refusal (pair result.immediate result.original) result.next }
-{
-    if left_at(s, at) < IMMEDIATE_SERVER_VERSION_LENGTH {
-        return Versions {
-            refusal: 0,
-            immediate: UNDEFINED_SERVER_VERSION,
-            original: UNDEFINED_SERVER_VERSION,
-            next: at,
-        };
-    }
-    let read = read_u32_le(s, at);
-    let immediate = read.value as u32;
-    if has_bit_31(immediate) {
-        let original = read_u32_le(s, read.next);
-        return Versions {
-            refusal: original.refusal,
-            immediate: clear_bit_31(immediate),
-            original: original.value as u32,
-            next: original.next,
-        };
-    }
-    Versions {
-        refusal: 0,
-        immediate,
-        original: immediate,
-        next: read.next,
-    }
 }
 
 // With the typecode, and what follows it.
@@ -132,10 +107,11 @@ fn clocked(
     mut event: GtidEvent,
     last_committed: u64,
     sequence_number: u64,
-    t: Timestamps,
+    t: Pair,
     tx_length: u64,
-    v: Versions,
+    v: Pair,
 ) -> GtidEvent
+    requires { (v.immediate < 2 ^ 32) × (v.original < 2 ^ 32) }
     ensures { result ≡ clocked event last_committed sequence_number (pair t.immediate t.original) tx_length (pair v.immediate v.original) }
 {
     event.lc_typecode = LOGICAL_TIMESTAMP_TYPECODE;
@@ -144,81 +120,50 @@ fn clocked(
     event.immediate_commit_timestamp = t.immediate;
     event.original_commit_timestamp = t.original;
     event.tx_length = tx_length;
-    event.immediate_server_version = v.immediate;
-    event.original_server_version = v.original;
+    event.immediate_server_version = v.immediate as u32;
+    event.original_server_version = v.original as u32;
     event
 }
 
-// The parts after the sequence number, each there as far as the body reaches. Flags, uuid and gno are read last, where the record is put
-// together: it isn't carried along.
-fn read_later(s: &[u8], last_committed: u64, sequence_number: u64, at: usize) -> GtidRead
-    requires { 25 ≤ length s.now }
-    ensures { result ≡ untagged_read (later_at s.now (opened_in s.now) last_committed sequence_number at) }
-{
-    let timestamps = read_timestamps(s, at);
-    if timestamps.refusal != 0 {
-        return GtidRead::refused(timestamps.refusal);
-    }
-    let tx_length = read_tx_length(s, timestamps.next);
-    if tx_length.refusal != 0 {
-        return GtidRead::refused(tx_length.refusal);
-    }
-    let versions = read_versions(s, tx_length.next);
-    if versions.refusal != 0 {
-        return GtidRead::refused(versions.refusal);
-    }
-    GtidRead {
-        refusal: 0,
-        used: versions.next,
-        event: clocked(
-            read_opening(s),
-            last_committed,
-            sequence_number,
-            timestamps,
-            tx_length.value,
-            versions,
-        ),
-        present: 0,
-    }
-}
-
-// What follows the typecode.
-fn read_clock(s: &[u8], at: usize) -> GtidRead
+// What follows the typecode, the parts after the sequence number each as far as the body reaches. Flags, uuid and gno are read last, where
+// the record is put together: it isn't carried along.
+fn read_clock(s: &[u8], at: usize) -> Result<GtidRead, Refusal>
     requires { 25 ≤ length s.now }
     ensures { result ≡ untagged_read (clock_at s.now (opened_in s.now) at) }
 {
-    let last_committed = read_u64_le(s, at);
-    if last_committed.refusal != 0 {
-        return GtidRead::refused(last_committed.refusal);
-    }
-    let sequence_number = read_u64_le(s, last_committed.next);
-    if sequence_number.refusal != 0 {
-        return GtidRead::refused(sequence_number.refusal);
-    }
-    read_later(
-        s,
-        last_committed.value,
-        sequence_number.value,
-        sequence_number.next,
-    )
+    let last_committed = read_u64_le(s, at)?;
+    let sequence_number = read_u64_le(s, last_committed.next)?;
+    let timestamps = read_pair::<IMMEDIATE_COMMIT_TIMESTAMP_LENGTH>(s, sequence_number.next, 0)?;
+    let tx_length = read_tx_length(s, timestamps.next)?;
+    let undefined = UNDEFINED_SERVER_VERSION as u64;
+    let versions = read_pair::<IMMEDIATE_SERVER_VERSION_LENGTH>(s, tx_length.next, undefined)?;
+    Ok(GtidRead {
+        used: versions.next,
+        event: clocked(
+            read_opening(s),
+            last_committed.value,
+            sequence_number.value,
+            timestamps.value,
+            tx_length.value,
+            versions.value,
+        ),
+        present: 0,
+    })
 }
 
 // The body ends behind the gno up to MySQL 5.6, and the byte 2 doesn't follow it up to 5.7.4.
-pub(crate) fn deserialize_untagged(s: &[u8]) -> GtidRead
+pub(crate) fn deserialize_untagged(s: &[u8]) -> Result<GtidRead, Refusal>
     ensures { result ≡ untagged_read (untagged s.now) }
 {
     if s.len() < OPENING_LENGTH {
-        return GtidRead::refused(ENDED);
+        return Err(Refusal::Ended);
     }
-    if OPENING_LENGTH < s.len() {
-        if s[OPENING_LENGTH] == LOGICAL_TIMESTAMP_TYPECODE {
-            return read_clock(s, OPENING_LENGTH + 1);
-        }
+    if OPENING_LENGTH < s.len() && s[OPENING_LENGTH] == LOGICAL_TIMESTAMP_TYPECODE {
+        return read_clock(s, OPENING_LENGTH + 1);
     }
-    GtidRead {
-        refusal: 0,
+    Ok(GtidRead {
         used: OPENING_LENGTH,
         event: read_opening(s),
         present: 0,
-    }
+    })
 }

@@ -9,13 +9,16 @@ use lib.ListN.{length, get_or, take}
 use lib.Seq.{take-suc, take_all}
 use lib.Bits.{bit_or, or_shifted_r}
 use borrow.Author.Tests.{ne_eqb}
+use Rattle.std.specs.Prelude.{Ok}
 use Rattle.misc.specs.Le.{le_bytes}
 use Rattle.misc.specs.Output.{bytes, answer_of, output_of, Placed, WhereFits}
 use Rattle.misc.specs.Varlen.{varlen_bytes}
 use Rattle.misc.proofs.VarlenLaws.{bytes-short}
 use Rattle.misc.proofs.OutputLaws.{nothing_placed, output-fits, ◌also◌}
 use Rattle.gtid_event_write.proofs.SizeLaws.{size-two}
+use Rattle.gtid_event.specs.Event.{IsWidth}
 use Rattle.gtid_event_write.specs.Layout.{items_bytes, pair_bytes}
+use mathlib.Core.Logic.{inl, inr}
 
 -- what is placed is placed where it fits
 pub fits : {l bs l' : List ℕ} {at next : ℕ} → Placed l at bs l' next → WhereFits l at bs l' next
@@ -26,12 +29,12 @@ with-bytes {l} {a} {b} {l'} {at} {next} e p = rw e at p
 
 -- what is placed at the front of an output, where it fits, is the answer
 pub wrote : {l bs l' : List ℕ} {n : ℕ} → length bs ≤ length l → WhereFits l 0 bs l' n
-    → (record { refusal = 0; len = n } ≡ answer_of l (bytes bs)) × (l' ≡ output_of l (bytes bs))
+    → (Ok n ≡ answer_of l (bytes bs)) × (l' ≡ output_of l (bytes bs))
 wrote room p = output-fits room (p.placed (omega arith))
 
 -- and so many bytes are written as there are
 pub wrote-all : {l bs l' : List ℕ} {n : ℕ} (size : ℕ) → size ≡ length bs → size ≤ length l → WhereFits l 0 bs l' n
-    → (record { refusal = 0; len = size } ≡ answer_of l (bytes bs)) × (l' ≡ output_of l (bytes bs))
+    → (Ok size ≡ answer_of l (bytes bs)) × (l' ≡ output_of l (bytes bs))
 wrote-all {l} {bs} {l'} {n} size is room p =
     let ends : n ≡ size = (p.placed (omega arith)).ends ∙ omega arith in
     rw ends at (wrote (omega arith) p)
@@ -75,6 +78,12 @@ items-end s i h p = rw (take_all i s h) at p
 flagged : (k x : ℕ) → x < 2 ^ k → bit_or x (2 ^ k) ≡ x + 2 ^ k
 flagged k x h = ap (bit_or x) (sym (one-mul (2 ^ k))) ∙ or_shifted_r 1 k x h ∙ omega (arith, one-mul (2 ^ k))
 
-pub pair-placed : (k w x y : ℕ) {l l₁ l₂ : List ℕ} {at at₁ at₂ : ℕ} → x < 2 ^ k → (x ≡ y → ⊥) → WhereFits l at (le_bytes w (bit_or x (2 ^ k))) l₁ at₁
-    → WhereFits l₁ at₁ (le_bytes w y) l₂ at₂ → WhereFits l at (pair_bytes w (2 ^ k) x y) l₂ at₂
-pair-placed k w x y h ne p q = rw (ne_eqb x y ne) (with-bytes (ap (le_bytes w) (flagged k x h)) p also q)
+-- the highest bit of w bytes is set in a number that is below it
+pub marked : (w x : ℕ) → IsWidth w → x < 2 ^ (8 * w - 1)
+    → (bit_or x (1 * 2 ^ (8 * w - 1) % 2 ^ 64) ≡ x + 2 ^ (8 * w - 1)) × (x + 2 ^ (8 * w - 1) < 256 ^ w)
+marked w x (inl e) h = let below : x < 2 ^ 55 = rw e at h in rw e (flagged 55 x below, omega arith)
+marked w x (inr e) h = let below : x < 2 ^ 31 = rw e at h in rw e (flagged 31 x below, omega arith)
+
+pub pair-placed : (w mark x y : ℕ) {m : ℕ} {l l₁ l₂ : List ℕ} {at at₁ at₂ : ℕ} → m ≡ x + mark → (x ≡ y → ⊥) → WhereFits l at (le_bytes w m) l₁ at₁
+    → WhereFits l₁ at₁ (le_bytes w y) l₂ at₂ → WhereFits l at (pair_bytes w mark x y) l₂ at₂
+pair-placed w mark x y is ne p q = rw (ne_eqb x y ne) (with-bytes (ap (le_bytes w) is) p also q)

@@ -1,18 +1,18 @@
 -- What it says of a record that it can be written.
-use mathlib.Core.Path.{◌≡◌, refl, sym, ap, ◌∙◌}
+use mathlib.Core.Path.{◌≡◌, sym}
 use mathlib.Core.Bool.{Bool, true, false, ◌&&◌, ◌||◌, and_comm}
-use mathlib.Core.List.{List, [], ◌∷◌}
+use mathlib.Core.List.{List}
 use Prim.Native.Nat.{ℕ, zero, suc, ◌+◌, ◌^◌, ◌≤◌, ◌<◌}
 use native.Mathlib.Numerals.{add-one}
 use native.Mathlib.Omega.{arith}
-use lib.ListN.{length, get_or, take, drop, drop_of_length-le}
-use lib.Seq.{drop-cons, drop-drop}
+use lib.ListN.{length, get_or, drop, drop_of_length-le}
+use lib.Bits.{bit_or, or_zero_l}
+use lib.Seq.{drop-cons}
+use Rattle.std.proofs.lemmas.Nat.{le_or_l}
+use Rattle.std.proofs.Math.Bool as bools
 use lib.Dec.{eqb}
-use borrow.Author.Tests.{leb-true, ltb-true, lt-ltb, le-ltb, eqb-true, eq-eqb, ne_eqb}
+use borrow.Author.Tests.{leb-true, ltb-true, ltb-false, eqb-true, ne_eqb}
 use Rattle.misc.specs.Pick.{pick}
-use Rattle.misc.specs.Parse.{Parse, part, uint_read}
-use Rattle.misc.specs.Le.{le_of, le_at}
-use Rattle.misc.proofs.LeLaws.{le-here}
 use Rattle.packets.specs.Tag.{is_tag}
 use Rattle.packets.proofs.Tests.{and-true}
 use Rattle.gtid_event.specs.Event.{tagged}
@@ -25,45 +25,34 @@ zeros-next : (s : List ℕ) (i : ℕ) → i < length s → all_zero (drop i s) �
 unfolding all_zero
 zeros-next s i h = rw (add-one, drop-cons s i 0)
 
-module _ (s : List ℕ) (i : ℕ) (inside : i < length s) where
-  pub zero-passed : get_or s i 0 ≡ 0 → all_zero (drop (i + 1) s) ≡ all_zero (drop i s)
-  zero-passed e = sym (zeros-next s i inside ∙ rw (eq-eqb (get_or s i 0) 0 e))
+-- two bytes are zero where both joined are
+joined-zero : (a b : ℕ) → eqb (bit_or a b) 0 ≡ (eqb a 0 && eqb b 0)
+joined-zero zero b = rw (or_zero_l b)
+joined-zero (suc a) b = rw (ne_eqb (bit_or (suc a) b) 0 (λ e. omega (arith, le_or_l (suc a) b)), ne_eqb (suc a) 0 (λ e. omega arith))
 
-  pub zero-missed : (get_or s i 0 ≡ 0 → ⊥) → false ≡ all_zero (drop i s)
-  zero-missed ne = sym (zeros-next s i inside ∙ rw (ne_eqb (get_or s i 0) 0 ne))
+-- one more byte is joined to those before it
+pub joined-next : (s : List ℕ) (i joined : ℕ) → i < length s
+    → (eqb joined 0 && all_zero (drop i s)) ≡ (eqb (bit_or joined (get_or s i 0)) 0 && all_zero (drop (i + 1) s))
+joined-next s i joined h =
+    rw (zeros-next s i h, joined-zero joined (get_or s i 0)) (sym (bools.and_assoc (eqb joined 0) (eqb (get_or s i 0) 0) (all_zero (drop (i + 1) s))))
 
--- all of the first n bytes spell 0
-zeros-passed : (n : ℕ) (s : List ℕ) → le_of (take n s) ≡ 0 → all_zero (drop n s) ≡ all_zero s
-unfolding le_of all_zero
-zeros-passed zero s e = refl
-zeros-passed (suc n) [] e = refl
-zeros-passed (suc n) (b ∷ bs) e =
-    let z : b ≡ 0 = omega arith in
-    let more : le_of (take n bs) ≡ 0 = omega arith in
-    rw z (zeros-passed n bs more)
-
-pub word-passed : (s : List ℕ) (at : ℕ) → at + 8 ≤ length s → (uint_read (le_at 8 s at)).value ≡ 0 → all_zero (drop (at + 8) s) ≡ all_zero (drop at s)
-word-passed s at h e =
-    let v : le_of (part s at 8) ≡ 0 = sym (ap (λ (p : Parse ℕ). (uint_read p).value) (le-here 8 s at h)) ∙ e in
-    rw (← drop-drop 8 at s) (zeros-passed 8 (drop at s) v)
-
-pub zeros-end : (s : List ℕ) (i : ℕ) → length s ≤ i → true ≡ all_zero (drop i s)
+pub joined-all : (s : List ℕ) (i joined : ℕ) → length s ≤ i → (eqb joined 0 && all_zero (drop i s)) ≡ eqb joined 0
 unfolding all_zero
-zeros-end s i h = rw (drop_of_length-le s {i = i} h)
+joined-all s i joined h = rw (drop_of_length-le s {i = i} h) (bools.and-true (eqb joined 0))
 
 -- ---- a writable record
 
 -- the two ways to judge it
 module _ (e : GtidEvent) (fine kept : Bool) where
-  pub judged-tagged : 0 < e.tag_len → fine ≡ writable_tagged e → kept ≡ kept_beyond e.tag_len e → fine && kept ≡ writable e
+  pub judged-tagged : tagged e ≡ true → fine ≡ writable_tagged e → kept ≡ kept_beyond e.tag_len e → fine && kept ≡ writable e
   unfolding writable
-  judged-tagged h p q = rw (p, q, lt-ltb 0 e.tag_len h) (and_comm (writable_tagged e) (kept_beyond e.tag_len e))
+  judged-tagged h p q = rw (p, q, h) (and_comm (writable_tagged e) (kept_beyond e.tag_len e))
 
-  pub judged-untagged : e.tag_len ≤ 0 → fine ≡ writable_untagged e → kept ≡ kept_beyond 0 e → fine && kept ≡ writable e
+  pub judged-untagged : tagged e ≡ false → fine ≡ writable_untagged e → kept ≡ kept_beyond 0 e → fine && kept ≡ writable e
   unfolding writable
   judged-untagged h p q =
-      let none : e.tag_len ≡ 0 = omega arith in
-      rw (p, q, le-ltb 0 e.tag_len h, none) (and_comm (writable_untagged e) (kept_beyond 0 e))
+      let none : e.tag_len ≡ 0 = omega (arith, ltb-false 0 e.tag_len h) in
+      rw (p, q, h, none) (and_comm (writable_untagged e) (kept_beyond 0 e))
 
 pub record TaggedFits (e : GtidEvent) : Type 0 where
   pub tag : e.tag_len ≤ 32

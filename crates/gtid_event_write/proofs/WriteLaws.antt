@@ -4,9 +4,11 @@ use mathlib.Core.Bool.{true, false}
 use mathlib.Core.List.{List}
 use Prim.Native.Nat.{ℕ}
 use lib.ListN.{length}
-use Rattle.misc.specs.Refusal.{number, not_writable}
+use Rattle.std.specs.Prelude.{Result, Ok, Err}
+use Rattle.misc.specs.Refusal.{not_writable}
+use Rattle.misc.specs.declared.refusal.WriteError.{WriteError}
+use Rattle.misc.specs.declared.refusal.WriteError.TheVariants.{Refused}
 use Rattle.misc.specs.Output.{bytes, output_of, answer_of}
-use Rattle.misc.specs.declared.Wrote.{Wrote}
 use Rattle.misc.proofs.OutputLaws.{output-refused}
 use Rattle.gtid_event.specs.Event.{tagged}
 use Rattle.gtid_event.specs.declared.GtidEvent.{GtidEvent}
@@ -25,20 +27,20 @@ module _ (e : GtidEvent) where
 
   module _ (able : writable e ≡ true) where
     -- what the layout's own writer gives
-    pub write-able : (l : List ℕ) {l' bs : List ℕ} {r : Wrote} → bs ≡ event_bytes e → (r ≡ answer_of l (bytes bs)) × (l' ≡ output_of l (bytes bs))
+    pub write-able : (l : List ℕ) {l' bs : List ℕ} {r : Result ℕ WriteError} → bs ≡ event_bytes e → (r ≡ answer_of l (bytes bs)) × (l' ≡ output_of l (bytes bs))
         → (r ≡ answer_of l (event_output e)) × (l' ≡ output_of l (event_output e))
     unfolding event_output
     write-able l is wrote = rw (able, ← is) wrote
 
-    pub length-able : (n : ℕ) → n ≡ length (event_bytes e) → record { refusal = 0; len = n } ≡ length_of e
+    pub length-able : (n : ℕ) → n ≡ length (event_bytes e) → Ok n ≡ length_of e
     unfolding length_of
     length-able n size = rw (able, ← size)
 
   module _ (unable : writable e ≡ false) where
-    pub write-refused : (l : List ℕ) → (record { refusal = number not_writable; len = 0 } ≡ answer_of l (event_output e)) × (l ≡ output_of l (event_output e))
+    pub write-refused : (l : List ℕ) → (Err (Refused not_writable) ≡ answer_of l (event_output e)) × (l ≡ output_of l (event_output e))
     unfolding event_output
     write-refused l = rw unable (output-refused l not_writable)
 
-    pub length-refused : record { refusal = number not_writable; len = 0 } ≡ length_of e
+    pub length-refused : Err not_writable ≡ length_of e
     unfolding length_of
     length-refused = rw unable

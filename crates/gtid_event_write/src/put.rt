@@ -5,7 +5,6 @@ ghost use Rattle.misc.specs.Output.{WhereFits};
 ghost use Rattle.misc.specs.Varlen.{varlen_bytes};
 ghost use Rattle.gtid_event_write.specs.Layout.{number_bytes, unless_bytes, items_bytes};
 
-use gtid_event::ENCODED_SID_LENGTH;
 use misc::UUID_LEN;
 use misc::put::{put_byte, put_varlen_uint};
 
@@ -61,10 +60,8 @@ pub(crate) fn put_serialized_uuid(sid: [u8; UUID_LEN], out: &mut [u8], at: usize
     ensures { WhereFits out.old at (items_bytes sid) out.new result }
 {
     let mut next = at;
-    let mut i = 0;
-    while i < ENCODED_SID_LENGTH {
-        next = put_item(sid[i], out, next);
-        i += 1;
+    for b in sid {
+        next = put_item(b, out, next);
     }
     next
 }

@@ -17,12 +17,10 @@ pub fn payload_size(fields: u64) -> u64
         return 0;
     }
     let fixed = fields + 2;
-    let mut n = 1;
-    while n < 9 {
+    for n in 1..9 {
         if varlen_uint_size(fixed + n) as u64 == n {
             return fixed + n;
         }
-        n += 1;
     }
     fixed + 9
 }

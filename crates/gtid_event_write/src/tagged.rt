@@ -8,9 +8,8 @@ ghost use Rattle.gtid_event_write.specs.Writable.{writable_tagged};
 use crate::put::{put_id, put_item, put_number, put_serialized_uuid, put_small, put_unless};
 use crate::size::record_size;
 use gtid_event::{GtidEvent, TAGGED_SERIALIZATION_VERSION_V2, field_id};
-use misc::Wrote;
 use misc::put::{put_byte, put_bytes, put_sized};
-use misc::refusal::NO_ROOM;
+use misc::refusal::WriteError;
 use packets::MAX_TAG;
 
 // The server marks all fields as ignorable.
@@ -130,7 +129,7 @@ fn put_envelope(payload_size: u8, out: &mut [u8]) -> usize
     put_small(LAST_NON_IGNORABLE_FIELD_ID, out, after_size)
 }
 
-pub(crate) fn serialize_tagged_v2(event: GtidEvent, out: &mut [u8]) -> Wrote
+pub(crate) fn serialize_tagged_v2(event: GtidEvent, out: &mut [u8]) -> Result<usize, WriteError>
     requires { writable_tagged event ≡ true }
     ensures value { result ≡ answer_of out.old (bytes (tagged_bytes event)) }
     ensures out_after { out.new ≡ output_of out.old (bytes (tagged_bytes event)) }
@@ -139,15 +138,9 @@ pub(crate) fn serialize_tagged_v2(event: GtidEvent, out: &mut [u8]) -> Wrote
     let len = write_tagged_fields_v2(event, &mut fields);
     let payload_size = record_size(len);
     if out.len() < payload_size {
-        return Wrote {
-            refusal: NO_ROOM,
-            len: payload_size,
-        };
+        return Err(WriteError::NoRoom(payload_size));
     }
     let after_envelope = put_envelope(payload_size as u8, out);
     put_bytes(&fields[..len], out, after_envelope);
-    Wrote {
-        refusal: 0,
-        len: payload_size,
-    }
+    Ok(payload_size)
 }

@@ -1,44 +1,44 @@
 // The untagged layout: fixed places, and the highest bit of an immediate number says that its original follows.
-ghost use Rattle.std.specs.Prelude.{◌≡◌, true, ℕ, ◌^◌, ◌≤◌, ◌<◌, length};
+ghost use Rattle.std.specs.Prelude.{◌≡◌, true, ℕ, ◌*◌, ◌-◌, ◌^◌, ◌≤◌, ◌<◌, length};
+ghost use Rattle.misc.specs.Le.{le_bytes};
 ghost use Rattle.misc.specs.Output.{bytes, output_of, answer_of, WhereFits};
+ghost use Rattle.gtid_event.specs.Event.{IsWidth};
 ghost use Rattle.gtid_event_write.specs.Writable.{writable_untagged};
 ghost use Rattle.gtid_event_write.specs.Layout.{pair_bytes, opening_bytes, later_bytes, untagged_bytes};
 
-use crate::writable::{TIMESTAMP_FLAG, VERSION_FLAG};
 use gtid_event::{
     ENCODED_SID_LENGTH, GtidEvent, IMMEDIATE_COMMIT_TIMESTAMP_LENGTH,
     IMMEDIATE_SERVER_VERSION_LENGTH, LOGICAL_TIMESTAMP_TYPECODE,
 };
-use misc::Wrote;
 use misc::lenenc::lenenc_int_len;
 use misc::put::{put_byte, put_bytes, put_lenenc_int, put_u32_le, put_u56_le, put_u64_le};
-use misc::refusal::NO_ROOM;
+use misc::refusal::WriteError;
 
-fn put_timestamps(immediate: u64, original: u64, out: &mut [u8], at: usize) -> usize
-    requires { immediate < 2 ^ 55 }
-    ensures { WhereFits out.old at (pair_bytes 7 (2 ^ 55) immediate original) out.new result }
+// A number of a timestamp's width, or of a server version's.
+fn put_wide<const WIDTH: usize>(value: u64, out: &mut [u8], at: usize) -> usize
+    requires { IsWidth WIDTH × (value < 256 ^ WIDTH) }
+    ensures { WhereFits out.old at (le_bytes WIDTH value) out.new result }
 {
-    if immediate == original {
-        return put_u56_le(immediate, out, at);
+    if WIDTH == IMMEDIATE_COMMIT_TIMESTAMP_LENGTH {
+        return put_u56_le(value, out, at);
     }
-    let immediate_with_flag = immediate | TIMESTAMP_FLAG;
-    let after_immediate = put_u56_le(immediate_with_flag, out, at);
-    put_u56_le(original, out, after_immediate)
+    put_u32_le(value as u32, out, at)
 }
 
-fn put_versions(immediate: u32, original: u32, out: &mut [u8], at: usize) -> usize
-    requires { immediate < 2 ^ 31 }
-    ensures { WhereFits out.old at (pair_bytes 4 (2 ^ 31) immediate original) out.new result }
+// An immediate number, and its original if it differs: then the highest bit of the immediate one says so.
+fn put_pair<const WIDTH: usize>(immediate: u64, original: u64, out: &mut [u8], at: usize) -> usize
+    requires { IsWidth WIDTH × (immediate < 2 ^ (8 * WIDTH - 1)) × (original < 256 ^ WIDTH) }
+    ensures { WhereFits out.old at (pair_bytes WIDTH (2 ^ (8 * WIDTH - 1)) immediate original) out.new result }
 {
     if immediate == original {
-        return put_u32_le(immediate, out, at);
+        return put_wide::<WIDTH>(immediate, out, at);
     }
-    let immediate_with_flag = immediate | VERSION_FLAG;
-    let after_immediate = put_u32_le(immediate_with_flag, out, at);
-    put_u32_le(original, out, after_immediate)
+    let mark = 1 << (8 * WIDTH - 1);
+    let after_immediate = put_wide::<WIDTH>(immediate | mark, out, at);
+    put_wide::<WIDTH>(original, out, after_immediate)
 }
 
-// An immediate number of `width` bytes, and its original if it differs; whatever the mark is.
+// The length of both; whatever the mark is.
 fn pair_len(width: usize, immediate: u64, original: u64) -> usize
     requires { width ≤ 7 }
     ensures { ((mark : ℕ) → result ≡ length (pair_bytes width mark immediate original)) × (result ≤ 14) }
@@ -65,16 +65,16 @@ fn put_later(event: GtidEvent, out: &mut [u8], at: usize) -> usize
     let after_typecode = put_byte(LOGICAL_TIMESTAMP_TYPECODE, out, at);
     let after_last = put_u64_le(event.last_committed, out, after_typecode);
     let after_sequence = put_u64_le(event.sequence_number, out, after_last);
-    let after_times = put_timestamps(
+    let after_times = put_pair::<IMMEDIATE_COMMIT_TIMESTAMP_LENGTH>(
         event.immediate_commit_timestamp,
         event.original_commit_timestamp,
         out,
         after_sequence,
     );
     let after_length = put_lenenc_int(event.tx_length, out, after_times);
-    put_versions(
-        event.immediate_server_version,
-        event.original_server_version,
+    put_pair::<IMMEDIATE_SERVER_VERSION_LENGTH>(
+        event.immediate_server_version as u64,
+        event.original_server_version as u64,
         out,
         after_length,
     )
@@ -103,27 +103,18 @@ pub(crate) fn len_untagged(event: GtidEvent) -> usize
         + pair_len(IMMEDIATE_SERVER_VERSION_LENGTH, immediate, original)
 }
 
-pub(crate) fn serialize_untagged(event: GtidEvent, out: &mut [u8]) -> Wrote
+pub(crate) fn serialize_untagged(event: GtidEvent, out: &mut [u8]) -> Result<usize, WriteError>
     requires { writable_untagged event ≡ true }
     ensures value { result ≡ answer_of out.old (bytes (untagged_bytes event)) }
     ensures out_after { out.new ≡ output_of out.old (bytes (untagged_bytes event)) }
 {
     let needed = len_untagged(event);
     if out.len() < needed {
-        return Wrote {
-            refusal: NO_ROOM,
-            len: needed,
-        };
+        return Err(WriteError::NoRoom(needed));
     }
     let after_gno = put_opening(event, out, 0);
     if event.lc_typecode == 0 {
-        return Wrote {
-            refusal: 0,
-            len: after_gno,
-        };
+        return Ok(after_gno);
     }
-    Wrote {
-        refusal: 0,
-        len: put_later(event, out, after_gno),
-    }
+    Ok(put_later(event, out, after_gno))
 }

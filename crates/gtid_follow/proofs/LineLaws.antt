@@ -1,6 +1,6 @@
 -- The lines are put whole: each is shorter than the room that is kept for one.
 use Prim.Native.Nat.{ℕ, ◌+◌, ◌-◌, ◌≤◌}
-use mathlib.Core.Path.{◌≡◌, ap, ◌∙◌}
+use mathlib.Core.Path.{◌≡◌, sym, ◌∙◌}
 use mathlib.Core.List.{List, ◌++◌}
 use native.Mathlib.Omega.{arith}
 use lib.ListN.{length, take, drop, length-append, length-drop}
@@ -8,7 +8,8 @@ use lib.Seq.{take_at, drop-append-le}
 use borrow.Author.Tests.{le-leb, ne_eqb}
 use Rattle.misc.specs.Parse.{Bytes}
 use Rattle.misc.specs.Output.{bytes, output_of, answer_of, put_end, WhereFits}
-use Rattle.misc.specs.declared.Wrote.{Wrote}
+use Rattle.misc.specs.declared.refusal.WriteError.{WriteError}
+use Rattle.std.specs.Prelude.{Result, Ok, IsOk}
 use Rattle.misc.proofs.ParseLaws.{split}
 use Rattle.misc.proofs.OutputLaws.{put-short}
 use Rattle.gtid_sets.specs.Run as run
@@ -57,21 +58,32 @@ pub record LineThere (type : ℕ) (body text : List ℕ) (len : ℕ) : Type 0 wh
   pub most : len ≤ length text
   pub is : take (len - 5) (drop 5 text) ≡ id_line type body
 
-pub line-there : (type : ℕ) (body l l' : List ℕ) (w : Wrote) → (type ≡ 35 → ⊥) → Bytes body → length l ≡ line_room
-    → w ≡ answer_of l (bytes (event_text type body)) → l' ≡ output_of l (bytes (event_text type body)) → LineThere type body l' w.len
-unfolding answer_of output_of id_line
-line-there type body l l' w other ok room answer output =
-    let text = event_text type body in
-    let least = event-text-least type body other in
-    let short : length text ≤ length l = omega (arith, event-text-most type body other ok) in
-    let size : w.len ≡ length text = ap (λ (y : Wrote). y.len) answer ∙ rw (le-leb (length text) (length l) short) in
-    let is : l' ≡ text ++ drop (length text) l = output ∙ rw (le-leb (length text) (length l) short) in
-    record {
-      least = omega arith;
-      most = rw is (simp length-append (omega arith));
-      is = rw (is, drop-append-le 5 text (drop (length text) l) least)
-          (take_at (drop 5 text) (drop (length text) l) (w.len - 5) (omega (arith, length-drop 5 text)));
-    }
+module _ (type : ℕ) (body l l' : List ℕ) (w : Result ℕ WriteError) (other : type ≡ 35 → ⊥) (ok : Bytes body) (room : length l ≡ line_room)
+    (answer : w ≡ answer_of l (bytes (event_text type body))) where
+  short : length (event_text type body) ≤ length l
+  short = omega (arith, event-text-most type body other ok)
+
+  written : w ≡ Ok (length (event_text type body))
+  unfolding answer_of
+  written = answer ∙ rw (le-leb (length (event_text type body)) (length l) short)
+
+  pub line-written : IsOk w
+  line-written = rw written
+
+  pub line-there : l' ≡ output_of l (bytes (event_text type body)) → {n : ℕ} → w ≡ Ok n → LineThere type body l' n
+  unfolding output_of id_line
+  line-there output {n} told =
+      let text = event_text type body in
+      let least = event-text-least type body other in
+      let same : ◌≡◌ {A = Result ℕ WriteError} (Ok (length text)) (Ok n) = sym written ∙ told in
+      let size : n ≡ length text = cc in
+      let is : l' ≡ text ++ drop (length text) l = output ∙ rw (le-leb (length text) (length l) short) in
+      record {
+        least = omega arith;
+        most = rw is (simp length-append (omega arith));
+        is = rw (is, drop-append-le 5 text (drop (length text) l) least)
+            (take_at (drop 5 text) (drop (length text) l) (n - 5) (omega (arith, length-drop 5 text)));
+      }
 
 -- ---- the line of an answer
 

@@ -1,6 +1,6 @@
 -- A step of the reader, as far as the program asks: what it used lies in the chunk, and is something where there may be more; the set stays
 -- in its buffer; and an event that was answered stands in the work bytes, and has an id if it is told one.
-use Prim.Native.Nat.{ℕ, ◌+◌, ◌-◌, ◌≤◌, ◌<◌, min}
+use Prim.Native.Nat.{ℕ, ◌-◌, ◌≤◌, ◌<◌, min}
 use mathlib.Core.Path.{◌≡◌, refl, sym, ◌∙◌}
 use mathlib.Core.Bool.{Bool, true, false}
 use mathlib.Core.List.{List, []}
@@ -34,7 +34,9 @@ use Rattle.binlog_reader.specs.declared.Told.TheVariants.{NoId, AlreadyThere, Ta
 use Rattle.binlog_reader.specs.declared.Reader.{Reader}
 use Rattle.binlog_reader.specs.declared.Answer as declared
 use Rattle.gtid_follow.specs.declared.Walk.{Walk as Going}
-use Rattle.gtid_follow.specs.Program.{Names, StandsIn, goes_on, is_event, Fits}
+use Rattle.gtid_follow.specs.declared.Turn.{Turn}
+use Rattle.gtid_follow.specs.declared.Turn.TheVariants.{On, Over}
+use Rattle.gtid_follow.specs.Program.{Names, StandsIn, goes_on, is_event, walk_in, UsesMore, Fits}
 
 -- ---- an event that is accepted
 
@@ -225,15 +227,15 @@ pub begin-fits : (set : List ℕ) (checksums : Bool) (r : declared.Answer) → r
     → (r.reader.len ≤ length set) × (is_event r.reader.phase ≡ false)
 begin-fits set checksums r e = rw e (omega arith, begins (lent_set set) checksums (length set))
 
--- ---- the loop over a chunk
+-- ---- a turn
 
--- how many turns are left at most: none once there is no more to do
-abbrev pub turns_left : ℕ → Going → ℕ
-turns_left chunk walk = pick walk.on (chunk - walk.used + 1) 0
+-- it holds the walk, whether that goes on or not
+module _ (walk : Going) (turn : Turn) (on : Bool) (is : turn ≡ pick on (On walk) (Over walk)) where
+  pub turn-fits : {set text : ℕ} → Fits set text walk → Fits set text (walk_in turn)
+  turn-fits fits = split on (λ h. rw (is, h) fits) (λ h. rw (is, h) fits)
 
-pub fewer-turns : (chunk : ℕ) (walk walk' : Going) → walk.on ≡ true → walk.used < chunk → walk'.used ≤ chunk
-    → (walk'.on ≡ true → walk.used < walk'.used) → turns_left chunk walk' < turns_left chunk walk
-fewer-turns chunk walk walk' on less most more = rw on (split walk'.on (λ h. rw h (omega (arith, more h))) (λ h. rw h (omega arith)))
+  pub turn-uses : {from chunk : ℕ} → walk.used ≤ chunk → (on ≡ true → from < walk.used) → UsesMore from chunk turn
+  turn-uses most more = split on (λ h. rw (is, h) (most, more h)) (λ h. rw (is, h) most)
 
 -- the same lengths, said otherwise
 pub fits-as : {set set' text text' : ℕ} {walk : Going} → set ≡ set' → text ≡ text' → Fits set text walk → Fits set' text' walk

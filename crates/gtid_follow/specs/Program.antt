@@ -1,5 +1,5 @@
 -- The lines that the program writes, what holds while it walks, and the text of the set at last.
-use Rattle.std.specs.Prelude.{ℕ, ◌≤◌, ◌≡◌, Bool, true, false, List, [], ◌∷◌, ◌++◌, length, take, drop}
+use Rattle.std.specs.Prelude.{ℕ, ◌≤◌, ◌<◌, ◌≡◌, Bool, true, false, List, [], ◌∷◌, ◌++◌, length, take, drop}
 use Rattle.misc.specs.Output.{Placed}
 use Rattle.previous_gtids_event.specs.Entry.{Entry}
 use Rattle.gtid_sets.specs.Lent.{form, lent_set}
@@ -13,6 +13,8 @@ use Rattle.binlog_reader.specs.declared.Told.TheVariants.{NoId, AlreadyThere, Ta
 use Rattle.binlog_reader.specs.declared.Said.{Said}
 use Rattle.binlog_reader.specs.declared.Said.TheVariants.{MoreWanted, Ended, Event, Refused}
 use Rattle.gtid_follow.specs.declared.Walk.{Walk}
+use Rattle.gtid_follow.specs.declared.Turn.{Turn}
+use Rattle.gtid_follow.specs.declared.Turn.TheVariants.{On, Over}
 use Rattle.gtid_follow.specs.declared.lines.Lines.{Lines}
 
 -- ---- lines
@@ -96,6 +98,21 @@ is_event (phase.Skip left) = false
 is_event (phase.Whole type have) = true
 is_event phase.Ended = false
 is_event (phase.Stopped r n) = false
+
+-- a turn, whether the walk goes on or not
+abbrev pub walk_in : Turn → Walk
+walk_in (On walk) = walk
+walk_in (Over walk) = walk
+
+-- what a turn used of a chunk of so many bytes, of which so many were used before: something, where the walk goes on
+abbrev pub UsesMore : ℕ → ℕ → Turn → Type 0
+UsesMore from chunk (On walk) = (walk.used ≤ chunk) × (from < walk.used)
+UsesMore from chunk (Over walk) = walk.used ≤ chunk
+
+-- all of the chunk, where it goes on
+abbrev pub UsesAll : ℕ → Turn → Type 0
+UsesAll chunk (On walk) = walk.used ≡ chunk
+UsesAll chunk (Over walk) = Unit {0}
 
 -- with a buffer for the set and a text of so many bytes: both hold what is in them, and no event waits for its answer
 pub record Fits (set text : ℕ) (walk : Walk) : Type 0 where

@@ -16,7 +16,8 @@ const LINE_ROOM: usize = 128;
 // `gtid `, with which the listing begins the line of an id.
 const WORD: usize = 5;
 
-// How many bytes of lines wait to be written, and whether all before could be. If not, nothing more is written.
+// How many bytes of lines wait to be written, and whether all before could be. If not, nothing more is written. (No enum of the two: `Added`
+// and `StaysUnheard` speak of both, and a line is put whole whether it is still heard or not.)
 #[derive(Clone, Copy)]
 pub(crate) struct Lines {
     pub(crate) waiting: usize,
@@ -44,9 +45,10 @@ pub(crate) fn flushed(lines: Lines, text: &[u8]) -> Lines
             heard: false,
         };
     }
-    let waiting = lines.waiting;
-    let heard = io::write_all(1, &text[..waiting]);
-    Lines { waiting: 0, heard }
+    Lines {
+        waiting: 0,
+        heard: io::write_all(1, &text[..lines.waiting]),
+    }
 }
 
 // Writes them where there is no room for a line more.
@@ -67,8 +69,7 @@ fn put_id(word: &[u8], event_type: u8, body: &[u8], text: &mut [u8], at: usize) 
     ensures { WhereFits text.old at (word.now ++ id_line event_type body.now) text.new result }
 {
     let mut line = [0u8; LINE_ROOM];
-    let wrote = list(event_type, body, &mut line);
-    let len = wrote.len;
+    let len = list(event_type, body, &mut line).unwrap();
     let from = put_bytes(word, text, at);
     put_bytes(&line[WORD..len], text, from)
 }
@@ -108,15 +109,15 @@ pub(crate) fn put_answer(
 }
 
 // The line of a refusal, if there is one; and all lines that wait are written.
-pub(crate) fn put_refusal(lines: Lines, refusal: u8, text: &mut [u8]) -> Lines
+pub(crate) fn put_refusal(lines: Lines, refusal: Option<u8>, text: &mut [u8]) -> Lines
     requires { (lines.waiting ≤ length text.old) × (line_room ≤ length text.old) }
     ensures { StaysUnheard lines result }
 {
-    if refusal == 0 {
+    let Some(number) = refusal else {
         return flushed(lines, text);
-    }
+    };
     let before = with_room(lines, text);
-    let waiting = put_refused(refusal, text, before.waiting);
+    let waiting = put_refused(number, text, before.waiting);
     flushed(
         Lines {
             waiting,

@@ -9,9 +9,12 @@ mod lines;
 mod progress;
 mod start;
 
-ghost use Rattle.std.specs.Prelude.{◌≡◌, true, ◌≤◌, ◌<◌, length};
+ghost use Rattle.std.specs.Prelude.{◌≡◌, ◌≤◌, ◌<◌, length, MatchOption};
 ghost use Rattle.listing.specs.EventText.{longest_text};
-ghost use Rattle.gtid_follow.specs.Program.{line_room, goes_on, StandsIn, Lined, Fits, Listed};
+ghost use Rattle.misc.specs.Pick.{pick};
+ghost use Rattle.gtid_sets.specs.Lent.{unfit, lent_set};
+ghost use Rattle.gtid_follow.specs.declared.Turn.TheVariants.{On, Over};
+ghost use Rattle.gtid_follow.specs.Program.{line_room, goes_on, StandsIn, Lined, walk_in, UsesMore, UsesAll, Fits, Listed};
 
 use crate::lines::Lines;
 use binlog::WORK;
@@ -24,41 +27,27 @@ use std::io::{Read, Stdin};
 // How much is read at once.
 const CHUNK: usize = 65_536;
 
-// Where the walk is: the reader, the lines, how many events were answered, how many bytes of the chunk were used, and whether there is more
-// to do.
+// Where the walk is: the reader, the lines, how many events were answered, and how many bytes of the chunk were used.
 #[derive(Clone, Copy)]
 struct Walk {
     reader: Reader,
     lines: Lines,
     events: u64,
     used: usize,
-    on: bool,
 }
 
-// The number of a refusal, or 0.
-fn number_of(said: Said) -> u8 {
-    match said {
-        Said::MoreWanted => 0,
-        Said::Ended => 0,
-        Said::Event(_, _, _) => 0,
-        Said::Refused(refusal, _) => refusal,
-    }
+// Whether there is more to do after a turn of the walk.
+#[derive(Clone, Copy)]
+enum Turn {
+    On(Walk),
+    Over(Walk),
 }
 
-// A walk that begins with a set.
-fn begun(set: &[u8], checksums: bool) -> Walk
-    ensures { Fits (length set.now) 0 result }
-{
-    let first = begin(set, checksums);
-    let reader = first.reader;
-    let said = first.said;
-    let refusal = number_of(said);
-    Walk {
-        reader,
-        lines: lines::none(),
-        events: 0,
-        used: 0,
-        on: refusal == 0,
+impl Turn {
+    fn after(walk: Walk, on: bool) -> Turn
+        ensures { result ≡ pick on (On walk) (Over walk) }
+    {
+        if on { Turn::On(walk) } else { Turn::Over(walk) }
     }
 }
 
@@ -67,21 +56,39 @@ fn goes_on(said: Said) -> bool
     ensures { result ≡ goes_on said }
 {
     match said {
-        Said::MoreWanted => true,
-        Said::Ended => false,
-        Said::Event(_, _, _) => true,
-        Said::Refused(_, _) => false,
+        Said::MoreWanted | Said::Event(_, _, _) => true,
+        Said::Ended | Said::Refused(_, _) => false,
+    }
+}
+
+// The number of a refusal.
+fn refusal_in(said: Said) -> Option<u8> {
+    match said {
+        Said::Refused(refusal, _) => Some(refusal),
+        _ => None,
     }
 }
 
 // How many events were answered.
 fn answers_in(said: Said) -> u64 {
     match said {
-        Said::MoreWanted => 0,
-        Said::Ended => 0,
         Said::Event(_, _, _) => 1,
-        Said::Refused(_, _) => 0,
+        _ => 0,
     }
+}
+
+// A walk that begins with a set.
+fn begun(set: &[u8], checksums: bool) -> Turn
+    ensures { Fits (length set.now) 0 (walk_in result) }
+{
+    let first = begin(set, checksums);
+    let walk = Walk {
+        reader: first.reader,
+        lines: lines::none(),
+        events: 0,
+        used: 0,
+    };
+    Turn::after(walk, goes_on(first.said))
 }
 
 // The lines, with one more if an event was answered; its body stands at the front of the work bytes.
@@ -91,16 +98,15 @@ fn line_of(said: Said, lines: Lines, work: &[u8], text: &mut [u8]) -> Lines
     ensures { Lined said work.now lines text.old result text.new }
 {
     match said {
-        Said::MoreWanted => lines,
-        Said::Ended => lines,
         Said::Event(told, event_type, len) => {
             lines::put_answer(lines, told, event_type, &work[..len], text)
         }
-        Said::Refused(_, _) => lines,
+        _ => lines,
     }
 }
 
-// One step through a chunk, with the line of what it answers.
+// One step through a chunk, with the line of what it answers. (The buffers go one by one and in no struct: the line is put into `text` from
+// what stands in `work`, and the borrow checker doesn't cover a read of one field of a lent struct while another is lent.)
 fn step(
     walk: Walk,
     chunk: &[u8],
@@ -108,25 +114,23 @@ fn step(
     set: &mut [u8],
     spare: &mut [u8],
     text: &mut [u8],
-) -> Walk
+) -> Turn
     requires fits { Fits (length set.old) (length text.old) walk }
     requires used_in_bounds { (walk.used < length chunk.now) × (line_room ≤ length text.old) }
-    ensures fits_2 { Fits (length set.old) (length text.old) result }
-    ensures used_in_bounds_2 { (result.used ≤ length chunk.now) × (result.on ≡ true → walk.used < result.used) }
+    ensures fits_2 { Fits (length set.old) (length text.old) (walk_in result) }
+    ensures used_in_bounds_2 { UsesMore walk.used (length chunk.now) result }
 {
     let from = walk.used;
     let fed = binlog_reader::step(walk.reader, &chunk[from..], work, set, spare);
-    let used = from + fed.used;
-    let reader = fed.reader;
     let said = fed.said;
     let lines = line_of(said, walk.lines, work, text);
-    Walk {
-        reader,
+    let next = Walk {
+        reader: fed.reader,
         lines,
-        events: progress::counted(walk.events, answers_in(said)),
-        used,
-        on: goes_on(said) & lines.heard,
-    }
+        events: walk.events.saturating_add(answers_in(said)),
+        used: from + fed.used,
+    };
+    Turn::after(next, goes_on(said) & lines.heard)
 }
 
 // Walks through a chunk.
@@ -137,27 +141,27 @@ fn through(
     set: &mut [u8],
     spare: &mut [u8],
     text: &mut [u8],
-) -> Walk
+) -> Turn
     requires fits { Fits (length set.old) (length text.old) walk }
     requires used_in_bounds { (walk.used ≤ length chunk.now) × (line_room ≤ length text.old) }
-    ensures fits_2 { Fits (length set.old) (length text.old) result }
-    ensures used_value { result.on ≡ true → result.used ≡ length chunk.now }
+    ensures fits_2 { Fits (length set.old) (length text.old) (walk_in result) }
+    ensures used_value { UsesAll (length chunk.now) result }
 {
     let mut here = walk;
-    while here.on && here.used < chunk.len() {
-        here = step(here, chunk, work, set, spare, text);
+    while here.used < chunk.len() {
+        match step(here, chunk, work, set, spare, text) {
+            Turn::On(next) => here = next,
+            Turn::Over(last) => return Turn::Over(last),
+        }
     }
-    here
+    Turn::On(here)
 }
 
 // Reads what has come, as much as fits, and returns its length: 0 at the end of the input, or where it can't be read.
 fn read_chunk(input: &mut Stdin, chunk: &mut [u8]) -> usize
     ensures { result ≤ length chunk.new }
 {
-    match input.read(chunk) {
-        Ok(len) => len,
-        Err(_) => 0,
-    }
+    input.read(chunk).unwrap_or(0)
 }
 
 // Writes the lines that wait, and then reads a chunk and walks through it.
@@ -169,35 +173,29 @@ fn next_chunk(
     set: &mut [u8],
     spare: &mut [u8],
     text: &mut [u8],
-) -> Walk
+) -> Turn
     requires fits { Fits (length set.old) (length text.old) walk }
     requires line_room_in_bounds { line_room ≤ length text.old }
-    ensures { Fits (length set.old) (length text.old) result }
+    ensures { Fits (length set.old) (length text.old) (walk_in result) }
 {
-    let reader = walk.reader;
-    let events = walk.events;
     let lines = lines::flushed(walk.lines, text);
+    let here = Walk {
+        reader: walk.reader,
+        lines,
+        events: walk.events,
+        used: 0,
+    };
     if !lines.heard {
-        return Walk {
-            reader,
-            lines,
-            events,
-            used: 0,
-            on: false,
-        };
+        return Turn::Over(here);
     }
     let len = read_chunk(input, chunk);
-    let here = Walk {
-        reader,
-        lines,
-        events,
-        used: 0,
-        on: 0 < len,
-    };
+    if len == 0 {
+        return Turn::Over(here);
+    }
     through(here, &chunk[..len], work, set, spare, text)
 }
 
-// Walks to the end of the input, or of the walk. A proved loop has to end, so it counts its turns down from a number that no run uses up.
+// Walks to the end of the input, or of the walk. A proved loop has to end, so it counts its turns, up to a number that no run uses up.
 fn walked(
     walk: Walk,
     input: &mut Stdin,
@@ -213,43 +211,46 @@ fn walked(
 {
     let mut here = walk;
     let mut so_far = progress::none();
-    let mut turns = u64::MAX;
-    while 0 < turns && here.on {
-        here = next_chunk(here, input, chunk, work, set, spare, text);
+    for _ in 0..u64::MAX {
+        match next_chunk(here, input, chunk, work, set, spare, text) {
+            Turn::On(next) => here = next,
+            Turn::Over(last) => {
+                progress::told(so_far, last.used, last.events);
+                return last;
+            }
+        }
         so_far = progress::told(so_far, here.used, here.events);
-        turns -= 1;
     }
     here
 }
 
-// Puts the text of a set at the front of `text`, and returns its length: 0 where the bytes are no set.
-fn text_of(set: &[u8], text: &mut [u8]) -> usize
+// Puts the text of a set at the front of `text`, and returns its length, if the bytes are a set.
+fn text_of(set: &[u8], text: &mut [u8]) -> Option<usize>
     requires { longest_text ≤ length text.old }
-    ensures { Listed set.now result text.new }
+    ensures { MatchOption result (lent_set set.now ≡ unfit) (λ len. Listed set.now len text.new) }
 {
-    let wrote = list_set(b"previous-gtids", set, text);
-    wrote.len
+    list_set(b"previous-gtids", set, text).ok()
 }
 
 // Writes what is left to say, and for the command, on descriptor 3, the refusal's number and the set.
 fn finish(walk: Walk, set: &[u8], text: &mut [u8])
     requires { (walk.lines.waiting ≤ length text.old) × (longest_text ≤ length text.old) }
 {
-    let last = end(walk.reader);
-    let said = last.said;
-    let refusal = number_of(said);
+    let refusal = refusal_in(end(walk.reader).said);
     let lines = lines::put_refusal(walk.lines, refusal, text);
     if !lines.heard {
         return;
     }
-    let len = text_of(set, text);
+    let number = [refusal.unwrap_or(0)];
+    let Some(len) = text_of(set, text) else {
+        io::write_all(3, &number);
+        return;
+    };
     if !io::write_all(1, &text[..len]) {
         return;
     }
-    io::write_all(3, &[refusal]);
-    if 0 < len {
-        io::write_all(3, set);
-    }
+    io::write_all(3, &number);
+    io::write_all(3, set);
 }
 
 fn follow(
@@ -262,13 +263,12 @@ fn follow(
 )
     requires { longest_text ≤ length text.old }
 {
-    let start = start::read_start(set);
-    let len = start.len;
-    let walk = begun(&set[..len], start.checksums);
-    let last = walked(walk, input, chunk, work, set, spare, text);
-    let reader = last.reader;
-    let end = reader.len;
-    finish(last, &set[..end], text);
+    let start = start::read_start(set).unwrap_or_default();
+    let last = match begun(&set[..start.len], start.checksums) {
+        Turn::On(walk) => walked(walk, input, chunk, work, set, spare, text),
+        Turn::Over(walk) => walk,
+    };
+    finish(last, &set[..last.reader.len], text);
 }
 
 fn main(rt: HostRuntime) {

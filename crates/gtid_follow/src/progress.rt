@@ -16,14 +16,6 @@ pub(crate) fn none() -> Progress {
     Progress { mib: 0, since: 0 }
 }
 
-// So many more, up to what a number can hold.
-pub(crate) fn counted(count: u64, more: u64) -> u64 {
-    if u64::MAX - count < more {
-        return u64::MAX;
-    }
-    count + more
-}
-
 // `64 MiB, 1234 events`
 fn tell(mib: u64, events: u64) {
     io::print_decimal(2, mib);
@@ -34,14 +26,14 @@ fn tell(mib: u64, events: u64) {
 
 // After so many bytes more, and so many events altogether.
 pub(crate) fn told(before: Progress, more: usize, events: u64) -> Progress {
-    let since = counted(before.since, more as u64);
+    let since = before.since.saturating_add(more as u64);
     if since < STRETCH {
         return Progress {
             mib: before.mib,
             since,
         };
     }
-    let mib = counted(before.mib, STRETCH_MIB);
+    let mib = before.mib.saturating_add(STRETCH_MIB);
     tell(mib, events);
     Progress {
         mib,

@@ -20,8 +20,7 @@ fn text_of(input: &[u8], len: usize, text: &mut [u8]) -> usize
     requires { (enough_input ≤ length input.now) × (len ≤ length input.now) × (longest_text ≤ length text.old) }
     ensures { Listed (length input.now) (take len input.now) result text.new }
 {
-    let wrote = list_input(&input[..len], text);
-    wrote.len
+    list_input(&input[..len], text).unwrap()
 }
 
 // Lists what was read into `input`, over `text`, and writes it.

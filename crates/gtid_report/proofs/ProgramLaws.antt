@@ -7,7 +7,8 @@ use lib.ListN.{length, take, drop, length-append}
 use lib.Seq.{take_all, take_at, length-take-le}
 use borrow.Author.Tests.{le-leb}
 use Rattle.misc.specs.Output.{bytes, output_of, answer_of}
-use Rattle.misc.specs.declared.Wrote.{Wrote}
+use Rattle.misc.specs.declared.refusal.WriteError.{WriteError}
+use Rattle.std.specs.Prelude.{Result, Ok, IsOk}
 use Rattle.misc.proofs.ParseLaws.{split}
 use Rattle.gtid_sets.specs.Limits.{longest_set}
 use Rattle.gtid_sets.specs.Lent.{Lent, form, unfit, lent_set}
@@ -64,16 +65,30 @@ pub longest_report-is : longest_report ≡ 2476
 unfolding longest_report max_sets
 longest_report-is = refl
 
-pub text-whole : (report : Report) (l l' : List ℕ) (w : Wrote) → Built report → longest_report ≤ length l
-    → w ≡ answer_of l (bytes (report_text (lines_of report))) → l' ≡ output_of l (bytes (report_text (lines_of report)))
-    → Reported report w.len l'
-unfolding answer_of output_of
-text-whole report l l' w b room answer output =
-    let most : length (report_text (lines_of report)) ≤ longest_report = rw b.over (longest b.files) in
-    let short : length (report_text (lines_of report)) ≤ length l = omega arith in
-    let size : w.len ≡ length (report_text (lines_of report)) = ap (λ (y : Wrote). y.len) answer ∙ rw (le-leb _ _ short) in
-    let is : l' ≡ report_text (lines_of report) ++ drop (length (report_text (lines_of report))) l = output ∙ rw (le-leb _ _ short) in
-    record {
-      fits = rw (size, is) (simp length-append (omega arith));
-      whole = rw is (take_at (report_text (lines_of report)) (drop (length (report_text (lines_of report))) l) w.len (sym size));
-    }
+module _ (report : Report) (l l' : List ℕ) (w : Result ℕ WriteError) (b : Built report) (room : longest_report ≤ length l)
+    (answer : w ≡ answer_of l (bytes (report_text (lines_of report)))) (output : l' ≡ output_of l (bytes (report_text (lines_of report)))) where
+  abbrev text : List ℕ
+  text = report_text (lines_of report)
+
+  short : length text ≤ length l
+  short =
+      let most : length text ≤ longest_report = rw b.over (longest b.files) in
+      omega arith
+
+  written : w ≡ Ok (length text)
+  unfolding answer_of
+  written = answer ∙ rw (le-leb _ _ short)
+
+  pub text-written : IsOk w
+  text-written = rw written
+
+  pub text-whole : {n : ℕ} → w ≡ Ok n → Reported report n l'
+  unfolding output_of
+  text-whole {n} told =
+      let same : ◌≡◌ {A = Result ℕ WriteError} (Ok (length text)) (Ok n) = sym written ∙ told in
+      let size : length text ≡ n = cc in
+      let is : l' ≡ text ++ drop (length text) l = output ∙ rw (le-leb _ _ short) in
+      record {
+        fits = rw (← size, is) (simp length-append (omega arith));
+        whole = rw is (take_at text (drop (length text) l) n size);
+      }

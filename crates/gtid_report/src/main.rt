@@ -3,12 +3,11 @@
 // `with_file` promises the report with the whole file, of a longer one too, and `text_of` the whole text.
 #![tactic(auto)]
 
-ghost use Rattle.std.specs.Prelude.{◌≡◌, ◌≤◌, ◌<◌, length, take};
+ghost use Rattle.std.specs.Prelude.{◌≤◌, ◌<◌, length, take, IfSome};
 ghost use Rattle.gtid_sets.specs.Limits.{longest_set};
 ghost use Rattle.report.specs.Text.{longest_report};
 ghost use Rattle.gtid_report.specs.Program.{Built, Grown, Reported};
 
-use misc::le::read_u32_le;
 use report::{LONGEST_REPORT, MAX_SETS, Report};
 use set_check::LONGEST_SET;
 
@@ -17,46 +16,23 @@ const SET_ROOM: usize = LONGEST_SET + 1;
 
 const TEXT_ROOM: usize = LONGEST_REPORT;
 
-// How many bytes of a file were read; `more` is false where there was none.
-#[derive(Clone, Copy)]
-struct Got {
-    more: bool,
-    len: usize,
-}
-
-// The report so far, and whether there may be a file more.
-#[derive(Clone, Copy)]
-struct Turn {
-    more: bool,
-    report: Report,
-}
-
-fn no_more() -> Got
-    ensures { result.len ≡ 0 }
-{
-    Got {
-        more: false,
-        len: 0,
-    }
-}
-
-// Reads the next file to the front of `room`: four bytes that tell its length, and so many. What doesn't fit or doesn't come ends the
-// input.
-fn read_file(room: &mut [u8]) -> Got
-    ensures { result.len ≤ length room.old }
+// Reads the next file to the front of `room`, and tells how many bytes it has: four bytes that tell its length, and so many. What doesn't
+// fit or doesn't come ends the input.
+fn read_file(room: &mut [u8]) -> Option<usize>
+    ensures { IfSome result (λ len. len ≤ length room.old) }
 {
     let mut head = [0u8; 4];
     if io::read_full(0, &mut head) < 4 {
-        return no_more();
+        return None;
     }
-    let len = read_u32_le(&head, 0).value as usize;
+    let len = u32::from_le_bytes(head) as usize;
     if room.len() < len {
-        return no_more();
+        return None;
     }
     if io::read_full(0, &mut room[..len]) < len {
-        return no_more();
+        return None;
     }
-    Got { more: true, len }
+    Some(len)
 }
 
 // The report with one file more, of which so much stands at the front of `room`: all of it or, of a longer one, as much as `room` holds.
@@ -64,27 +40,17 @@ fn with_file(report: Report, room: &[u8], len: usize) -> Report
     requires { (longest_set < length room.now) × (len ≤ length room.now) }
     ensures { Grown report (length room.now) (take len room.now) result }
 {
-    let added = report.add(&room[..len]);
-    added.report
+    report.add(&room[..len]).report
 }
 
-// Reads a file and adds it.
-fn add_next(report: Report, room: &mut [u8]) -> Turn
+// Reads a file and adds it, if there is one.
+fn add_next(report: Report, room: &mut [u8]) -> Option<Report>
     requires longest_set_in_bounds { longest_set < length room.old }
     requires built { Built report }
-    ensures { Built result.report }
+    ensures { IfSome result (λ next. Built next) }
 {
-    let got = read_file(room);
-    if got.more {
-        return Turn {
-            more: true,
-            report: with_file(report, room, got.len),
-        };
-    }
-    Turn {
-        more: false,
-        report,
-    }
+    let len = read_file(room)?;
+    Some(with_file(report, room, len))
 }
 
 // The report over all files.
@@ -92,17 +58,14 @@ fn read_all(room: &mut [u8]) -> Report
     requires { longest_set < length room.old }
     ensures { Built result }
 {
-    let mut turn = Turn {
-        more: true,
-        report: Report::new(),
-    };
-    let mut left = MAX_SETS;
-    while 0 < left && turn.more {
-        let report = turn.report;
-        turn = add_next(report, room);
-        left -= 1;
+    let mut report = Report::new();
+    for _ in 0..MAX_SETS {
+        let Some(next) = add_next(report, room) else {
+            return report;
+        };
+        report = next;
     }
-    turn.report
+    report
 }
 
 // Puts the report's text at the front of `text` and returns its length.
@@ -111,8 +74,7 @@ fn text_of(report: Report, text: &mut [u8]) -> usize
     requires built { Built report }
     ensures { Reported report result text.new }
 {
-    let wrote = report.write(text);
-    wrote.len
+    report.write(text).unwrap()
 }
 
 // Reports on the input, over `room` and `text`, and writes the text.

@@ -4,7 +4,8 @@ use mathlib.Core.Path.{◌≡◌, refl, sym}
 use mathlib.Core.Bool.{true, false, ◌&&◌, ◌||◌, or-false, or_comm}
 use mathlib.Core.List.{List}
 use lib.Dec.{eqb}
-use Rattle.misc.specs.Refusal.{Refusal, bad_gno}
+use Rattle.misc.specs.declared.refusal.Refusal.{Refusal}
+use Rattle.misc.specs.Refusal.{bad_gno}
 use Rattle.packets.specs.Gno.{is_gno}
 use Rattle.packets.specs.Key.{Key, same}
 use Rattle.packets.proofs.Tests.{split}

@@ -3,7 +3,7 @@ use Prim.Native.Nat.{ℕ, ◌+◌}
 use mathlib.Core.Path.{◌≡◌, sym, ap, ◌∙◌}
 use mathlib.Core.Bool.{false}
 use mathlib.Core.List.{List}
-use Rattle.misc.specs.Refusal.{Refusal}
+use Rattle.misc.specs.declared.refusal.Refusal.{Refusal}
 use Rattle.previous_gtids_event.specs.Entry.{Entry}
 use Rattle.previous_gtids_event.specs.Rewrite.{body_bytes}
 use Rattle.gtid_sets.specs.Run.{Event, anonymous, broken, names, refused, answer, is_taken, after}

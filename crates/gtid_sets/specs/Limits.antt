@@ -1,7 +1,8 @@
 -- The set limits, judged in one place.
-use Rattle.std.specs.Prelude.{ℕ, ◌+◌, ◌*◌, ◌<◌, ◌≡◌, Bool, true, false, ◌&&◌, ◌||◌, List, [], ◌∷◌, ◌++◌, length, leb, eqb}
+use Rattle.std.specs.Prelude.{ℕ, ◌+◌, ◌*◌, ◌<◌, ◌≡◌, ⊤, Bool, true, false, ◌&&◌, ◌||◌, List, [], ◌∷◌, ◌++◌, length, leb, eqb, Result, Ok, Err}
 use Rattle.misc.specs.Pick.{pick}
-use Rattle.misc.specs.Refusal.{Refusal, number, full, crowded}
+use Rattle.misc.specs.declared.refusal.Refusal.{Refusal}
+use Rattle.misc.specs.Refusal.{number, full, crowded}
 use Rattle.packets.specs.Gno.{Interval}
 use Rattle.packets.specs.Key.{Key}
 use Rattle.previous_gtids_event.specs.Entry.{Entry, entry}
@@ -44,10 +45,10 @@ abbrev pub is_fine : Judged → Bool
 is_fine fine = true
 is_fine (breaks r) = false
 
--- the same as a number: the refusal's, or 0
-abbrev pub judged_as : Judged → ℕ
-judged_as fine = 0
-judged_as (breaks r) = number r
+-- the same as an answer
+abbrev pub judged_as : Judged → Result ⊤ Refusal
+judged_as fine = Ok tt
+judged_as (breaks r) = Err r
 
 -- what the limits say of a set, by how many of its entries have too many intervals, and how many entries and intervals it has: each entry
 -- first, then all together

@@ -1,7 +1,8 @@
 -- Offering an event to a set: the answer, and the set after it.
 use Rattle.std.specs.Prelude.{ℕ, Bool, true, false, ◌&&◌, List, eqb}
 use Rattle.misc.specs.Pick.{pick}
-use Rattle.misc.specs.Refusal.{Refusal, bad_gno}
+use Rattle.misc.specs.declared.refusal.Refusal.{Refusal}
+use Rattle.misc.specs.Refusal.{bad_gno}
 use Rattle.packets.specs.Gno.{is_gno}
 use Rattle.packets.specs.Key.{Key, same}
 use Rattle.previous_gtids_event.specs.Entry.{Entry}

@@ -16,16 +16,13 @@ use Rattle.set_check.specs.Cursor.{beyond_of, entries_left, CursorIs}
 use Rattle.set_check.specs.declared.Cursor.{Cursor}
 use Rattle.set_check.specs.declared.EntryPlace.{EntryPlace}
 use Rattle.set_check.proofs.CursorLaws.{ahead, none_ahead}
-use Rattle.text.specs.Keys.{tag_text, key_text}
+use Rattle.text.specs.Keys.{key_text}
 use Rattle.text.specs.Lines.{newline}
-use Rattle.text.proofs.KeyTextLaws.{key-long, tag-most}
+use Rattle.text.proofs.KeyTextLaws.{key-long}
 use Rattle.listing.specs.SetText.{intervals_text, entry_text, entries_text}
 use Rattle.listing.specs.Inside.{EntryThere, tag_in, intervals_there, entry_in, line_length}
 
 -- ---- one entry
-
-pub tag-within : (set : List ℕ) (e : EntryPlace) → EntryThere set e → length (tag_text (tag_in set e)) ≤ 33
-tag-within set e is = tag-most (tag_in set e) (omega (arith, part_length e.tag_len set e.tag_at is.tag, is.short))
 
 module _ (set : List ℕ) (at : ℕ) (e : EntryPlace) (there : at + 16 ≤ length set) where
   abbrev uuid : List ℕ

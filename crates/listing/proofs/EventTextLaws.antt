@@ -1,15 +1,16 @@
 -- Laws of the text of events: what is written whole, and which text it is.
-use mathlib.Core.Path.{◌≡◌, refl, sym, ap, ◌∙◌}
+use mathlib.Core.Path.{◌≡◌, sym, ap}
 use mathlib.Core.List.{List, [], ◌∷◌, ◌++◌}
-use Prim.Native.Nat.{ℕ, ◌+◌, ◌-◌, ◌≤◌}
+use Prim.Native.Nat.{ℕ, ◌+◌, ◌≤◌}
 use native.Mathlib.Omega.{arith}
-use lib.ListN.{length, get_or, take, drop, length-append}
-use lib.Seq.{take_all}
+use lib.ListN.{length, take, length-append}
 use borrow.Author.Tests.{eq-eqb, ne_eqb}
-use Rattle.misc.specs.Refusal.{number, ended}
+use Rattle.std.specs.Prelude.{Result, Ok, Err}
 use Rattle.misc.specs.Parse.{Parse, Bytes}
 use Rattle.misc.specs.Output.{Output, bytes, output_of, answer_of, WhereFits}
-use Rattle.misc.specs.declared.Wrote.{Wrote}
+use Rattle.misc.specs.Refusal.{number}
+use Rattle.misc.specs.declared.refusal.Refusal.{Refusal}
+use Rattle.misc.specs.declared.refusal.WriteError.{WriteError}
 use Rattle.misc.proofs.OutputLaws.{◌also◌, output-fits}
 use Rattle.previous_gtids_event.specs.Previous.{previous}
 use Rattle.previous_gtids_event.proofs.Reading.{uuid-of, tag-of}
@@ -23,23 +24,23 @@ use Rattle.gtid_event_read.proofs.NamedLaws.{named-stopped, named-told, named-pa
 use Rattle.text.specs.Digits.{decimal}
 use Rattle.text.specs.Keys.{colon, key_text}
 use Rattle.text.specs.Lines.{newline, refused_text}
-use Rattle.listing.specs.EventText.{anonymous_word, gtid_word, id_text, record_text, gtid_text, taken_text, event_text, listing}
+use Rattle.listing.specs.EventText.{anonymous_word, gtid_word, id_text, record_text, gtid_text, taken_text, event_text}
 
 -- ---- a text that is written whole
 
 -- it is put at the front, and there is room
 pub fits_whole : {l l' bs : List ℕ} {r : ℕ} (n : ℕ) → n ≡ length bs → n ≤ length l → WhereFits l 0 bs l' r
-    → (record { refusal = 0; len = n } ≡ answer_of l (bytes bs)) × (l' ≡ output_of l (bytes bs))
+    → (Ok n ≡ answer_of l (bytes bs)) × (l' ≡ output_of l (bytes bs))
 fits_whole {l} {l'} {bs} {r} n size room w =
     let p = w.placed (omega arith) in
     output-fits (omega arith) (record { holds = p.holds; ends = omega arith })
 
 -- the same by another name
-pub same-output : {l' : List ℕ} {a b : Output} {w : Wrote} (l : List ℕ) → a ≡ b → (w ≡ answer_of l a) × (l' ≡ output_of l a)
+pub same-output : {l' : List ℕ} {a b : Output} {w : Result ℕ WriteError} (l : List ℕ) → a ≡ b → (w ≡ answer_of l a) × (l' ≡ output_of l a)
     → (w ≡ answer_of l b) × (l' ≡ output_of l b)
 same-output l e p = rw e at p
 
-pub same_text : {l' a b : List ℕ} {w : Wrote} (l : List ℕ) → a ≡ b → (w ≡ answer_of l (bytes a)) × (l' ≡ output_of l (bytes a))
+pub same_text : {l' a b : List ℕ} {w : Result ℕ WriteError} (l : List ℕ) → a ≡ b → (w ≡ answer_of l (bytes a)) × (l' ≡ output_of l (bytes a))
     → (w ≡ answer_of l (bytes b)) × (l' ≡ output_of l (bytes b))
 same_text l e p = same-output l (ap bytes e) p
 
@@ -63,21 +64,21 @@ pub id-named : (e : GtidEvent) → length e.sid ≡ 16
     → record_text e ≡ gtid_text (names (e.sid ++ take e.tag_len e.tag) e.gno)
 id-named e whole = rw (uuid-of e.sid (take e.tag_len e.tag) whole, tag-of e.sid (take e.tag_len e.tag) whole)
 
-module _ (type : ℕ) (body : List ℕ) (said : GtidRead) (is : said ≡ gtid_read (named type body)) where
-  pub text-refused : (said.refusal ≡ 0 → ⊥) → refused_text said.refusal ≡ gtid_text (event_of type body)
+module _ (type : ℕ) (body : List ℕ) where
+  pub text-refused : (r : Refusal) → Err r ≡ gtid_read (named type body) → refused_text (number r) ≡ gtid_text (event_of type body)
   unfolding event_of
-  text-refused h = let (x, e, n) = named-stopped type body said is h in ap refused_text n ∙ sym (ap (λ (p : Parse GtidEvent). gtid_text (says type p)) e)
+  text-refused r told = sym (ap (λ (p : Parse GtidEvent). gtid_text (says type p)) (named-stopped type body told))
 
-  module _ (told : said.refusal ≡ 0) where
+  module _ (said : GtidRead) (told : Ok said ≡ gtid_read (named type body)) where
     pub text-anonymous : type ≡ 34 → anonymous_word ++ (newline ∷ []) ≡ gtid_text (event_of type body)
     unfolding event_of
-    text-anonymous t = rw (named-told type body said is told, eq-eqb type 34 t)
+    text-anonymous t = rw (named-told type body told, eq-eqb type 34 t)
 
     pub text-id : (type ≡ 34 → ⊥) → Bytes body → record_text said.event ≡ gtid_text (event_of type body)
     unfolding event_of
-    text-id t ok = rw (named-told type body said is told, ne_eqb type 34 t) (id-named said.event (named-parts type body said is told ok).0)
+    text-id t ok = rw (named-told type body told, ne_eqb type 34 t) (id-named said.event (named-parts type body told ok).0)
 
--- ---- the text of an event, and of an input
+-- ---- the text of an event
 
 module _ (type : ℕ) (body : List ℕ) where
   pub event-previous : type ≡ 35 → taken_text (taken_in (previous body)) ≡ event_text type body
@@ -87,11 +88,3 @@ module _ (type : ℕ) (body : List ℕ) where
   pub event-gtid : (type ≡ 35 → ⊥) → gtid_text (event_of type body) ≡ event_text type body
   unfolding event_text
   event-gtid t = rw (ne_eqb type 35 t)
-
-pub no-input : (input : List ℕ) → length input ≡ 0 → refused_text (number ended) ≡ listing input
-no-input [] h = refl
-no-input (type ∷ body) h = absurd (omega arith)
-
-pub some-input : (input : List ℕ) → (length input ≡ 0 → ⊥) → event_text (get_or input 0 0) (take (length input - 1) (drop 1 input)) ≡ listing input
-some-input [] h = absurd (h refl)
-some-input (type ∷ body) h = ap (event_text type) (take_all (length (type ∷ body) - 1) body (omega arith))

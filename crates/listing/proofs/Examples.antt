@@ -60,7 +60,8 @@ id_body = (0 ∷ uuid) ++ eight 6
 
 -- `gtid 00112233-4455-6677-8899-aabbccddeeff:6`
 an-id : listing (33 ∷ id_body) ≡ (103 ∷ 116 ∷ 105 ∷ 100 ∷ 32 ∷ []) ++ name ++ (58 ∷ 54 ∷ 10 ∷ [])
-unfolding event_text event_of named seen untagged opening_at byte_at bytes_at le_at le_of body_limit uuid_of tag_of id_text key_text uuid_text hex hex_digit decimal decimal_in
+unfolding event_text event_of named seen untagged opening_at byte_at bytes_at le_at le_of body_limit uuid_of tag_of
+    id_text key_text uuid_text hex hex_digit decimal decimal_in
 an-id = refl
 
 -- `anonymous`
@@ -81,7 +82,8 @@ nothing = refl
 
 -- an interval from 0 to 5: 15
 from_zero : listing (previous_of 1 (eight 0 ++ eight 5)) ≡ refusing (49 ∷ 53 ∷ [])
-unfolding event_text refused_text decimal decimal_in body_limit le_of le_at many bytes_at gno_top tag_at key_at head_at interval_at entry_at says_tagged says_count previous
+unfolding event_text refused_text decimal decimal_in body_limit le_of le_at many bytes_at
+    gno_top tag_at key_at head_at interval_at entry_at says_tagged says_count previous
 from_zero = refl
 
 -- type 7: 8

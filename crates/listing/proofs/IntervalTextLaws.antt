@@ -1,6 +1,7 @@
 -- The text of intervals, one after another.
 use Prim.Native.Nat.{ℕ, ◌+◌, ◌-◌, ◌*◌, ◌≤◌, ◌<◌}
-use mathlib.Core.Path.{◌≡◌, ap, ◌∙◌}
+use mathlib.Core.Path.{◌≡◌, refl, ap, ◌∙◌}
+use native.Mathlib.Numerals.{unary_clauses}
 use mathlib.Core.List.{List, [], ◌∷◌, ◌++◌}
 use native.Mathlib.Omega.{arith}
 use lib.ListN.{length, length-append}
@@ -11,39 +12,48 @@ use Rattle.set_intervals.proofs.Standing.{intervals-more}
 use Rattle.text.specs.Intervals.{interval_text}
 use Rattle.listing.specs.SetText.{intervals_text}
 
-pub none_ahead : (bs : List ℕ) (at left : ℕ) → left ≡ 0 → intervals_text (intervals_at left bs at) ≡ []
-unfolding intervals_text
-none_ahead bs at left h = rw h
+-- the intervals of an entry from one of them on, as text
+abbrev pub text_from : List ℕ → ℕ → ℕ → ℕ → List ℕ
+text_from bs first count i = intervals_text (intervals_at (count - i) bs (first + 16 * i))
 
-pub next-text : (bs : List ℕ) (at left : ℕ) → 0 < left → (start end : ℕ) → start ≡ number_at bs at → end ≡ number_at bs (at + 8)
-    → intervals_text (intervals_at left bs at) ≡ interval_text start end ++ intervals_text (intervals_at (left - 1) bs (at + 16))
-unfolding intervals_text
-next-text bs at left some start end p q =
-    let next : intervals_at left bs at ≡ interval start end ∷ intervals_at (left - 1) bs (at + 16) = intervals-more bs at left some ∙ rw (p, q) in
-    ap intervals_text next
+module _ (bs : List ℕ) (first count : ℕ) where
+  pub all_ahead : text_from bs first count 0 ≡ intervals_text (intervals_at count bs first)
+  all_ahead = simp unary_clauses refl
+
+  pub none_ahead : {i : ℕ} → count ≤ i → text_from bs first count i ≡ []
+  unfolding intervals_text
+  none_ahead {i} all =
+      let none : count - i ≡ 0 = omega arith in
+      rw none
+
+  pub next-text : (i : ℕ) → i < count → (start end : ℕ) → start ≡ number_at bs (first + 16 * i) → end ≡ number_at bs (first + 16 * i + 8)
+      → text_from bs first count i ≡ interval_text start end ++ text_from bs first count (i + 1)
+  unfolding intervals_text
+  next-text i some start end p q =
+      let next : intervals_at (count - i) bs (first + 16 * i) ≡ interval start end ∷ intervals_at (count - i - 1) bs (first + 16 * i + 16) =
+      intervals-more bs (first + 16 * i) (count - i) (omega arith) ∙ rw (p, q) in
+      let left : count - i - 1 ≡ count - (i + 1) = omega arith in
+      let place : first + 16 * i + 16 ≡ first + 16 * (i + 1) = omega arith in
+      ap intervals_text next ∙ rw (left, place)
 
 -- ---- how long their text is
 
 -- that of some is counted already: with what is left it is what is wanted, and an interval takes 42 bytes at most
-pub record Counting (bs : List ℕ) (wanted count len at left : ℕ) : Type 0 where
-  pub inside : at + 16 * left ≤ length bs
-  pub to-do : wanted ≡ len + length (intervals_text (intervals_at left bs at))
-  pub most : len + 42 * left ≤ 42 * count
+pub record Counting (bs : List ℕ) (first count i len : ℕ) : Type 0 where
+  pub to-do : length (text_from bs first count 0) ≡ len + length (text_from bs first count i)
+  pub most : len ≤ 42 * i
 
-pub counting-none : (bs : List ℕ) (first count : ℕ) → first + 16 * count ≤ length bs
-    → Counting bs (length (intervals_text (intervals_at count bs first))) count 0 first count
-counting-none bs first count there = record { inside = there; to-do = omega arith; most = omega arith }
+pub counting-turn : {bs : List ℕ} {first count i len : ℕ} → Counting bs first count i len → i < count → (start end : ℕ)
+    → start ≡ number_at bs (first + 16 * i) → end ≡ number_at bs (first + 16 * i + 8) → (n : ℕ) → n ≡ length (interval_text start end) → n ≤ 42
+    → Counting bs first count (i + 1) (len + n)
+counting-turn {bs} {first} {count} {i} g some start end p q n size short =
+    let text = next-text bs first count i some start end p q in
+    record {
+      to-do = omega (arith, g.to-do, ap length text, length-append (interval_text start end) (text_from bs first count (i + 1)));
+      most = omega (arith, g.most);
+    }
 
-module _ (bs : List ℕ) (wanted count len at left : ℕ) (g : Counting bs wanted count len at left) where
-  pub counting-all : left ≡ 0 → (len ≡ wanted) × (len ≤ 42 * count)
-  counting-all h = (omega (arith, g.to-do, ap length (none_ahead bs at left h)), omega (arith, g.most))
-
-  pub counting-turn : 0 < left → (start end : ℕ) → start ≡ number_at bs at → end ≡ number_at bs (at + 8) → (n : ℕ) → n ≡ length (interval_text start end)
-      → n ≤ 42 → Counting bs wanted count (len + n) (at + 16) (left - 1)
-  counting-turn some start end p q n size short =
-      let text = next-text bs at left some start end p q in
-      record {
-        inside = omega (arith, g.inside);
-        to-do = omega (arith, g.to-do, ap length text, length-append (interval_text start end) (intervals_text (intervals_at (left - 1) bs (at + 16))));
-        most = omega (arith, g.most);
-      }
+pub counting-all : {bs : List ℕ} {first count i len : ℕ} → Counting bs first count i len → i ≡ count
+    → (len ≡ length (intervals_text (intervals_at count bs first))) × (len ≤ 42 * count)
+counting-all {bs} {first} {count} {i} g all =
+    (omega (arith, g.to-do, ap length (all_ahead bs first count), ap length (none_ahead bs first count {i = i} (omega arith))), omega (arith, g.most))

@@ -6,11 +6,14 @@ use native.Mathlib.Omega.{arith}
 use lib.ListN.{length, take, drop, length-append}
 use lib.Seq.{take-append_seam}
 use borrow.Author.Tests.{le-leb}
-use Rattle.misc.specs.Refusal.{Refusal, number, bad_gno}
+use Rattle.std.specs.Prelude.{Result, Ok, Err}
+use Rattle.misc.specs.Refusal.{bad_gno, error_number}
+use Rattle.misc.specs.declared.refusal.Refusal.{Refusal}
+use Rattle.misc.specs.declared.refusal.WriteError.{WriteError}
+use Rattle.misc.specs.declared.refusal.WriteError.TheVariants.{Refused}
 use Rattle.misc.specs.Parse.{Parse, refuse, parsed}
 use Rattle.misc.specs.Output.{refused, bytes, output_of, answer_of}
-use Rattle.misc.specs.declared.Wrote.{Wrote}
-use Rattle.misc.proofs.ParseLaws.{no_zero}
+use Rattle.misc.proofs.ParseLaws.{ok-err}
 use Rattle.misc.proofs.OutputLaws.{output-refused}
 use Rattle.packets.proofs.Tests.{split}
 use Rattle.previous_gtids_event.specs.Entry.{Entry}
@@ -62,7 +65,7 @@ taken-listed body set len t =
     ap (λ x. listed_set previous_word (lent_set x)) t.front ∙ ap (listed_set previous_word) t.lent
     ∙ sym (ap bytes (taken-text body t.entries t.is t.lent))
 
-answer-fits : (l bs : List ℕ) → length bs ≤ length l → answer_of l (bytes bs) ≡ record { refusal = 0; len = length bs }
+answer-fits : (l bs : List ℕ) → length bs ≤ length l → answer_of l (bytes bs) ≡ Ok (length bs)
 unfolding answer_of
 answer-fits l bs h = rw (le-leb (length bs) (length l) h)
 
@@ -70,33 +73,38 @@ output-there : (l bs : List ℕ) → length bs ≤ length l → output_of l (byt
 unfolding output_of
 output-there l bs h = rw (le-leb (length bs) (length l) h)
 
-module _ (body buffer set : List ℕ) (taken : Wrote) (long : length buffer ≡ longest_set) (told : taken ≡ answer_of buffer (taken_in (previous body)))
-    (left : set ≡ output_of buffer (taken_in (previous body))) where
-  number-told : (r : Refusal) → taken_in (previous body) ≡ refused r → taken.refusal ≡ number r
-  number-told r e = ap (λ (y : Wrote). y.refusal) (told ∙ ap (answer_of buffer) e ∙ sym (output-refused buffer r).0)
+module _ (body buffer set : List ℕ) (long : length buffer ≡ longest_set) (left : set ≡ output_of buffer (taken_in (previous body))) where
+  refused-told : (r : Refusal) → taken_in (previous body) ≡ refused r → answer_of buffer (taken_in (previous body)) ≡ Err (Refused r)
+  refused-told r e = ap (answer_of buffer) e ∙ sym (output-refused buffer r).0
 
   has_room : (s : List Entry) → lent_set (body_bytes s) ≡ form s → length (body_bytes s) ≤ length buffer
   has_room s lent = omega (arith, lent-short (body_bytes s) s lent)
 
   wrote-told : (s : List Entry) → taken_in (previous body) ≡ bytes (body_bytes s) → lent_set (body_bytes s) ≡ form s
-      → taken ≡ record { refusal = 0; len = length (body_bytes s) }
-  wrote-told s e lent = told ∙ ap (answer_of buffer) e ∙ answer-fits buffer (body_bytes s) (has_room s lent)
+      → answer_of buffer (taken_in (previous body)) ≡ Ok (length (body_bytes s))
+  wrote-told s e lent = ap (answer_of buffer) e ∙ answer-fits buffer (body_bytes s) (has_room s lent)
 
-  pub taken_refused : (taken.refusal ≡ 0 → ⊥) → refused_text taken.refusal ≡ taken_text (taken_in (previous body))
-  taken_refused h =
-      taken-cases body (λ r e. ap refused_text (number-told r e) ∙ sym (ap taken_text e))
-      (λ s e lent. absurd (h (ap (λ (y : Wrote). y.refusal) (wrote-told s e lent))))
+  pub taken_refused : (e : WriteError) → Err e ≡ answer_of buffer (taken_in (previous body))
+      → refused_text (error_number e) ≡ taken_text (taken_in (previous body))
+  taken_refused e told =
+      taken-cases body
+      (λ r is.
+      let same : ◌≡◌ {A = Result ℕ WriteError} (Err e) (Err (Refused r)) = told ∙ refused-told r is in
+      let why : e ≡ Refused r = cc in
+      ap (λ (x : WriteError). refused_text (error_number x)) why ∙ sym (ap taken_text is))
+      (λ s is lent. absurd (ok-err (sym (told ∙ wrote-told s is lent))))
 
-  pub taken-set : taken.refusal ≡ 0 → TakenSet body set taken.len
-  taken-set z =
-      taken-cases body (λ r e. absurd (no_zero r (sym (number-told r e) ∙ z)))
-      (λ s e lent.
-      let size : taken.len ≡ length (body_bytes s) = ap (λ (y : Wrote). y.len) (wrote-told s e lent) in
+  pub taken-set : (len : ℕ) → Ok len ≡ answer_of buffer (taken_in (previous body)) → TakenSet body set len
+  taken-set len told =
+      taken-cases body (λ r is. absurd (ok-err (told ∙ refused-told r is)))
+      (λ s is lent.
+      let same : ◌≡◌ {A = Result ℕ WriteError} (Ok len) (Ok (length (body_bytes s))) = told ∙ wrote-told s is lent in
+      let size : len ≡ length (body_bytes s) = cc in
       let whole : set ≡ body_bytes s ++ drop (length (body_bytes s)) buffer =
-      left ∙ ap (output_of buffer) e ∙ output-there buffer (body_bytes s) (has_room s lent) in
+      left ∙ ap (output_of buffer) is ∙ output-there buffer (body_bytes s) (has_room s lent) in
       record {
         entries = s;
-        is = e;
+        is = is;
         lent = lent;
         inside = rw (size, whole, length-append) (omega arith);
         front = ap (λ n. take n set) size ∙ ap (take (length (body_bytes s))) whole ∙ take-append_seam (body_bytes s) (drop (length (body_bytes s)) buffer);

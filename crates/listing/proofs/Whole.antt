@@ -8,11 +8,12 @@ use lib.Dec.{eqb}
 use lib.ListN.{length, take, drop, length-append}
 use lib.Seq.{take_all, take_at, length-take-le}
 use borrow.Author.Tests.{le-leb}
+use Rattle.std.specs.Prelude.{Result, Ok}
 use Rattle.misc.specs.Refusal.{number, too_long}
+use Rattle.misc.specs.declared.refusal.WriteError.{WriteError}
 use Rattle.misc.specs.Parse.{refuse, Bytes}
 use Rattle.misc.specs.Body.{body_limit}
 use Rattle.misc.specs.Output.{bytes, output_of, answer_of}
-use Rattle.misc.specs.declared.Wrote.{Wrote}
 use Rattle.misc.proofs.BodyLaws.{body-too-long}
 use Rattle.misc.proofs.ParseLaws.{split as below}
 use Rattle.packets.proofs.Tests.{split}
@@ -61,15 +62,22 @@ front_lists (suc n) (type ∷ body) room =
 
 -- ---- the room for a text
 
-pub text-whole : (l l' input : List ℕ) (w : Wrote) → Bytes input → longest_text ≤ length l
-    → w ≡ answer_of l (bytes (listing input)) → l' ≡ output_of l (bytes (listing input))
-    → (w.len ≤ length l') × (take w.len l' ≡ listing input)
+-- it was written, and stands whole at the front of what is there now
+pub record WholeText (answer : Result ℕ WriteError) (l' text : List ℕ) : Type 0 where
+  pub len : ℕ
+  pub is : answer ≡ Ok len
+  pub fits : len ≤ length l'
+  pub whole : take len l' ≡ text
+
+pub text-whole : (l l' input : List ℕ) (w : Result ℕ WriteError) → Bytes input → longest_text ≤ length l
+    → w ≡ answer_of l (bytes (listing input)) → l' ≡ output_of l (bytes (listing input)) → WholeText w l' (listing input)
 unfolding answer_of output_of
 text-whole l l' input w ok room answer output =
     let short : length (listing input) ≤ length l = omega (arith, longest_text_lem input ok) in
-    let size : w.len ≡ length (listing input) = ap (λ (y : Wrote). y.len) answer ∙ rw (le-leb _ _ short) in
     let is : l' ≡ listing input ++ drop (length (listing input)) l = output ∙ rw (le-leb _ _ short) in
-    go (listing input) (drop (length (listing input)) l) size is
-  where
-    go : (text rest : List ℕ) → w.len ≡ length text → l' ≡ text ++ rest → (w.len ≤ length l') × (take w.len l' ≡ text)
-    go text rest size is = (rw (size, is) (simp length-append (omega arith)), rw is (take_at text rest w.len (sym size)))
+    record {
+      len = length (listing input);
+      is = answer ∙ rw (le-leb _ _ short);
+      fits = rw is (simp length-append (omega arith));
+      whole = rw is (take_at (listing input) (drop (length (listing input)) l) (length (listing input)) refl);
+    }

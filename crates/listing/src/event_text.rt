@@ -10,10 +10,9 @@ ghost use Rattle.listing.specs.EventText.{record_text, gtid_text, taken_text, ev
 use crate::set_text::list_set;
 use gtid_event::{ANONYMOUS_GTID_EVENT, GtidEvent};
 use gtid_event_read::read_named;
-use misc::Wrote;
 use misc::bytes::write_bytes;
 use misc::put::put_bytes;
-use misc::refusal::{ENDED, NO_ROOM};
+use misc::refusal::{Refusal, WriteError};
 use previous_gtids_event::PREVIOUS_GTIDS_EVENT;
 use set_check::LONGEST_SET;
 use set_join::take_in::take_in;
@@ -22,23 +21,20 @@ use text::keys::{key_len, put_key};
 use text::lines::{put_refused, refused_len};
 
 // Writes that an event is refused, and the number.
-fn write_refused(refusal: u8, out: &mut [u8]) -> Wrote
+fn write_refused(refusal: u8, out: &mut [u8]) -> Result<usize, WriteError>
     ensures value { result ≡ answer_of out.old (bytes (refused_text refusal)) }
     ensures out_after { out.new ≡ output_of out.old (bytes (refused_text refusal)) }
 {
     let len = refused_len(refusal);
     if out.len() < len {
-        return Wrote {
-            refusal: NO_ROOM,
-            len,
-        };
+        return Err(WriteError::NoRoom(len));
     }
     put_refused(refusal, out, 0);
-    Wrote { refusal: 0, len }
+    Ok(len)
 }
 
 // Writes the id of an event.
-fn write_id(event: GtidEvent, out: &mut [u8]) -> Wrote
+fn write_id(event: GtidEvent, out: &mut [u8]) -> Result<usize, WriteError>
     requires { (length event.sid ≡ 16) × (event.tag_len ≤ 32) × (length event.tag ≡ 32) }
     ensures value { result ≡ answer_of out.old (bytes (record_text event)) }
     ensures out_after { out.new ≡ output_of out.old (bytes (record_text event)) }
@@ -49,52 +45,42 @@ fn write_id(event: GtidEvent, out: &mut [u8]) -> Wrote
     let gno = event.gno;
     let len = 7 + key_len(&tag[..tag_len]) + decimal_len(gno);
     if out.len() < len {
-        return Wrote {
-            refusal: NO_ROOM,
-            len,
-        };
+        return Err(WriteError::NoRoom(len));
     }
     let at1 = put_bytes(b"gtid ", out, 0);
     let at2 = put_key(uuid, &tag[..tag_len], out, at1);
     let at3 = put_bytes(b":", out, at2);
     let at4 = put_decimal(gno, out, at3);
     put_bytes(b"\n", out, at4);
-    Wrote { refusal: 0, len }
+    Ok(len)
 }
 
 // Writes the text of a GTID event, or that it is refused.
-fn list_gtid(event_type: u8, body: &[u8], out: &mut [u8]) -> Wrote
+fn list_gtid(event_type: u8, body: &[u8], out: &mut [u8]) -> Result<usize, WriteError>
     ensures value { result ≡ answer_of out.old (bytes (gtid_text (event_of event_type body.now))) }
     ensures out_after { out.new ≡ output_of out.old (bytes (gtid_text (event_of event_type body.now))) }
 {
-    let said = read_named(event_type, body);
-    let refusal = said.refusal;
-    if refusal != 0 {
-        return write_refused(refusal, out);
+    match read_named(event_type, body) {
+        Err(refusal) => write_refused(refusal.number(), out),
+        Ok(_) if event_type == ANONYMOUS_GTID_EVENT => write_bytes(b"anonymous\n", out),
+        Ok(said) => write_id(said.event, out),
     }
-    if event_type == ANONYMOUS_GTID_EVENT {
-        return write_bytes(b"anonymous\n", out);
-    }
-    write_id(said.event, out)
 }
 
 // Writes the text of a Previous-GTIDs event: the set that it becomes when it is taken in, or that it is refused.
-fn list_previous(body: &[u8], out: &mut [u8]) -> Wrote
+fn list_previous(body: &[u8], out: &mut [u8]) -> Result<usize, WriteError>
     ensures value { result ≡ answer_of out.old (bytes (taken_text (taken_in (previous body.now)))) }
     ensures out_after { out.new ≡ output_of out.old (bytes (taken_text (taken_in (previous body.now)))) }
 {
     let mut set = [0u8; LONGEST_SET];
-    let taken = take_in(body, &mut set);
-    let refusal = taken.refusal;
-    if refusal != 0 {
-        return write_refused(refusal, out);
+    match take_in(body, &mut set) {
+        Ok(len) => list_set(b"previous-gtids", &set[..len], out),
+        Err(error) => write_refused(error.number(), out),
     }
-    let len = taken.len;
-    list_set(b"previous-gtids", &set[..len], out)
 }
 
 // Writes the text of an event; what is refused is said in the text. The call itself is refused only where the output is too short (13).
-pub fn list(event_type: u8, body: &[u8], out: &mut [u8]) -> Wrote
+pub fn list(event_type: u8, body: &[u8], out: &mut [u8]) -> Result<usize, WriteError>
     ensures value { result ≡ answer_of out.old (bytes (event_text event_type body.now)) }
     ensures out_after { out.new ≡ output_of out.old (bytes (event_text event_type body.now)) }
 {
@@ -105,12 +91,12 @@ pub fn list(event_type: u8, body: &[u8], out: &mut [u8]) -> Wrote
 }
 
 // The same for a type byte with a body behind it, or nothing at all.
-pub fn list_input(input: &[u8], out: &mut [u8]) -> Wrote
+pub fn list_input(input: &[u8], out: &mut [u8]) -> Result<usize, WriteError>
     ensures value { result ≡ answer_of out.old (bytes (listing input.now)) }
     ensures out_after { out.new ≡ output_of out.old (bytes (listing input.now)) }
 {
-    if input.len() == 0 {
-        return write_refused(ENDED, out);
+    match input {
+        [] => write_refused(Refusal::Ended.number(), out),
+        [event_type, body @ ..] => list(*event_type, body, out),
     }
-    list(input[0], &input[1..], out)
 }

@@ -15,13 +15,10 @@ pub(crate) fn intervals_len(set: &[u8], first: usize, count: usize) -> usize
     requires set_len_bound { length set.now ≤ 2 ^ 40 }
     ensures { (result ≡ length (intervals_text (intervals_at count set.now first))) × (result ≤ 42 * count) }
 {
-    let mut len: usize = 0;
-    let mut at = first;
-    let mut left = count;
-    while 0 < left {
+    let mut len = 0;
+    for i in 0..count {
+        let at = first + INTERVAL_LEN * i;
         len += interval_len(number_at(set, at), number_at(set, at + 8));
-        at += INTERVAL_LEN;
-        left -= 1;
     }
     len
 }
@@ -38,12 +35,9 @@ pub(crate) fn put_intervals(
     ensures { WhereFits out.old at (intervals_text (intervals_at count set.now first)) out.new result }
 {
     let mut end = at;
-    let mut from = first;
-    let mut left = count;
-    while 0 < left {
+    for i in 0..count {
+        let from = first + INTERVAL_LEN * i;
         end = put_interval(number_at(set, from), number_at(set, from + 8), out, end);
-        from += INTERVAL_LEN;
-        left -= 1;
     }
     end
 }

@@ -7,9 +7,9 @@ ghost use Rattle.listing.specs.SetText.{entry_text, entries_text, listed_set};
 ghost use Rattle.listing.specs.Inside.{EntryThere, entry_in, line_length, head_text};
 
 use crate::intervals::{intervals_len, put_intervals};
+use misc::UUID_LEN;
 use misc::put::put_bytes;
-use misc::refusal::NO_ROOM;
-use misc::{UUID_LEN, Wrote};
+use misc::refusal::WriteError;
 use packets::uuid_bytes;
 use set_check::check::check;
 use set_check::walk::{beyond, entries_of, entry_here};
@@ -48,7 +48,7 @@ fn entries_len(set: &[u8], from: Cursor) -> usize
 {
     let mut len: usize = 0;
     let mut rest = from;
-    while 0 < rest.left {
+    for _ in 0..from.left {
         let entry = entry_here(set, rest);
         len += entry_len(set, entry);
         rest = beyond(rest, entry);
@@ -63,7 +63,7 @@ fn put_entries(set: &[u8], from: Cursor, out: &mut [u8], at: usize) -> usize
 {
     let mut end = at;
     let mut rest = from;
-    while 0 < rest.left {
+    for _ in 0..from.left {
         let entry = entry_here(set, rest);
         end = put_entry(set, rest.at, entry, out, end);
         rest = beyond(rest, entry);
@@ -84,27 +84,20 @@ fn put_head(word: &[u8], entries: u64, total: u64, out: &mut [u8], at: usize) ->
 }
 
 // Lists a set after a first word. Refused are bytes that are no set (14) and an output that is too short (13).
-pub fn list_set(word: &[u8], set: &[u8], out: &mut [u8]) -> Wrote
+pub fn list_set(word: &[u8], set: &[u8], out: &mut [u8]) -> Result<usize, WriteError>
     ensures value { result ≡ answer_of out.old (listed_set word.now (lent_set set.now)) }
     ensures out_after { out.new ≡ output_of out.old (listed_set word.now (lent_set set.now)) }
 {
-    let checked = check(set);
-    let refusal = checked.refusal;
-    if refusal != 0 {
-        return Wrote { refusal, len: 0 };
-    }
+    let checked = check(set)?;
     let entries = checked.entries as u64;
     let total = checked.intervals as u64;
     let head = word.len() + 21 + decimal_len(entries) + decimal_len(total);
     let from = entries_of(checked);
     let len = head + entries_len(set, from);
     if out.len() < len {
-        return Wrote {
-            refusal: NO_ROOM,
-            len,
-        };
+        return Err(WriteError::NoRoom(len));
     }
     let at = put_head(word, entries, total, out, 0);
     put_entries(set, from, out, at);
-    Wrote { refusal: 0, len }
+    Ok(len)
 }

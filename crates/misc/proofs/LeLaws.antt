@@ -9,9 +9,9 @@ use lib.ListN.{length, take, drop, length-drop, get_or, set}
 use lib.Bits.{bit_or, or_shifted_r}
 use lib.Pow.{pow-add, pow_pos, field, mod-pow-add, shl-shr}
 use lib.Seq.{drop-append_seam, take-append_seam, take-suc, get_or-drop, length-take-le}
-use Rattle.misc.specs.Refusal.{number, ended}
-use Rattle.misc.specs.Parse.{refuse, parsed, Bytes, part, refused_uint, uint_read}
-use Rattle.misc.specs.declared.ReadUint.{ReadUint}
+use Rattle.misc.specs.Refusal.{ended}
+use Rattle.misc.specs.Parse.{refuse, parsed, Bytes, part, read_of}
+use Rattle.std.specs.Prelude.{Ok, Err}
 use Rattle.misc.specs.Le.{le_of, le_bytes, le_at}
 use Rattle.misc.proofs.ParseLaws.{bytes-here, bytes-gone}
 use Rattle.misc.specs.Output.{written}
@@ -50,15 +50,12 @@ module _ (n : ℕ) (s : List ℕ) (at : ℕ) where
   unfolding le_at
   le-here h = rw (bytes-here n s at h)
 
-  -- the answers of a fixed read, with the bound that its width gives
-  pub le-refused : {r : ReadUint} → r ≡ refused_uint (number ended) → length s < at + n → (r ≡ uint_read (le_at n s at)) × (r.value < 256 ^ n)
-  le-refused {r} is h =
-      let none : r.value ≡ 0 = ap (λ (y : ReadUint). y.value) is in
-      (is ∙ ap uint_read (sym (le-gone h)), omega (arith, pow_pos (8 * n), pow-bytes n))
+  -- the answers of a fixed read
+  pub le-refused : length s < at + n → Err ended ≡ read_of (le_at n s at)
+  le-refused h = ap read_of (sym (le-gone h))
 
-  pub le_read : {v : ℕ} → at + n ≤ length s → (v ≡ le_of (part s at n)) × (v < 256 ^ n)
-      → (record { refusal = 0; value = v; next = at + n } ≡ uint_read (le_at n s at)) × (v < 256 ^ n)
-  le_read {v} h is = (ap (λ (y : ℕ). uint_read (parsed y (at + n))) is.0 ∙ ap uint_read (sym (le-here h)), is.1)
+  pub le_read : {v : ℕ} → at + n ≤ length s → v ≡ le_of (part s at n) → Ok (record { value = v; next = at + n }) ≡ read_of (le_at n s at)
+  le_read {v} h is = ap (λ (y : ℕ). read_of (parsed y (at + n))) is ∙ ap read_of (sym (le-here h))
 
 -- ---- loops
 

@@ -4,7 +4,7 @@ use mathlib.Core.Path.{◌≡◌, sym, ap, ◌∙◌}
 use mathlib.Core.List.{List, ◌++◌}
 use native.Mathlib.Omega.{arith}
 use lib.ListN.{length, drop}
-use Rattle.misc.specs.Parse.{Parse, Bytes, part, uint_read}
+use Rattle.misc.specs.Parse.{Parse, Bytes, part, parsed_or}
 use Rattle.misc.specs.Le.{le_of, le_bytes, number_at}
 use Rattle.misc.proofs.LeLaws.{length-le_bytes, le_of-le_bytes, le-here}
 use Rattle.misc.proofs.Places.{part-there, left_there}
@@ -12,7 +12,7 @@ use Rattle.misc.proofs.Accepted.{le-accepted}
 
 pub number-here : (bs : List ℕ) (at : ℕ) → at + 8 ≤ length bs → number_at bs at ≡ le_of (part bs at 8)
 unfolding number_at
-number-here bs at h = ap (λ (p : Parse ℕ). (uint_read p).value) (le-here 8 bs at h)
+number-here bs at h = ap (λ (p : Parse ℕ). parsed_or 0 p) (le-here 8 bs at h)
 
 -- a number that was read is written as it stood
 pub number-stands : (bs : List ℕ) → Bytes bs → (at : ℕ) → at + 8 ≤ length bs → le_bytes 8 (number_at bs at) ≡ part bs at 8

@@ -9,12 +9,10 @@ use lib.ListN.{length, get_or, take, drop, set, length-append, length-drop, drop
 use lib.Seq.{drop-cons, take_all, length-sets, sets-eq, drop-drop}
 use borrow.Rule.Slice.PartMut.{mid_of, put_mid}
 use Rattle.misc.proofs.ParseLaws.{split}
-use lib.Dec.{eqb}
 use borrow.Author.Tests.{le-leb, lt-leb}
-use Rattle.misc.specs.Pick.{pick}
-use Rattle.misc.specs.Refusal.{Refusal, number, no_room}
-use Rattle.misc.specs.Output.{bytes, refused, output_of, answer_of, written, put_at, put_end, Placed, WhereFits}
-use Rattle.misc.specs.declared.Wrote.{Wrote}
+use Rattle.misc.specs.Refusal.{Refusal, WriteError, Refused, NoRoom}
+use Rattle.misc.specs.Output.{bytes, refused, behind, output_of, answer_of, written, put_at, put_end, Placed, WhereFits}
+use Rattle.std.specs.Prelude.{Result, Ok, Err, IfOk}
 
 -- ---- bytes written over a list
 
@@ -105,7 +103,7 @@ byte_put l at b h = put-there (omega arith) (record { holds = refl; ends = refl 
 
 -- what is placed at the front is the answer
 pub output-fits : {l l' bs : List ℕ} {n : ℕ} → length bs ≤ length l → Placed l 0 bs l' n
-    → (record { refusal = 0; len = n } ≡ answer_of l (bytes bs)) × (l' ≡ output_of l (bytes bs))
+    → (Ok n ≡ answer_of l (bytes bs)) × (l' ≡ output_of l (bytes bs))
 unfolding answer_of output_of
 output-fits {l} {l'} {bs} {n} room p = (
   simp (le-leb (length bs) (length l) room, p.ends, zero-add),
@@ -114,14 +112,14 @@ output-fits {l} {l'} {bs} {n} room p = (
 
 -- there is no room
 pub output-short : (l bs : List ℕ) (n : ℕ) → n ≡ length bs → length l < n
-    → (record { refusal = number no_room; len = n } ≡ answer_of l (bytes bs)) × (l ≡ output_of l (bytes bs))
+    → (Err (NoRoom n) ≡ answer_of l (bytes bs)) × (l ≡ output_of l (bytes bs))
 unfolding answer_of output_of
 output-short l bs n size h =
     let over : length l < length bs = omega arith in
     (simp (lt-leb (length bs) (length l) over, size), simp (lt-leb (length bs) (length l) over))
 
 -- a refusal writes nothing
-pub output-refused : (l : List ℕ) (x : Refusal) → (record { refusal = number x; len = 0 } ≡ answer_of l (refused x)) × (l ≡ output_of l (refused x))
+pub output-refused : (l : List ℕ) (x : Refusal) → (Err (Refused x) ≡ answer_of l (refused x)) × (l ≡ output_of l (refused x))
 unfolding answer_of output_of
 output-refused l x = (refl, refl)
 
@@ -135,7 +133,7 @@ abbrev pub put_back : List ℕ → ℕ → List ℕ → List ℕ
 put_back l at part = put_mid at (length l - at) l part
 
 -- bytes that a writer was lent such a part for
-module _ (l bs : List ℕ) (at : ℕ) (inside : at ≤ length l) (r : Wrote) (told : r ≡ answer_of (from_on l at) (bytes bs)) where
+module _ (l bs : List ℕ) (at : ℕ) (inside : at ≤ length l) (r : Result ℕ WriteError) (told : r ≡ answer_of (from_on l at) (bytes bs)) where
   part-is : from_on l at ≡ drop at l
   part-is = take_all (length l - at) (drop at l) (rw length-drop (omega arith))
 
@@ -147,23 +145,20 @@ module _ (l bs : List ℕ) (at : ℕ) (inside : at ≤ length l) (r : Wrote) (to
       let rest : drop (length l - at) (drop at l) ≡ [] = drop_of_length-le (drop at l) {i = length l - at} (rw length-drop (omega arith)) in
       rw rest (simp append-nil)
 
-  wrote-all : length bs ≤ length (from_on l at) → r ≡ record { refusal = 0; len = length bs }
+  wrote-all : length bs ≤ length (from_on l at) → r ≡ Ok (length bs)
   unfolding answer_of
   wrote-all fits = told ∙ rw (le-leb (length bs) (length (from_on l at)) fits)
 
-  wrote_none : length (from_on l at) < length bs → r ≡ record { refusal = number no_room; len = length bs }
+  wrote_none : length (from_on l at) < length bs → r ≡ Err (NoRoom (length bs))
   unfolding answer_of
   wrote_none over = told ∙ rw (lt-leb (length bs) (length (from_on l at)) over)
 
   -- the place behind what it wrote is within the output
-  pub lent-ends : r.refusal ≡ 0 → at + r.len ≤ length l
-  lent-ends done =
-      split (length bs) (length (from_on l at))
-      (λ fits. let size : r.len ≡ length bs = ap (λ (y : Wrote). y.len) (wrote-all fits) in omega (arith, part_length))
-      (λ over. let full : r.refusal ≡ 13 = ap (λ (y : Wrote). y.refusal) (wrote_none over) in absurd (omega arith))
+  pub lent-ends : {m : ℕ} → length l < m → IfOk r (λ n. at + n < m)
+  lent-ends small = split (length bs) (length (from_on l at)) (λ fits. rw (wrote-all fits) (omega (arith, part_length))) (λ over. rw (wrote_none over) tt)
 
   -- they are put there
-  pub lent-put : {part : List ℕ} {next : ℕ} → next ≡ pick (eqb r.refusal 0) (at + r.len) at → part ≡ output_of (from_on l at) (bytes bs)
+  pub lent-put : {part : List ℕ} {next : ℕ} → next ≡ behind r at → part ≡ output_of (from_on l at) (bytes bs)
       → (next ≡ put_end l at bs) × (put_back l at part ≡ put_at l at bs)
   unfolding output_of
   lent-put {part} {next} moved is =
@@ -174,11 +169,11 @@ module _ (l bs : List ℕ) (at : ℕ) (inside : at ≤ length l) (r : Wrote) (to
       put-there room
       (record {
         holds = back_is part ∙ rw now (sym (written_is l at bs room ∙ append_assoc (take at l) bs (drop (at + length bs) l)));
-        ends = moved ∙ ap (λ (y : Wrote). pick (eqb y.refusal 0) (at + y.len) at) (wrote-all fits);
+        ends = moved ∙ ap (λ (y : Result ℕ WriteError). behind y at) (wrote-all fits);
       }))
       (λ over.
       let short = put-short l bs at (omega (arith, part_length)) in
       let still : part ≡ drop at l = is ∙ rw (lt-leb (length bs) (length (from_on l at)) over) part-is in (
-        moved ∙ ap (λ (y : Wrote). pick (eqb y.refusal 0) (at + y.len) at) (wrote_none over) ∙ short.0,
+        moved ∙ ap (λ (y : Result ℕ WriteError). behind y at) (wrote_none over) ∙ short.0,
         back_is part ∙ rw still (take-append-drop at l) ∙ short.1,
       ))

@@ -12,9 +12,11 @@ use lib.ListN.{length, take, drop, get_or, length-drop}
 use lib.Seq.{drop-cons, take_all, length-take-le}
 use borrow.Author.Tests.{leb-true, le-leb, lt-leb}
 use Rattle.misc.specs.Pick.{pick}
-use Rattle.misc.specs.Refusal.{Refusal, refusal, number, ended}
-use Rattle.misc.specs.Parse.{Parse, refuse, parsed, and_then, mapped, judged, part, bytes_at, byte_at, refusal_of, refused_uint, uint_read}
-use Rattle.misc.specs.declared.ReadUint.{ReadUint}
+use Rattle.misc.specs.Refusal.{Refusal, number, ended}
+use Rattle.misc.specs.Parse.{Parse, refuse, parsed, and_then, mapped, judged, part, bytes_at, byte_at, refusal_of, answered, read_of, parsed_or}
+use Rattle.misc.specs.declared.refusal.Refusal.TheVariants as why
+use Rattle.misc.specs.declared.Read.{Read}
+use Rattle.std.specs.Prelude.{Result, Ok, Err, IsErr, IsErrAnd}
 
 -- one order or the other
 pub split {ℓ} : {X : Type ℓ} (a b : ℕ) → (a ≤ b → X) → (b < a → X) → X
@@ -28,7 +30,28 @@ take_min n l = split n (length l)
 
 -- ---- refusals and successes
 pub no_zero : (x : Refusal) → number x ≡ 0 → ⊥
-no_zero (refusal n) e = omega arith
+no_zero why.Ended e = omega arith
+no_zero why.TooLarge e = omega arith
+no_zero why.Negative e = omega arith
+no_zero why.WrongVersion e = omega arith
+no_zero why.UnknownField e = omega arith
+no_zero why.BadTag e = omega arith
+no_zero why.NoTag e = omega arith
+no_zero why.WrongType e = omega arith
+no_zero why.SmallPayload e = omega arith
+no_zero why.BadLead e = omega arith
+no_zero why.TooLong e = omega arith
+no_zero why.NotWritable e = omega arith
+no_zero why.NotASet e = omega arith
+no_zero why.BadGno e = omega arith
+no_zero why.Full e = omega arith
+no_zero why.Crowded e = omega arith
+no_zero why.BadFile e = omega arith
+no_zero why.AbsentId e = omega arith
+no_zero why.Diverged e = omega arith
+
+pub ok-err : {A E : Type 0} {a : A} {e : E} → ◌≡◌ {A = Result A E} (Ok a) (Err e) → ⊥
+ok-err e = let clash : ◌≡◌ {A = ℕ} 0 1 = cc in omega arith
 
 -- what is refused is not read
 pub never {ℓ} : {X : Type ℓ} {A : Type 0} {r : Refusal} {a : A} {next : ℕ} → refuse r ≡ parsed a next → X
@@ -112,21 +135,32 @@ module _ (s : List ℕ) (at : ℕ) where
       let p : parsed (get_or s at 0) (at + 1) ≡ parsed b next = sym (byte-here here) ∙ e in
       (here, cc, cc))
 
--- ---- from the answer of a reader of numbers back to what was read
-module _ (p : Parse ℕ) (r : ReadUint) (is : r ≡ uint_read p) where
-  uint-refusal : r.refusal ≡ refusal_of p
-  uint-refusal = ap (λ (y : ReadUint). y.refusal) is ∙ go p
-    where
-      go : (q : Parse ℕ) → (uint_read q).refusal ≡ refusal_of q
-      go (refuse x) = refl
-      go (parsed v next) = refl
+-- what a `?` hands on is the error that it met
+pub handed-on : {A E : Type 0} {x : E} (r : Result A E) → IsErr r × IsErrAnd r (λ y. y ≡ x) → r ≡ Err x
+handed-on (Ok a) h = absurd h.1
+handed-on (Err y) h = ap Err h.1
 
-  pub uint-told : r.refusal ≡ 0 → p ≡ parsed r.value r.next
-  uint-told z =
-      let (v, next, e) = was-parsed p (sym uint-refusal ∙ z) in
-      e ∙ ap (λ (y : ReadUint). parsed y.value y.next) (sym (is ∙ ap uint_read e))
+-- ---- from a reader's answer back to what was read
+module _ {A B : Type 0} (say : A → ℕ → B) where
+  pub answered-ok : (p : Parse A) {b : B} → Ok b ≡ answered say p → (a : A) × (next : ℕ) × (p ≡ parsed a next) × (b ≡ say a next)
+  answered-ok (refuse x) e = absurd (ok-err e)
+  answered-ok (parsed a next) e = (a, next, refl, cc)
 
-  pub uint-refused : (r.refusal ≡ 0 → ⊥) → (x : Refusal) × (p ≡ refuse x) × (r ≡ refused_uint (number x))
-  uint-refused z =
-      let (x, e) = was-refused p (λ h. z (uint-refusal ∙ h)) in
-      (x, e, is ∙ ap uint_read e)
+  pub answered-err : (p : Parse A) {x : Refusal} → Err x ≡ answered say p → p ≡ refuse x
+  answered-err (refuse y) e = cc
+  answered-err (parsed a next) e = absurd (ok-err (sym e))
+
+pub read-ok : {A : Type 0} (p : Parse A) {r : Read A} → Ok r ≡ read_of p → p ≡ parsed r.value r.next
+read-ok p e =
+    let (v, next, is, same) = answered-ok _ p e in
+    is ∙ cc
+
+pub read-err : {A : Type 0} (p : Parse A) {x : Refusal} → Err x ≡ read_of p → p ≡ refuse x
+read-err p e = answered-err _ p e
+
+module _ {A : Type 0} (other : A) (p : Parse A) where
+  pub or-ok : {r : Read A} → Ok r ≡ read_of p → r.value ≡ parsed_or other p
+  or-ok e = sym (ap (parsed_or other) (read-ok p e))
+
+  pub or-err : {x : Refusal} → Err x ≡ read_of p → other ≡ parsed_or other p
+  or-err e = sym (ap (parsed_or other) (read-err p e))

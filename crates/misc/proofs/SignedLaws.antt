@@ -12,12 +12,10 @@ use borrow.Author.Tests.{eqb-true, eqb-false, eq-eqb, ne_eqb, le-ltb, ltb-true}
 use mir.Syntax.{w64}
 use mir.Val.{to_z, of_z, SFits}
 use mir.Facts.{to_z-of_z, to_z_pos}
-use Rattle.misc.specs.Refusal.{negative}
-use Rattle.misc.specs.Parse.{Parse, refuse, parsed, and_then, mapped, uint_read}
-use Rattle.misc.specs.declared.ReadUint.{ReadUint}
+use Rattle.misc.specs.Refusal.{Refusal, negative}
+use Rattle.misc.specs.Parse.{refuse, parsed}
 use Rattle.misc.specs.Varlen.{varlen_at}
-use Rattle.misc.specs.Signed.{sent_as, meant_by, signed_at, not_negative, natural_at, int_read}
-use Rattle.misc.proofs.ParseLaws.{uint-told, uint-refused}
+use Rattle.misc.specs.Signed.{sent_as, meant_by, signed_at, natural_at}
 use mathlib.Core.List.{List}
 
 -- -1 - x turns a number below 0 into one above, and back
@@ -100,26 +98,20 @@ unfolding sent_as
 sent-lt (pos n) s = let h : n < 2 ^ 63 = s.sfits in omega arith
 sent-lt (negsuc n) s = let h : n < 2 ^ 63 = s.sfits in omega arith
 
--- ---- what the readers answer, by what was sent
-module _ (s : List ℕ) (at : ℕ) (r : ReadUint) (is : r ≡ uint_read (varlen_at s at)) where
-  pub signed-refused : (r.refusal ≡ 0 → ⊥) → record { refusal = r.refusal; value = pos 0; next = 0 } ≡ int_read (signed_at s at)
-  unfolding signed_at
-  signed-refused z =
-      let (x, e, f) = uint-refused (varlen_at s at) r is z in
-      ap (λ (y : ReadUint). record { refusal = y.refusal; value = pos 0; next = 0 }) f ∙ ap (λ (p : Parse ℕ). int_read (mapped meant_by p)) (sym e)
-
-  pub signed-read : {z : ℤ} → r.refusal ≡ 0 → z ≡ meant_by r.value → record { refusal = 0; value = z; next = r.next } ≡ int_read (signed_at s at)
-  unfolding signed_at
-  signed-read {z} none e =
-      ap (λ (y : ℤ). int_read (parsed y r.next)) e ∙ ap (λ (p : Parse ℕ). int_read (mapped meant_by p)) (sym (uint-told (varlen_at s at) r is none))
-
-  pub natural-refused : (r.refusal ≡ 0 → ⊥) → r ≡ uint_read (natural_at s at)
-  unfolding natural_at signed_at
-  natural-refused z =
-      let (x, e, f) = uint-refused (varlen_at s at) r is z in
-      f ∙ ap (λ (p : Parse ℕ). uint_read (and_then (mapped meant_by p) not_negative)) (sym e)
-
+-- ---- what the readers find, by what was sent
 module _ (s : List ℕ) (at : ℕ) where
+  pub signed-refused : {x : Refusal} → varlen_at s at ≡ refuse x → signed_at s at ≡ refuse x
+  unfolding signed_at
+  signed-refused e = rw e
+
+  pub signed-read : {sent next : ℕ} → varlen_at s at ≡ parsed sent next → signed_at s at ≡ parsed (meant_by sent) next
+  unfolding signed_at
+  signed-read e = rw e
+
+  pub natural-refused : {x : Refusal} → varlen_at s at ≡ refuse x → natural_at s at ≡ refuse x
+  unfolding natural_at
+  natural-refused e = rw (signed-refused e)
+
   pub natural-even : {sent next : ℕ} → varlen_at s at ≡ parsed sent next → sent % 2 ≡ 0 → natural_at s at ≡ parsed (sent / 2) next
   unfolding natural_at signed_at meant_by
   natural-even {sent} {next} e even = rw (e, eq-eqb (sent % 2) 0 even)

@@ -1,6 +1,6 @@
 -- Little-endian numbers of a fixed width.
 use Rattle.std.specs.Prelude.{ℕ, zero, suc, ◌+◌, ◌*◌, ◌/◌, ◌%◌, List, [], ◌∷◌}
-use Rattle.misc.specs.Parse.{Parse, mapped, bytes_at, uint_read}
+use Rattle.misc.specs.Parse.{Parse, mapped, bytes_at, parsed_or}
 
 -- the number that bytes spell, the lowest first
 unfoldable pub le_of : List ℕ → ℕ
@@ -18,4 +18,4 @@ le_at n s at = mapped le_of (bytes_at n s at)
 
 -- the number in the eight bytes from a place on, 0 where they aren't all there
 unfoldable pub number_at : List ℕ → ℕ → ℕ
-number_at s at = (uint_read (le_at 8 s at)).value
+number_at s at = parsed_or 0 (le_at 8 s at)

@@ -1,10 +1,9 @@
 -- The language of writing. A writer gives a refusal or bytes; `output_of` says what is then in the output that it was lent, and
 -- `answer_of` what it answers.
-use Rattle.std.specs.Prelude.{ℕ, ◌+◌, ◌≤◌, ◌≡◌, List, ◌++◌, length, drop, leb}
+use Rattle.std.specs.Prelude.{ℕ, ◌+◌, ◌≤◌, ◌≡◌, List, ◌++◌, length, drop, leb, Result, Ok, Err}
 use Rattle.std.proofs.lemmas.List.Edits.{sets}
 use Rattle.misc.specs.Pick.{pick}
-use Rattle.misc.specs.Refusal.{Refusal, number, no_room}
-use Rattle.misc.specs.declared.Wrote.{Wrote}
+use Rattle.misc.specs.Refusal.{Refusal, WriteError, Refused, NoRoom, error_number, error_needed}
 
 pub data Output : Type 0 where
   refused : Refusal → Output
@@ -16,10 +15,18 @@ output_of l (refused r) = l
 output_of l (bytes bs) = pick (leb (length bs) (length l)) (bs ++ drop (length bs) l) l
 
 -- the answer: how many bytes were written, or the refusal; where they don't fit, that and how many are needed
-unfoldable pub answer_of : List ℕ → Output → Wrote
-answer_of l (refused r) = record { refusal = number r; len = 0 }
-answer_of l (bytes bs) =
-    pick (leb (length bs) (length l)) (record { refusal = 0; len = length bs }) (record { refusal = number no_room; len = length bs })
+unfoldable pub answer_of : List ℕ → Output → Result ℕ WriteError
+answer_of l (refused r) = Err (Refused r)
+answer_of l (bytes bs) = pick (leb (length bs) (length l)) (Ok (length bs)) (Err (NoRoom (length bs)))
+
+-- the same as two numbers: that of the refusal, 0 for none; and how many bytes were written or, for 13, are needed
+abbrev pub written_number : Result ℕ WriteError → ℕ
+written_number (Ok n) = 0
+written_number (Err e) = error_number e
+
+abbrev pub written_len : Result ℕ WriteError → ℕ
+written_len (Ok n) = n
+written_len (Err e) = error_needed e
 
 -- ---- at a place
 
@@ -36,6 +43,11 @@ unfoldable pub put_end : List ℕ → ℕ → List ℕ → ℕ
 put_end l at bs = pick (leb (at + length bs) (length l)) (at + length bs) at
 
 -- ---- inside: runs of writes
+
+-- the place behind what a writer wrote at a place
+abbrev pub behind : Result ℕ WriteError → ℕ → ℕ
+behind (Ok n) at = at + n
+behind (Err e) at = at
 
 -- bs have been placed: l is now l', and next is the place after them
 pub record Placed (l : List ℕ) (at : ℕ) (bs l' : List ℕ) (next : ℕ) : Type 0 where

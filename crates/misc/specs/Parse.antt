@@ -1,8 +1,8 @@
 -- The language of reading. Reading at a place of some bytes gives a refusal, or a value and the place after it.
-use Rattle.std.specs.Prelude.{ℕ, zero, suc, ◌+◌, ◌<◌, Bool, List, [], ◌∷◌, length, take, drop, get_or, leb}
+use Rattle.std.specs.Prelude.{ℕ, zero, suc, ◌+◌, ◌<◌, Bool, List, [], ◌∷◌, length, take, drop, get_or, leb, Result, Ok, Err}
 use Rattle.misc.specs.Pick.{pick}
 use Rattle.misc.specs.Refusal.{Refusal, number, ended}
-use Rattle.misc.specs.declared.ReadUint.{ReadUint}
+use Rattle.misc.specs.declared.Read.{Read}
 
 pub data Parse (A : Type 0) : Type 0 where
   refuse : Refusal → Parse A
@@ -57,10 +57,21 @@ abbrev pub refusal_of : {A : Type 0} → Parse A → ℕ
 refusal_of (refuse r) = number r
 refusal_of (parsed a next) = 0
 
-abbrev pub refused_uint : ℕ → ReadUint
-refused_uint refusal = record { refusal = refusal; value = 0; next = 0 }
+-- the same of an answer
+abbrev pub refusal_in : {A : Type 0} → Result A Refusal → ℕ
+refusal_in (Ok a) = 0
+refusal_in (Err r) = number r
 
--- the answer of a reader of numbers
-abbrev pub uint_read : Parse ℕ → ReadUint
-uint_read (refuse r) = refused_uint (number r)
-uint_read (parsed v next) = record { refusal = 0; value = v; next = next }
+-- the answer of a reader: the refusal, or what it says of the item and of the place behind it
+abbrev pub answered : {A B : Type 0} → (A → ℕ → B) → Parse A → Result B Refusal
+answered say (refuse r) = Err r
+answered say (parsed a next) = Ok (say a next)
+
+-- where it says both as they are
+abbrev pub read_of : {A : Type 0} → Parse A → Result (Read A) Refusal
+read_of p = answered (λ a next. record { value = a; next = next }) p
+
+-- what was read, or another value where nothing was
+abbrev pub parsed_or : {A : Type 0} → A → Parse A → A
+parsed_or other (refuse r) = other
+parsed_or other (parsed a next) = a

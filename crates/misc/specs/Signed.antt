@@ -1,10 +1,9 @@
 -- Signed variable-length integers.
 use Rattle.std.specs.Prelude.{ℕ, ◌+◌, ◌*◌, ◌/◌, ◌%◌, List, ℤ, pos, negsuc, eqb}
 use Rattle.misc.specs.Pick.{pick}
-use Rattle.misc.specs.Refusal.{number, negative}
+use Rattle.misc.specs.Refusal.{negative}
 use Rattle.misc.specs.Parse.{Parse, refuse, parsed, and_then, mapped}
 use Rattle.misc.specs.Varlen.{varlen_at}
-use Rattle.misc.specs.declared.ReadInt.{ReadInt}
 
 -- v at or above 0 is sent as 2 v; below, v is - (n + 1), and is sent as 2 n + 1
 unfoldable pub sent_as : ℤ → ℕ
@@ -25,8 +24,3 @@ not_negative (negsuc n) next = refuse negative
 
 unfoldable pub natural_at : List ℕ → ℕ → Parse ℕ
 natural_at s at = and_then (signed_at s at) not_negative
-
--- the answer of a reader of signed numbers
-abbrev pub int_read : Parse ℤ → ReadInt
-int_read (refuse r) = record { refusal = number r; value = pos 0; next = 0 }
-int_read (parsed z next) = record { refusal = 0; value = z; next = next }

@@ -1,18 +1,12 @@
 // Little-endian integers of a fixed width: 4, 7 and 8 bytes.
-ghost use Rattle.std.specs.Prelude.{◌≡◌, ◌+◌, ◌≤◌, ◌<◌, ◌^◌, length};
-ghost use Rattle.misc.specs.Parse.{part, uint_read};
+ghost use Rattle.std.specs.Prelude.{◌≡◌, ◌+◌, ◌≤◌, ◌<◌, ◌^◌, length, IfOk};
+ghost use Rattle.misc.specs.Parse.{part, read_of};
 ghost use Rattle.misc.specs.Le.{le_of, le_bytes, le_at, number_at};
 ghost use Rattle.misc.specs.Output.{bytes, output_of, answer_of, written};
 
+use crate::Read;
 use crate::bytes::left_at;
-use crate::refusal::{ENDED, NO_ROOM};
-use crate::{ReadUint, Wrote, refused_uint};
-
-pub(crate) fn wide(b: u8) -> u64
-    ensures { result ≡ b }
-{
-    b as u64
-}
+use crate::refusal::{Refusal, WriteError};
 
 // The number that the `n` bytes from `at` on spell.
 fn gather(s: &[u8], at: usize, n: usize) -> u64
@@ -21,11 +15,9 @@ fn gather(s: &[u8], at: usize, n: usize) -> u64
 {
     let mut value: u64 = 0;
     let mut scale: u64 = 1;
-    let mut i = 0;
-    while i < n {
-        value = value | (wide(s[at + i]) * scale);
+    for i in 0..n {
+        value = value | (u64::from(s[at + i]) * scale);
         scale = scale << 8;
-        i += 1;
     }
     value
 }
@@ -58,53 +50,52 @@ pub(crate) fn scatter(value: u64, out: &mut [u8], at: usize, n: usize)
     ensures { out.new ≡ written out.old at (le_bytes n value) }
 {
     let mut rest = value;
-    let mut i = 0;
-    while i < n {
+    for i in 0..n {
         out[at + i] = (rest % 256) as u8;
         rest = rest >> 8;
-        i += 1;
     }
 }
 
 // Reads `n` bytes, at most eight.
-pub(crate) fn read_le(s: &[u8], at: usize, n: usize) -> ReadUint
+pub(crate) fn read_le(s: &[u8], at: usize, n: usize) -> Result<Read<u64>, Refusal>
     requires { n ≤ 8 }
-    ensures { (result ≡ uint_read (le_at n s.now at)) × (result.value < 256 ^ n) }
+    ensures value { result ≡ read_of (le_at n s.now at) }
+    ensures bound { IfOk result (λ read. read.value < 256 ^ n) }
 {
     if s.len() < at {
-        return refused_uint(ENDED);
+        return Err(Refusal::Ended);
     }
     if s.len() - at < n {
-        return refused_uint(ENDED);
+        return Err(Refusal::Ended);
     }
-    ReadUint {
-        refusal: 0,
+    Ok(Read {
         value: gather(s, at, n),
         next: at + n,
-    }
+    })
 }
 
-pub fn read_u32_le(s: &[u8], at: usize) -> ReadUint
-    ensures { (result ≡ uint_read (le_at 4 s.now at)) × (result.value < 2 ^ 32) }
+pub fn read_u32_le(s: &[u8], at: usize) -> Result<Read<u64>, Refusal>
+    ensures value { result ≡ read_of (le_at 4 s.now at) }
+    ensures bound { IfOk result (λ read. read.value < 2 ^ 32) }
 {
     read_le(s, at, 4)
 }
 
-pub fn read_u56_le(s: &[u8], at: usize) -> ReadUint
-    ensures { (result ≡ uint_read (le_at 7 s.now at)) × (result.value < 2 ^ 56) }
+pub fn read_u56_le(s: &[u8], at: usize) -> Result<Read<u64>, Refusal>
+    ensures value { result ≡ read_of (le_at 7 s.now at) }
+    ensures bound { IfOk result (λ read. read.value < 2 ^ 56) }
 {
     if left_at(s, at) < 7 {
-        return refused_uint(ENDED);
+        return Err(Refusal::Ended);
     }
-    ReadUint {
-        refusal: 0,
+    Ok(Read {
         value: gather_at_once(s, at, 7),
         next: at + 7,
-    }
+    })
 }
 
-pub fn read_u64_le(s: &[u8], at: usize) -> ReadUint
-    ensures { result ≡ uint_read (le_at 8 s.now at) }
+pub fn read_u64_le(s: &[u8], at: usize) -> Result<Read<u64>, Refusal>
+    ensures { result ≡ read_of (le_at 8 s.now at) }
 {
     read_le(s, at, 8)
 }
@@ -113,40 +104,40 @@ pub fn read_u64_le(s: &[u8], at: usize) -> ReadUint
 pub fn number_at(s: &[u8], at: usize) -> u64
     ensures { result ≡ number_at s.now at }
 {
-    read_u64_le(s, at).value
+    match read_u64_le(s, at) {
+        Ok(read) => read.value,
+        Err(_) => 0,
+    }
 }
 
 // Writes the `n` low bytes of `value`.
-fn write_le(value: u64, out: &mut [u8], n: usize) -> Wrote
+pub(crate) fn write_le(value: u64, out: &mut [u8], n: usize) -> Result<usize, WriteError>
     ensures value { result ≡ answer_of out.old (bytes (le_bytes n value)) }
     ensures out_after { out.new ≡ output_of out.old (bytes (le_bytes n value)) }
 {
     if out.len() < n {
-        return Wrote {
-            refusal: NO_ROOM,
-            len: n,
-        };
+        return Err(WriteError::NoRoom(n));
     }
     scatter(value, out, 0, n);
-    Wrote { refusal: 0, len: n }
+    Ok(n)
 }
 
-pub fn write_u32_le(value: u32, out: &mut [u8]) -> Wrote
+pub fn write_u32_le(value: u32, out: &mut [u8]) -> Result<usize, WriteError>
     ensures value { result ≡ answer_of out.old (bytes (le_bytes 4 value)) }
     ensures out_after { out.new ≡ output_of out.old (bytes (le_bytes 4 value)) }
 {
-    write_le(value as u64, out, 4)
+    write_le(u64::from(value), out, 4)
 }
 
 // The seven low bytes: the highest byte of `value` is left out, whatever it is.
-pub fn write_u56_le(value: u64, out: &mut [u8]) -> Wrote
+pub fn write_u56_le(value: u64, out: &mut [u8]) -> Result<usize, WriteError>
     ensures value { result ≡ answer_of out.old (bytes (le_bytes 7 value)) }
     ensures out_after { out.new ≡ output_of out.old (bytes (le_bytes 7 value)) }
 {
     write_le(value, out, 7)
 }
 
-pub fn write_u64_le(value: u64, out: &mut [u8]) -> Wrote
+pub fn write_u64_le(value: u64, out: &mut [u8]) -> Result<usize, WriteError>
     ensures value { result ≡ answer_of out.old (bytes (le_bytes 8 value)) }
     ensures out_after { out.new ≡ output_of out.old (bytes (le_bytes 8 value)) }
 {

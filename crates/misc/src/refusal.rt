@@ -1,40 +1,76 @@
-// The numbers of the refusals, as in specs/Refusal.antt. 0 is none.
-pub const ENDED: u8 = 1;
+// Why a call refuses. Each case has the number of the table in specs/Refusal.antt; 13, an output that is too short, belongs to writers
+// alone and names the length that is needed.
+ghost use Rattle.std.specs.Prelude.{◌≡◌};
+ghost use Rattle.misc.specs.Refusal.{number, error_number, error_needed, Refused};
 
-pub const TOO_LARGE: u8 = 2;
+#[derive(Clone, Copy, Debug, PartialEq, Eq)]
+pub enum Refusal {
+    Ended = 1,
+    TooLarge = 2,
+    Negative = 3,
+    WrongVersion = 4,
+    UnknownField = 5,
+    BadTag = 6,
+    NoTag = 7,
+    WrongType = 8,
+    SmallPayload = 9,
+    BadLead = 10,
+    TooLong = 11,
+    NotWritable = 12,
+    NotASet = 14,
+    BadGno = 15,
+    Full = 16,
+    Crowded = 17,
+    BadFile = 18,
+    AbsentId = 21,
+    Diverged = 22,
+}
 
-pub const NEGATIVE: u8 = 3;
-
-pub const WRONG_VERSION: u8 = 4;
-
-pub const UNKNOWN_FIELD: u8 = 5;
-
-pub const BAD_TAG: u8 = 6;
-
-pub const NO_TAG: u8 = 7;
-
-pub const WRONG_TYPE: u8 = 8;
-
-pub const SMALL_PAYLOAD: u8 = 9;
-
-pub const BAD_LEAD: u8 = 10;
-
-pub const TOO_LONG: u8 = 11;
-
-pub const NOT_WRITABLE: u8 = 12;
-
+// The number of an output that is shorter than the answer.
 pub const NO_ROOM: u8 = 13;
 
-pub const NOT_A_SET: u8 = 14;
+// Why nothing was written: a refusal, or an output that is too short, with the length that is needed.
+#[derive(Clone, Copy, Debug, PartialEq, Eq)]
+pub enum WriteError {
+    Refused(Refusal),
+    NoRoom(usize),
+}
 
-pub const BAD_GNO: u8 = 15;
+impl Refusal {
+    // Its number in the table.
+    pub fn number(self) -> u8
+        ensures { result ≡ number self }
+    {
+        self as u8
+    }
+}
 
-pub const FULL: u8 = 16;
+impl WriteError {
+    // Its number in the table.
+    pub fn number(self) -> u8
+        ensures { result ≡ error_number self }
+    {
+        match self {
+            WriteError::Refused(refusal) => refusal.number(),
+            WriteError::NoRoom(_) => NO_ROOM,
+        }
+    }
 
-pub const CROWDED: u8 = 17;
+    // The length that is needed, 0 where that isn't what is wrong.
+    pub fn needed(self) -> usize
+        ensures { result ≡ error_needed self }
+    {
+        match self {
+            WriteError::Refused(_) => 0,
+            WriteError::NoRoom(needed) => needed,
+        }
+    }
+}
 
-pub const BAD_FILE: u8 = 18;
+impl From<Refusal> for WriteError {
+    ghost from_gives = { λ refusal error. error ≡ Refused refusal };
 
-pub const ABSENT_ID: u8 = 21;
-
-pub const DIVERGED: u8 = 22;
+    fn from(refusal: Refusal) -> WriteError {
+        WriteError::Refused(refusal)
+    }
+}

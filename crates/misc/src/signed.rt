@@ -1,12 +1,12 @@
 // Signed variable-length integers: v at or above 0 is sent as 2v, otherwise as 2(-(v+1))+1.
 ghost use Rattle.std.specs.Prelude.{◌≡◌};
-ghost use Rattle.misc.specs.Parse.{uint_read};
+ghost use Rattle.misc.specs.Parse.{read_of};
 ghost use Rattle.misc.specs.Output.{bytes, output_of, answer_of};
 ghost use Rattle.misc.specs.Varlen.{varlen_bytes};
-ghost use Rattle.misc.specs.Signed.{sent_as, meant_by, signed_at, natural_at, int_read};
+ghost use Rattle.misc.specs.Signed.{sent_as, meant_by, signed_at, natural_at};
 
-use crate::refusal::NEGATIVE;
-use crate::{ReadInt, ReadUint, Wrote, refused_uint, varlen};
+use crate::refusal::{Refusal, WriteError};
+use crate::{Read, varlen};
 
 fn meant_by(sent: u64) -> i64
     ensures { result ≡ meant_by sent }
@@ -27,46 +27,31 @@ fn sent_as(value: i64) -> u64
     (value as u64) * 2
 }
 
-pub fn read_varlen_int(s: &[u8], at: usize) -> ReadInt
-    ensures { result ≡ int_read (signed_at s.now at) }
+pub fn read_varlen_int(s: &[u8], at: usize) -> Result<Read<i64>, Refusal>
+    ensures { result ≡ read_of (signed_at s.now at) }
 {
-    let read = varlen::read_varlen_uint(s, at);
-    let refusal = read.refusal;
-    if refusal != 0 {
-        return ReadInt {
-            refusal,
-            value: 0,
-            next: 0,
-        };
-    }
-    ReadInt {
-        refusal: 0,
-        value: meant_by(read.value),
-        next: read.next,
-    }
+    let sent = varlen::read_varlen_uint(s, at)?;
+    Ok(Read {
+        value: meant_by(sent.value),
+        next: sent.next,
+    })
 }
 
 // Reads a number that is sent as a signed one and may not be negative: refusal 3 where it is.
-pub fn read_varlen_natural(s: &[u8], at: usize) -> ReadUint
-    ensures { result ≡ uint_read (natural_at s.now at) }
+pub fn read_varlen_natural(s: &[u8], at: usize) -> Result<Read<u64>, Refusal>
+    ensures { result ≡ read_of (natural_at s.now at) }
 {
-    let read = varlen::read_varlen_uint(s, at);
-    let refusal = read.refusal;
-    if refusal != 0 {
-        return read;
+    let sent = varlen::read_varlen_uint(s, at)?;
+    if sent.value % 2 == 0 {
+        return Ok(Read {
+            value: sent.value / 2,
+            next: sent.next,
+        });
     }
-    let sent = read.value;
-    if sent % 2 == 0 {
-        return ReadUint {
-            refusal: 0,
-            value: sent / 2,
-            next: read.next,
-        };
-    }
-    refused_uint(NEGATIVE)
+    Err(Refusal::Negative)
 }
 
-pub fn write_varlen_int(value: i64, out: &mut [u8]) -> Wrote
+pub fn write_varlen_int(value: i64, out: &mut [u8]) -> Result<usize, WriteError>
     ensures value { result ≡ answer_of out.old (bytes (varlen_bytes (sent_as value))) }
     ensures out_after { out.new ≡ output_of out.old (bytes (varlen_bytes (sent_as value))) }
 {

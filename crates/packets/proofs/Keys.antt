@@ -8,8 +8,10 @@ use lib.ListN.{length}
 use native.Mathlib.Omega.{arith}
 use native.Mathlib.Nat.{suc_inj}
 use lib.Dec.{leb, is_le, compare_is_eq}
-use borrow.Author.Tests.{le-leb, lt-leb, eq-eqb, ne_eqb}
-use Rattle.packets.specs.Key.{Key, or_else, order, ◌≺◌, same}
+use borrow.Author.Tests.{le-leb, lt-leb, lt-ltb, le-ltb, eq-eqb, ne_eqb}
+use Rattle.std.specs.Ordering.{nat_cmp}
+use Rattle.std.specs.Cmp.Lexicographic.{slice_cmp}
+use Rattle.packets.specs.Key.{order_read, Key, or_else, order, ◌≺◌, same}
 use Rattle.packets.proofs.Tests.{split, clash, tests}
 
 -- what `leb` and `eqb` say of two numbers tells how `compare` found them
@@ -46,6 +48,16 @@ compare-cases m n below level above = split (leb m n)
     (λ k. level (omega tests) (compare-eq m n (omega tests)))
     (λ k. below (omega tests) (compare-lt m n (omega tests))))
     (λ h. above (omega tests) (compare-gt m n (omega tests)))
+
+-- the library's order of lists of numbers is that of keys
+pub cmp_order : (a b : Key) → slice_cmp nat_cmp a b ≡ order_read (order a b)
+cmp_order [] [] = refl
+cmp_order [] (y ∷ ys) = refl
+cmp_order (x ∷ xs) [] = refl
+cmp_order (x ∷ xs) (y ∷ ys) = compare-cases x y
+    (λ h e. rw (e, lt-ltb x y h))
+    (λ h e. rw (e, le-ltb x y (omega arith)) (cmp_order xs ys))
+    (λ h e. rw (e, le-ltb x y (omega arith)))
 
 abbrev pub flip : Ordering → Ordering
 flip Ordering.lt = Ordering.gt

@@ -2,20 +2,20 @@
 use mathlib.Core.Path.{◌≡◌, refl}
 use mathlib.Core.Bool.{true, false, not, ◌&&◌}
 use mathlib.Core.List.{List, [], ◌∷◌}
-use Prim.Native.Nat.{ℕ, ◌+◌, ◌≤◌, ◌<◌}
-use native.Mathlib.Numerals.{add-one}
+use Prim.Native.Nat.{ℕ, ◌≤◌, ◌<◌}
 use native.Mathlib.Omega.{arith}
 use lib.Dec.{leb, eqb}
 use borrow.Author.Tests.{eqb-true}
-use lib.ListN.{length, drop, get_or}
-use lib.Seq.{drop-cons}
+use lib.ListN.{length, get_or}
+use Rattle.std.specs.List.{list_all}
 use Rattle.packets.specs.Tag.{is_digit, is_tag_byte, all_tag_bytes, is_tag, none_or_tag}
 use Rattle.packets.proofs.Tests.{split, clash, tests}
 
-pub all-tag-bytes-next : (s : List ℕ) (i : ℕ) → i < length s
-    → all_tag_bytes (drop i s) ≡ (is_tag_byte (get_or s i 0) && all_tag_bytes (drop (i + 1) s))
+-- the rule of a tag's bytes is the library's `list_all`
+pub all-are-tag-bytes : (s : List ℕ) → list_all is_tag_byte s ≡ all_tag_bytes s
 unfolding all_tag_bytes
-all-tag-bytes-next s i h = rw (add-one, drop-cons s i 0)
+all-are-tag-bytes [] = refl
+all-are-tag-bytes (b ∷ bs) = rw (all-are-tag-bytes bs)
 
 -- no bytes are no tag
 pub no-bytes-no-tag : (t : List ℕ) → length t ≡ 0 → is_tag t ≡ false

@@ -3,9 +3,9 @@
 -- `prefix-first` of proofs/Keys.antt). That it rises with the bytes, `Rules` of promises says.
 use Prim.Native.Nat.{ℕ, compare, Ordering}
 use Rattle.std.specs.Prelude.{◌≡◌, Bool, List, [], ◌∷◌}
+use Rattle.std.specs.declared.cmp.Ordering as cmp
+use Rattle.std.specs.declared.cmp.Ordering.TheVariants.{Less, Equal, Greater}
 use Rattle.std.proofs.Math.Dec.{compare_is_eq}
-use Rattle.packets.specs.declared.KeyOrder.{KeyOrder}
-use Rattle.packets.specs.declared.KeyOrder.TheVariants.{Before, Same, After}
 
 abbrev pub Key : Type 0
 Key = List ℕ
@@ -31,7 +31,7 @@ abbrev pub same : Key → Key → Bool
 same j k = compare_is_eq (order j k)
 
 -- the answer of `key_order`
-abbrev pub order_read : Ordering → KeyOrder
-order_read Ordering.lt = Before
-order_read Ordering.eq = Same
-order_read Ordering.gt = After
+abbrev pub order_read : Ordering → cmp.Ordering
+order_read Ordering.lt = Less
+order_read Ordering.eq = Equal
+order_read Ordering.gt = Greater

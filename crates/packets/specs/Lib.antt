@@ -3,5 +3,4 @@
 pub mod Tag
 pub mod Gno
 pub mod Key
-pub mod Word
 pub mod Kept

@@ -5,17 +5,17 @@ use Prim.Native.Nat.{ℕ, suc, ◌+◌}
 use native.Mathlib.Nat.{zero-add, add-zero}
 use native.Mathlib.Omega.{arith}
 use lib.ListN.{length}
-use Rattle.misc.specs.Refusal.{number}
-use Rattle.misc.specs.Parse.{Parse, refuse, parsed}
+use Rattle.std.specs.Prelude.{Result, Ok}
+use Rattle.misc.specs.declared.refusal.Refusal.{Refusal}
+use Rattle.misc.specs.Parse.{Parse, refuse, parsed, answered}
 use Rattle.misc.proofs.Walk.{ahead}
 use Rattle.previous_gtids_event.specs.Entry.{Entry}
-use Rattle.previous_gtids_event.specs.Answers.{previous_read, refused_previous}
+use Rattle.previous_gtids_event.specs.Answers.{previous_read}
 use Rattle.previous_gtids_event.specs.declared.PreviousRead.{PreviousRead}
 
 -- the answer where n entries are counted and the rest is read
-abbrev pub read_after : ℕ → Parse (List Entry) → PreviousRead
-read_after n (refuse r) = refused_previous (number r)
-read_after n (parsed es next) = record { refusal = 0; used = next; entries = n + length es }
+abbrev pub read_after : ℕ → Parse (List Entry) → Result PreviousRead Refusal
+read_after n p = answered (λ es next. record { used = next; entries = n + length es }) p
 
 pub read_none : (p : Parse (List Entry)) → previous_read p ≡ read_after 0 p
 read_none (refuse r) = refl
@@ -25,5 +25,5 @@ pub read_next : (n : ℕ) (e : Entry) (p : Parse (List Entry)) → read_after n 
 read_next n e (refuse r) = refl
 read_next n e (parsed es next) = let a : n + suc (length es) ≡ n + 1 + length es = omega arith in rw a
 
-pub read-end : (n at : ℕ) → read_after n (parsed [] at) ≡ record { refusal = 0; used = at; entries = n }
-read-end n at = rw add-zero
+pub read-end : (n at : ℕ) {count : ℕ} → n ≡ count → read_after n (parsed [] at) ≡ Ok (record { used = at; entries = count })
+read-end n at e = rw (add-zero, e)

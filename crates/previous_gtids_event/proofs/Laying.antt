@@ -33,7 +33,8 @@ le_of-snoc w (x ∷ a) t e =
     let above : t * 256 ^ suc k ≡ 256 * (t * 256 ^ k) = rw pow-succ' (mul_left_comm t 256 (256 ^ k)) in
     rw (← e, le_of-snoc k a t refl) (omega arith)
 
-pub header-meant : {t : Bool} {n : ℕ} {bs : List ℕ} → HeaderLaid t n bs → Bytes bs → (length bs ≡ 8) × (says_tagged (le_of bs) ≡ t) × (says_count (le_of bs) ≡ n)
+pub header-meant : {t : Bool} {n : ℕ} {bs : List ℕ} → HeaderLaid t n bs → Bytes bs
+    → (length bs ≡ 8) × (says_tagged (le_of bs) ≡ t) × (says_count (le_of bs) ≡ n)
 unfolding says_tagged says_count
 header-meant (HeaderLaid.plain {n = n} {count = count} c) are =
     let low : le_of count < 256 ^ 7 = rw c.long at (le_of-below count (front_bytes count (0 ∷ []) are)) in

@@ -9,14 +9,15 @@ use lib.Dec.{leb}
 use lib.ListN.{length, drop, take-append-drop}
 use lib.Seq.{take_at, drop_at, take_all}
 use borrow.Author.Tests.{leb-true}
-use Rattle.misc.specs.Refusal.{Refusal, ended, bad_tag, too_long, number}
-use Rattle.misc.specs.Parse.{Parse, refuse, parsed, and_then, many, part, bytes_at, refusal_of, uint_read}
-use Rattle.misc.specs.declared.ReadUint.{ReadUint}
+use Rattle.misc.specs.declared.refusal.Refusal.{Refusal}
+use Rattle.misc.specs.Refusal.{ended, bad_tag, too_long}
+use Rattle.misc.specs.Parse.{Parse, refuse, parsed, and_then, many, part, bytes_at, answered}
+use Rattle.misc.specs.declared.Read.{Read}
 use Rattle.misc.specs.Body.{body_limit, of_body}
 use Rattle.misc.specs.Le.{le_of, le_at}
 use Rattle.misc.specs.Varlen.{varlen_at}
-use Rattle.misc.proofs.ParseLaws.{split, never, was-parsed, was-refused, then-parsed, mapped-parsed, judged-parsed, pick-parsed, bytes-here, bytes-gone}
-use Rattle.misc.proofs.ParseLaws.{bytes-parsed, part_length}
+use Rattle.misc.proofs.ParseLaws.{split, never, then-parsed, mapped-parsed, judged-parsed, pick-parsed, bytes-here, bytes-gone, bytes-parsed, part_length}
+use Rattle.misc.proofs.ParseLaws.{answered-ok, answered-err}
 use Rattle.misc.proofs.BodyLaws.{body-fits, body-too-long, body-then}
 use Rattle.misc.proofs.LeLaws.{le-here, le-gone}
 use Rattle.misc.proofs.Forward.{le-forward, varlen-forward}
@@ -29,26 +30,25 @@ use Rattle.previous_gtids_event.specs.Entry.{Entry, entry, uuid_of, tag_of}
 use Rattle.packets.specs.Tag.{none_or_tag}
 use Rattle.previous_gtids_event.specs.Previous.{tag_at, key_at, Head, head, head_at, interval_at, intervals_after, entry_at, says_tagged, says_count}
 use Rattle.previous_gtids_event.specs.Previous.{entries_after, previous}
-use Rattle.previous_gtids_event.specs.Answers.{previous_read, header_read, entry_read, interval_read}
-use Rattle.previous_gtids_event.specs.Inside.{tag_read, head_read, whole_read}
+use Rattle.previous_gtids_event.specs.Answers.{previous_told, previous_read, header_told, header_read, entry_told}
+use Rattle.previous_gtids_event.specs.Inside.{tag_told, tag_read, head_told, head_read, whole_told, whole_read}
 use Rattle.previous_gtids_event.specs.declared.HeaderRead.{HeaderRead}
-use Rattle.previous_gtids_event.specs.declared.TagRead.{TagRead}
+use Rattle.previous_gtids_event.specs.declared.PreviousRead.{PreviousRead}
 use Rattle.previous_gtids_event.specs.declared.HeadRead.{HeadRead}
-use Rattle.previous_gtids_event.specs.declared.WholeRead.{WholeRead}
 use Rattle.previous_gtids_event.specs.declared.EntryRead.{EntryRead}
+use Rattle.std.specs.Prelude.{Result, Ok, Err}
 
--- ---- from an answer back to what was read: 0 says that it was, and any other number that it was refused
-module _ {A Answer : Type 0} (answer : Parse A → Answer) (refusal : Answer → ℕ) (says : (p : Parse A) → refusal (answer p) ≡ refusal_of p)
-    (p : Parse A) (r : Answer) (is : r ≡ answer p) where
-  pub was_read : refusal r ≡ 0 → (a : A) × (next : ℕ) × (p ≡ parsed a next) × (r ≡ answer (parsed a next))
-  was_read z =
-      let (a, next, e) = was-parsed p (sym (ap refusal is ∙ says p) ∙ z) in
-      (a, next, e, is ∙ ap answer e)
+-- ---- what a call over a body answers
+module _ {A B : Type 0} (say : A → ℕ → B) (s : List ℕ) (p : Parse A) where
+  pub too-long : 65536 < length s → Err too_long ≡ answered say (of_body s p)
+  too-long h = ap (answered say) (sym (body-too-long s p h))
 
-  pub was-not-read : (refusal r ≡ 0 → ⊥) → (x : Refusal) × (p ≡ refuse x) × (r ≡ answer (refuse x))
-  was-not-read z =
-      let (x, e) = was-refused p (λ h. z (ap refusal is ∙ says p ∙ h)) in
-      (x, e, is ∙ ap answer e)
+  module _ (short : length s ≤ 65536) where
+    pub body-refused : {x : Refusal} → p ≡ refuse x → Err x ≡ answered say (of_body s p)
+    body-refused e = ap (answered say) (sym (body-fits s p short ∙ e))
+
+    pub body-read : {a : A} {next : ℕ} → p ≡ parsed a next → Ok (say a next) ≡ answered say (of_body s p)
+    body-read e = ap (answered say) (sym (body-fits s p short ∙ e))
 
 -- ---- intervals
 
@@ -74,16 +74,19 @@ module _ (s : List ℕ) where
       (λ k. rw (le-here 8 s at k, le-gone 8 s (at + 8) (omega arith)))
       (λ k. rw (le-gone 8 s at k))
 
-  -- its answer, from those of its two numbers
-  pub interval-read : (at : ℕ) → at + 16 ≤ length s → (start end : ReadUint) → start ≡ uint_read (le_at 8 s at) → end ≡ uint_read (le_at 8 s (at + 8))
-      → record { refusal = 0; start = start.value; end = end.value } ≡ interval_read (interval_at s at)
-  unfolding interval_of
-  interval-read at h start end p q =
-      let a : start.value ≡ le_of (part s at 8) = ap (λ (y : ReadUint). y.value) (p ∙ ap uint_read (le-here 8 s at (omega arith))) in
-      let b : end.value ≡ le_of (part s (at + 8) 8) = ap (λ (y : ReadUint). y.value) (q ∙ ap uint_read (le-here 8 s (at + 8) (omega arith))) in
-      ap (λ (v : ℕ). record { refusal = 0; start = v; end = end.value }) a
-      ∙ ap (λ (v : ℕ). record { refusal = 0; start = le_of (part s at 8); end = v }) b
-      ∙ sym (ap interval_read (interval-here at h))
+  -- the same, from the reads of its two numbers
+  pub interval-startless : (at : ℕ) {x : Refusal} → le_at 8 s at ≡ refuse x → interval_at s at ≡ refuse x
+  unfolding interval_at
+  interval-startless at e = rw e
+
+  module _ (at : ℕ) {start m : ℕ} (first : le_at 8 s at ≡ parsed start m) where
+    pub interval-endless : {x : Refusal} → le_at 8 s m ≡ refuse x → interval_at s at ≡ refuse x
+    unfolding interval_at
+    interval-endless e = rw (first, e)
+
+    pub interval-whole : {end next : ℕ} → le_at 8 s m ≡ parsed end next → interval_at s at ≡ parsed (interval start end) next
+    unfolding interval_at
+    interval-whole e = rw (first, e)
 
   -- n intervals are there just if 16 n bytes are
   pub intervals-here : (n at : ℕ) → at + 16 * n ≤ length s → many (interval_at s) n at ≡ parsed (intervals_of s n at) (at + 16 * n)
@@ -118,32 +121,32 @@ module _ (s : List ℕ) where
       (λ h. never (sym (intervals-gone n at i h) ∙ e))
 
 -- ---- tags
-module _ (s : List ℕ) (at : ℕ) where
-  pub untagged : tag_at false s at ≡ parsed [] at
+module _ (tagged : Bool) (s : List ℕ) (at : ℕ) where
+  pub untagged : tagged ≡ false → tag_at tagged s at ≡ parsed [] at
   unfolding tag_at
-  untagged = refl
+  untagged none = rw none
 
-  pub tag-unsized : (x : Refusal) → varlen_at s at ≡ refuse x → tag_at true s at ≡ refuse x
-  unfolding tag_at
-  tag-unsized x e = rw e
-
-  module _ (n from : ℕ) (is : varlen_at s at ≡ parsed n from) where
-    pub tag-cut : length s < from + n → tag_at true s at ≡ refuse ended
+  module _ (wanted : tagged ≡ true) where
+    pub tag-unsized : {x : Refusal} → varlen_at s at ≡ refuse x → tag_at tagged s at ≡ refuse x
     unfolding tag_at
-    tag-cut h = rw (is, bytes-gone n s from h)
+    tag-unsized e = rw (wanted, e)
 
-    pub tag-bad : from + n ≤ length s → none_or_tag (part s from n) ≡ false → tag_at true s at ≡ refuse bad_tag
-    unfolding tag_at
-    tag-bad h e = rw (is, bytes-here n s from h, e)
+    module _ (n from : ℕ) (is : varlen_at s at ≡ parsed n from) where
+      pub tag-cut : length s < from + n → tag_at tagged s at ≡ refuse ended
+      unfolding tag_at
+      tag-cut h = rw (wanted, is, bytes-gone n s from h)
 
-    pub tag-here : from + n ≤ length s → none_or_tag (part s from n) ≡ true → tag_at true s at ≡ parsed (part s from n) (from + n)
-    unfolding tag_at
-    tag-here h e = rw (is, bytes-here n s from h, e)
+      pub tag-bad : from + n ≤ length s → none_or_tag (part s from n) ≡ false → tag_at tagged s at ≡ refuse bad_tag
+      unfolding tag_at
+      tag-bad h e = rw (wanted, is, bytes-here n s from h, e)
 
-    -- its answer
-    pub tag-answer : from + n ≤ length s → none_or_tag (part s from n) ≡ true
-        → record { refusal = 0; len = n; next = from + n } ≡ tag_read (tag_at true s at)
-    tag-answer h e = rw (tag-here h e, part_length n s from h)
+      tag-here : from + n ≤ length s → none_or_tag (part s from n) ≡ true → tag_at tagged s at ≡ parsed (part s from n) (from + n)
+      unfolding tag_at
+      tag-here h e = rw (wanted, is, bytes-here n s from h, e)
+
+      pub tag-answer : from + n ≤ length s → none_or_tag (part s from n) ≡ true
+          → Ok (record { value = n; next = from + n }) ≡ tag_read (tag_at tagged s at)
+      tag-answer h e = rw (tag-here h e, part_length n s from h)
 
 -- a tag that was read is the bytes before the next place
 pub record TagThere (s : List ℕ) (at : ℕ) (t : List ℕ) (next : ℕ) : Type 0 where
@@ -194,14 +197,14 @@ module _ (tagged : Bool) (s : List ℕ) (at : ℕ) where
   head-gone h = rw (bytes-gone 16 s at h)
 
   module _ (uuid : at + 16 ≤ length s) where
-    pub head-untagged : (x : Refusal) → tag_at tagged s (at + 16) ≡ refuse x → head_at tagged s at ≡ refuse x
+    pub head-untagged : {x : Refusal} → tag_at tagged s (at + 16) ≡ refuse x → head_at tagged s at ≡ refuse x
     unfolding head_at key_at
-    head-untagged x e = rw (bytes-here 16 s at uuid, e)
+    head-untagged e = rw (bytes-here 16 s at uuid, e)
 
     module _ (t : List ℕ) (m : ℕ) (tag : tag_at tagged s (at + 16) ≡ parsed t m) where
-      pub head-uncounted : (x : Refusal) → le_at 8 s m ≡ refuse x → head_at tagged s at ≡ refuse x
+      pub head-uncounted : {x : Refusal} → le_at 8 s m ≡ refuse x → head_at tagged s at ≡ refuse x
       unfolding head_at key_at
-      head-uncounted x e = rw (bytes-here 16 s at uuid, tag, e)
+      head-uncounted e = rw (bytes-here 16 s at uuid, tag, e)
 
       pub head-here : (n first : ℕ) → le_at 8 s m ≡ parsed n first → head_at tagged s at ≡ parsed (head (part s at 16 ++ t) n) first
       unfolding head_at key_at
@@ -244,9 +247,9 @@ head-there tagged s at k n first e =
 
 -- ---- entries
 module _ (tagged : Bool) (s : List ℕ) (at : ℕ) where
-  pub entry-headless : (x : Refusal) → head_at tagged s at ≡ refuse x → entry_at tagged s at ≡ refuse x
+  pub entry-headless : {x : Refusal} → head_at tagged s at ≡ refuse x → entry_at tagged s at ≡ refuse x
   unfolding entry_at
-  entry-headless x e = rw e
+  entry-headless e = rw e
 
   module _ (k : Key) (n first : ℕ) (is : head_at tagged s at ≡ parsed (head k n) first) where
     pub entry-cut : first ≤ length s → length s < first + 16 * n → entry_at tagged s at ≡ refuse ended
@@ -289,21 +292,18 @@ entry-there tagged s at k is next e =
         }
 
 -- ---- the whole body
-pub header-says : (p : Parse ℕ) → (header_read p).refusal ≡ refusal_of p
-header-says (refuse x) = refl
-header-says (parsed h next) = refl
-
-module _ (s : List ℕ) (r : HeaderRead) (is : r ≡ header_read (of_body s (le_at 8 s 0))) where
-  pub headless : (r.refusal ≡ 0 → ⊥) → (x : Refusal) × (previous s ≡ refuse x) × (r.refusal ≡ number x)
+module _ (s : List ℕ) where
+  pub headless : {x : Refusal} → Err x ≡ header_read (of_body s (le_at 8 s 0)) → previous s ≡ refuse x
   unfolding previous
-  headless z =
-      let (x, e, told) = was-not-read header_read (λ y. y.refusal) header-says (of_body s (le_at 8 s 0)) r is z in
-      (x, body-then s (le_at 8 s 0) (entries_after s) ∙ ap (λ (q : Parse ℕ). and_then q (entries_after s)) e, ap (λ (y : HeaderRead). y.refusal) told)
+  headless e =
+      body-then s (le_at 8 s 0) (entries_after s)
+      ∙ ap (λ (q : Parse ℕ). and_then q (entries_after s)) (answered-err header_told (of_body s (le_at 8 s 0)) e)
 
-  pub headed : r.refusal ≡ 0 → (previous s ≡ many (entry_at r.tagged s) r.entries 8) × (8 ≤ length s) × (length s ≤ 65536)
+  pub headed : {r : HeaderRead} → Ok r ≡ header_read (of_body s (le_at 8 s 0))
+      → (previous s ≡ many (entry_at r.tagged s) r.entries 8) × (8 ≤ length s) × (length s ≤ 65536)
   unfolding previous
-  headed z =
-      let (h, next, e, told) = was_read header_read (λ y. y.refusal) header-says (of_body s (le_at 8 s 0)) r is z in
+  headed {r} is =
+      let (h, next, e, told) = answered-ok header_told (of_body s (le_at 8 s 0)) is in
       let small : length s ≤ 65536 =
       split (length s) 65536 (λ k. k) (λ k. never (sym (body-too-long s (le_at 8 s 0) k) ∙ e)) in
       let f = le-forward s 0 8 (sym (body-fits s (le_at 8 s 0) small) ∙ e) in
@@ -327,6 +327,16 @@ many-inside l item inside (suc n) at items next h e =
     let same : last ≡ next = cc in
     let end = many-inside l item inside n m rest last (inside at a m p) q₁ in
     omega arith
+
+-- and it has as many items as were to be read
+pub many-length : {A : Type 0} (item : ℕ → Parse A) (n at : ℕ) (items : List A) (next : ℕ) → many item n at ≡ parsed items next → length items ≡ n
+unfolding many
+many-length item zero at items next e = let none : [] ≡ items = cc in ap length (sym none)
+many-length item (suc n) at items next e =
+    let (a, m, p, q) = then-parsed (item at) _ items next e in
+    let (rest, last, q₁, q₂) = then-parsed (many item n m) _ items next q in
+    let all : a ∷ rest ≡ items = cc in
+    ap length (sym all) ∙ ap suc (many-length item n m rest last q₁)
 
 entry-inside : (tagged : Bool) (s : List ℕ) (at : ℕ) (e : Entry) (next : ℕ) → entry_at tagged s at ≡ parsed e next → next ≤ length s
 entry-inside tagged s at (entry k is) next e = (entry-there tagged s at k is next e).inside
@@ -352,44 +362,40 @@ previous-inside s es next e =
     let (header, l, p, room, small) = previous-parts s es next e in
     many-inside (length s) (entry_at (says_tagged header) s) (entry-inside (says_tagged header) s) (says_count header) 8 es next room p
 
+pub used-inside : (s : List ℕ) {r : PreviousRead} → Ok r ≡ previous_read (previous s) → r.used ≤ length s
+used-inside s is =
+    let (es, next, e, told) = answered-ok previous_told (previous s) is in
+    omega (arith, previous-inside s es next e, ap (λ (y : PreviousRead). y.used) told)
+
 -- ---- from the answers for the parts of an entry
-pub previous-says : (p : Parse (List Entry)) → (previous_read p).refusal ≡ refusal_of p
-previous-says (refuse x) = refl
-previous-says (parsed es next) = refl
-
-pub tag-says : (p : Parse (List ℕ)) → (tag_read p).refusal ≡ refusal_of p
-tag-says (refuse x) = refl
-tag-says (parsed t next) = refl
-
-pub head-says : (p : Parse Head) → (head_read p).refusal ≡ refusal_of p
-head-says (refuse x) = refl
-head-says (parsed (head k n) first) = refl
-
-pub whole_says : (p : Parse Entry) → (whole_read p).refusal ≡ refusal_of p
-whole_says (refuse x) = refl
-whole_says (parsed (entry k is) next) = refl
-
 module _ (tagged : Bool) (s : List ℕ) (at : ℕ) where
   -- the tag and the count make the head
-  pub head-answer : (r : TagRead) → at + 16 ≤ length s → r ≡ tag_read (tag_at tagged s (at + 16)) → r.refusal ≡ 0
-      → (n first : ℕ) → le_at 8 s r.next ≡ parsed n first
-      → record { refusal = 0; tag_len = r.len; intervals = n; first = first } ≡ head_read (head_at tagged s at)
-  head-answer r uuid is z n first count =
-      let (t, m, e, told) = was_read tag_read (λ y. y.refusal) tag-says (tag_at tagged s (at + 16)) r is z in
-      let next : r.next ≡ m = ap (λ (y : TagRead). y.next) told in
-      let here = head-here tagged s at uuid t m e n first (ap (le_at 8 s) (sym next) ∙ count) in
-      let len : r.len ≡ length (tag_of (part s at 16 ++ t)) =
-      ap (λ (y : TagRead). y.len) told ∙ ap length (sym (tag-of (part s at 16) t (part_length 16 s at uuid))) in
-      ap (λ (l : ℕ). record { refusal = 0; tag_len = l; intervals = n; first = first }) len ∙ sym (ap head_read here)
+  module _ (uuid : at + 16 ≤ length s) (r : Read ℕ) (tag : Ok r ≡ tag_read (tag_at tagged s (at + 16))) where
+    pub count-refused : {x : Refusal} → le_at 8 s r.next ≡ refuse x → head_at tagged s at ≡ refuse x
+    count-refused gone =
+        let (t, m, e, told) = answered-ok tag_told (tag_at tagged s (at + 16)) tag in
+        head-uncounted tagged s at uuid t m e (ap (λ (y : Read ℕ). le_at 8 s y.next) (sym told) ∙ gone)
+
+    pub head-answer : {n first : ℕ} → le_at 8 s r.next ≡ parsed n first
+        → Ok (record { tag_len = r.value; intervals = n; first = first }) ≡ head_read (head_at tagged s at)
+    head-answer {n} {first} count =
+        let (t, m, e, told) = answered-ok tag_told (tag_at tagged s (at + 16)) tag in
+        let here = head-here tagged s at uuid t m e n first (ap (λ (y : Read ℕ). le_at 8 s y.next) (sym told) ∙ count) in
+        let len : r.value ≡ length (tag_of (part s at 16 ++ t)) =
+        ap (λ (y : Read ℕ). y.value) told ∙ ap length (sym (tag-of (part s at 16) t (part_length 16 s at uuid))) in
+        ap laid len ∙ sym (ap head_read here)
+      where
+        laid : ℕ → Result HeadRead Refusal
+        laid l = Ok (record { tag_len = l; intervals = n; first = first })
 
   -- the head and the intervals behind it make the entry
-  module _ (r : HeadRead) (is : r ≡ head_read (head_at tagged s at)) (z : r.refusal ≡ 0) where
-    head-told : (k : Key) × (head_at tagged s at ≡ parsed (head k r.intervals) r.first) × (r.tag_len ≡ length (tag_of k))
-    head-told =
-        let (h, first, e, told) = was_read head_read (λ y. y.refusal) head-says (head_at tagged s at) r is z in
+  module _ (r : HeadRead) (is : Ok r ≡ head_read (head_at tagged s at)) where
+    head-key : (k : Key) × (head_at tagged s at ≡ parsed (head k r.intervals) r.first) × (r.tag_len ≡ length (tag_of k))
+    head-key =
+        let (h, first, e, told) = answered-ok head_told (head_at tagged s at) is in
         go h first e told
       where
-        go : (h : Head) (first : ℕ) → head_at tagged s at ≡ parsed h first → r ≡ head_read (parsed h first)
+        go : (h : Head) (first : ℕ) → head_at tagged s at ≡ parsed h first → r ≡ head_told h first
             → (k : Key) × (head_at tagged s at ≡ parsed (head k r.intervals) r.first) × (r.tag_len ≡ length (tag_of k))
         go (head k n) first e told = (
           k,
@@ -398,71 +404,56 @@ module _ (tagged : Bool) (s : List ℕ) (at : ℕ) where
         )
 
     pub head-inside : r.first ≤ length s
-    head-inside = (head-there tagged s at head-told.0 r.intervals r.first head-told.1).inside
+    head-inside = (head-there tagged s at head-key.0 r.intervals r.first head-key.1).inside
 
     pub whole-cut : length s < r.first + 16 * r.intervals → entry_at tagged s at ≡ refuse ended
-    whole-cut h = entry-cut tagged s at head-told.0 r.intervals r.first head-told.1 head-inside h
+    whole-cut h = entry-cut tagged s at head-key.0 r.intervals r.first head-key.1 head-inside h
 
     pub whole-answer : r.first + 16 * r.intervals ≤ length s
-        → record { refusal = 0; tag_len = r.tag_len; intervals = r.intervals; first = r.first; next = r.first + 16 * r.intervals }
-        ≡ whole_read (entry_at tagged s at)
+        → Ok (record { value = r; next = r.first + 16 * r.intervals }) ≡ whole_read (entry_at tagged s at)
     whole-answer h =
-        let (k, e, len) = head-told in
-        ap (λ (l : ℕ). laid l r.intervals r.first) len
-        ∙ sym (ap whole_read (entry_here tagged s at k r.intervals r.first e h) ∙ place k r.intervals r.first)
-      where
-        laid : ℕ → ℕ → ℕ → WholeRead
-        laid l n first = record { refusal = 0; tag_len = l; intervals = n; first = first; next = first + 16 * n }
-
-        place : (k : Key) (n first : ℕ) → whole_read (parsed (entry k (intervals_of s n first)) (first + 16 * n)) ≡ laid (length (tag_of k)) n first
-        place k n first =
-            let start : first + 16 * n - 16 * n ≡ first = omega arith in
-            rw (length-intervals s n first, start)
+        let (k, e, len) = head-key in
+        let start : r.first + 16 * r.intervals - 16 * r.intervals ≡ r.first = omega arith in
+        rw (entry_here tagged s at k r.intervals r.first e h, length-intervals s r.intervals r.first, start, ← len)
 
 -- what the answer for a whole entry tells
-pub record WholeTold (tagged : Bool) (s : List ℕ) (at : ℕ) (r : WholeRead) : Type 0 where
+pub record WholeTold (tagged : Bool) (s : List ℕ) (at : ℕ) (r : Read HeadRead) : Type 0 where
   pub key : Key
   pub list : List Interval
   pub is : entry_at tagged s at ≡ parsed (entry key list) r.next
   pub there : EntryThere tagged s at key list r.next
-  pub tag-len : r.tag_len ≡ length (tag_of key)
-  pub count : r.intervals ≡ length list
-  pub first : r.first ≡ there.first
+  pub tag-len : r.value.tag_len ≡ length (tag_of key)
+  pub count : r.value.intervals ≡ length list
+  pub first : r.value.first ≡ there.first
 
-module _ (tagged : Bool) (s : List ℕ) (at : ℕ) (r : WholeRead) (is : r ≡ whole_read (entry_at tagged s at)) where
-  pub whole-told : r.refusal ≡ 0 → WholeTold tagged s at r
-  whole-told z =
-      let (e, next, p, told) = was_read whole_read (λ y. y.refusal) whole_says (entry_at tagged s at) r is z in
-      go e next p told
-    where
-      go : (e : Entry) (next : ℕ) → entry_at tagged s at ≡ parsed e next → r ≡ whole_read (parsed e next) → WholeTold tagged s at r
-      go (entry k is) next p told =
-          let end : r.next ≡ next = ap (λ (y : WholeRead). y.next) told in
-          let whole : entry_at tagged s at ≡ parsed (entry k is) r.next = p ∙ ap (parsed (entry k is)) (sym end) in
-          let there = entry-there tagged s at k is r.next whole in
-          let first : r.first ≡ next - 16 * length is = ap (λ (y : WholeRead). y.first) told in
-          record {
-            key = k;
-            list = is;
-            is = whole;
-            there = there;
-            tag-len = ap (λ (y : WholeRead). y.tag_len) told;
-            count = ap (λ (y : WholeRead). y.intervals) told;
-            first = omega (arith, there.end);
-          }
-
-  pub whole-refused : (r.refusal ≡ 0 → ⊥) → (x : Refusal) × (entry_at tagged s at ≡ refuse x) × (r.refusal ≡ number x)
-  whole-refused z =
-      let (x, e, told) = was-not-read whole_read (λ y. y.refusal) whole_says (entry_at tagged s at) r is z in
-      (x, e, ap (λ (y : WholeRead). y.refusal) told)
+pub whole-told : (tagged : Bool) (s : List ℕ) (at : ℕ) (r : Read HeadRead) → Ok r ≡ whole_read (entry_at tagged s at) → WholeTold tagged s at r
+whole-told tagged s at r is =
+    let (e, next, p, told) = answered-ok whole_told (entry_at tagged s at) is in
+    go e next p told
+  where
+    go : (e : Entry) (next : ℕ) → entry_at tagged s at ≡ parsed e next → r ≡ whole_told e next → WholeTold tagged s at r
+    go (entry k is) next p told =
+        let end : r.next ≡ next = ap (λ (y : Read HeadRead). y.next) told in
+        let whole : entry_at tagged s at ≡ parsed (entry k is) r.next = p ∙ ap (parsed (entry k is)) (sym end) in
+        let there = entry-there tagged s at k is r.next whole in
+        let first : r.value.first ≡ next - 16 * length is = ap (λ (y : Read HeadRead). y.value.first) told in
+        record {
+          key = k;
+          list = is;
+          is = whole;
+          there = there;
+          tag-len = ap (λ (y : Read HeadRead). y.value.tag_len) told;
+          count = ap (λ (y : Read HeadRead). y.value.intervals) told;
+          first = omega (arith, there.end);
+        }
 
 -- the parts of an entry lie in the body, one behind the other
-pub whole-order : {tagged : Bool} {s : List ℕ} {at : ℕ} {r : WholeRead} → WholeTold tagged s at r
-    → (at + 16 + r.tag_len + 8 ≤ r.first) × (r.first ≤ r.next) × (r.next ≤ length s)
-whole-order told =
+pub whole-places : {tagged : Bool} {s : List ℕ} {at : ℕ} {r : Read HeadRead} → WholeTold tagged s at r
+    → (at + 24 + r.value.tag_len ≤ r.value.first) × (r.next ≡ r.value.first + 16 * r.value.intervals) × (r.next ≤ length s)
+whole-places told =
     let there = told.there in (
       omega (arith, told.first, told.tag-len, there.head.tag.after, there.head.eight),
-      omega (arith, told.first, there.end),
+      omega (arith, told.first, told.count, there.end),
       there.inside,
     )
 
@@ -471,26 +462,25 @@ kept-short : (w : ℕ) (bs : List ℕ) → length bs ≤ w → kept w bs ≡ pad
 kept-short w bs h = rw (take_all w bs h)
 
 -- the entry's answer, from its parts
-pub entry-answer : (tagged : Bool) (s : List ℕ) (at : ℕ) (r : WholeRead) (told : WholeTold tagged s at r) (uuid tag : List ℕ)
-    → uuid ≡ kept 16 (drop at s) → tag ≡ kept 32 (part s (r.first - 8 - r.tag_len) r.tag_len)
-    → record { refusal = 0; uuid = uuid; tag = tag; tag_len = r.tag_len; intervals = r.intervals; first = r.first; next = r.next }
-    ≡ entry_read (entry_at tagged s at)
+pub entry-answer : (tagged : Bool) (s : List ℕ) (at : ℕ) (r : Read HeadRead) (told : WholeTold tagged s at r) (uuid tag : List ℕ)
+    → uuid ≡ kept 16 (drop at s) → tag ≡ kept 32 (part s (r.value.first - 8 - r.value.tag_len) r.value.tag_len)
+    → record { uuid = uuid; tag = tag; tag_len = r.value.tag_len; intervals = r.value.intervals; first = r.value.first; next = r.next }
+    ≡ entry_told (entry told.key told.list) r.next
 entry-answer tagged s at r told uuid tag u g =
     let k = told.key in
     let head = told.there.head in
     let there = head.tag in
-    let first : r.first ≡ r.next - 16 * length told.list = omega (arith, told.first, told.there.end) in
+    let first : r.value.first ≡ r.next - 16 * length told.list = omega (arith, told.first, told.there.end) in
     let room : at + 16 ≤ length s = omega (arith, there.after, there.inside) in
     let u-is : uuid ≡ uuid_of k = u ∙ kept_full 16 (drop at s) (part_length 16 s at room) ∙ sym head.uuid in
-    let t-is : part s (r.first - 8 - r.tag_len) r.tag_len ≡ tag_of k = rw (told.first, told.tag-len) there.bytes in
+    let t-is : part s (r.value.first - 8 - r.value.tag_len) r.value.tag_len ≡ tag_of k = rw (told.first, told.tag-len) there.bytes in
     let g-is : tag ≡ padded 32 (tag_of k) = g ∙ ap (kept 32) t-is ∙ kept-short 32 (tag_of k) there.short in
-    fields uuid (uuid_of k) u-is tag (padded 32 (tag_of k)) g-is r.tag_len (length (tag_of k)) told.tag-len r.intervals (length told.list)
-    told.count
-    r.first (r.next - 16 * length told.list) first
-    ∙ sym (ap entry_read told.is)
+    fields uuid (uuid_of k) u-is tag (padded 32 (tag_of k)) g-is r.value.tag_len (length (tag_of k)) told.tag-len
+    r.value.intervals (length told.list) told.count
+    r.value.first (r.next - 16 * length told.list) first
   where
     fields : (a b : List ℕ) → a ≡ b → (c d : List ℕ) → c ≡ d → (e f : ℕ) → e ≡ f → (g h : ℕ) → g ≡ h → (i j : ℕ) → i ≡ j
         → ◌≡◌ {A = EntryRead}
-        (record { refusal = 0; uuid = a; tag = c; tag_len = e; intervals = g; first = i; next = r.next })
-        (record { refusal = 0; uuid = b; tag = d; tag_len = f; intervals = h; first = j; next = r.next })
+        (record { uuid = a; tag = c; tag_len = e; intervals = g; first = i; next = r.next })
+        (record { uuid = b; tag = d; tag_len = f; intervals = h; first = j; next = r.next })
     fields a b p c d q e f x g h y i j z = rw (p, q, x, y, z)

@@ -8,12 +8,16 @@ use native.Mathlib.Omega.{arith}
 use lib.Dec.{ltb}
 use lib.ListN.{length, length-append}
 use Rattle.misc.specs.Pick.{pick}
-use Rattle.misc.specs.Refusal.{Refusal, number, no_room}
-use Rattle.misc.specs.Parse.{Bytes, Parse, refuse, parsed, many, part, refusal_of}
+use Rattle.std.specs.Prelude.{Result, Ok, Err}
+use Rattle.misc.specs.declared.refusal.Refusal.{Refusal}
+use Rattle.misc.specs.declared.refusal.WriteError.{WriteError}
+use Rattle.misc.specs.declared.refusal.WriteError.TheVariants.{Refused, NoRoom}
+use Rattle.misc.specs.declared.Read.{Read}
+use Rattle.misc.specs.Parse.{Bytes, Parse, refuse, parsed, many, part, refusal_of, answered}
 use Rattle.misc.specs.Body.{used_of}
 use Rattle.misc.specs.Varlen.{varlen_bytes}
 use Rattle.misc.specs.Output.{bytes, output_of, answer_of, WhereFits}
-use Rattle.misc.proofs.ParseLaws.{no_zero, part_length}
+use Rattle.misc.proofs.ParseLaws.{no_zero, part_length, answered-ok}
 use Rattle.misc.proofs.OutputLaws.{◌also◌, nothing_placed, output-fits, output-short, output-refused}
 use Rattle.misc.proofs.Walk.{ahead, many-none, many-next, Whole, whole-turn}
 use Rattle.packets.specs.Gno.{Interval}
@@ -21,51 +25,50 @@ use Rattle.packets.specs.Key.{Key}
 use Rattle.previous_gtids_event.specs.Entry.{Entry, entry, uuid_of, tag_of}
 use Rattle.previous_gtids_event.specs.Previous.{entry_at}
 use Rattle.previous_gtids_event.specs.Rewrite.{tag_bytes, entry_bytes, entries_bytes, any_tag, header_bytes, body_bytes, rewritten}
-use Rattle.previous_gtids_event.specs.Inside.{sizes_of, refused_sizes, entry_bytes_of, entries_bytes_of}
-use Rattle.previous_gtids_event.specs.declared.WholeRead.{WholeRead}
+use Rattle.previous_gtids_event.specs.Inside.{sizes_told, sizes_read, entry_bytes_of, entries_bytes_of}
+use Rattle.previous_gtids_event.specs.declared.HeadRead.{HeadRead}
 use Rattle.previous_gtids_event.specs.declared.Sizes.{Sizes}
-use Rattle.previous_gtids_event.proofs.Reading.{WholeTold, whole-order, was_read, was-not-read}
+use Rattle.previous_gtids_event.proofs.Reading.{WholeTold, whole-places, many-length}
 use Rattle.previous_gtids_event.proofs.Writing.{entry_length, length-header, entry-bytes}
 
 -- ---- the first pass
 
 -- what is gathered, and what the rest adds to it
-abbrev pub gathered : ℕ → Bool → ℕ → ℕ → Sizes
-gathered entries tagged plain full = record { refusal = 0; entries = entries; tagged = tagged; plain = plain; full = full }
+abbrev pub gathered : Bool → ℕ → ℕ → Sizes
+gathered tagged plain full = record { tagged = tagged; plain = plain; full = full }
 
-abbrev pub sizes_after : Sizes → Parse (List Entry) → Sizes
-sizes_after z (refuse r) = refused_sizes (number r)
-sizes_after z (parsed es next) =
-    gathered (z.entries + length es) (z.tagged || any_tag es) (z.plain + length (entries_bytes false es)) (z.full + length (entries_bytes true es))
+abbrev pub sizes_after : Sizes → Parse (List Entry) → Result Sizes Refusal
+sizes_after z p =
+    answered
+    (λ es next. gathered (z.tagged || any_tag es) (z.plain + length (entries_bytes false es)) (z.full + length (entries_bytes true es)))
+    p
 
-pub sizes-none : (p : Parse (List Entry)) → sizes_of p ≡ sizes_after (gathered 0 false 0 0) p
+pub sizes-none : (p : Parse (List Entry)) → sizes_read p ≡ sizes_after (gathered false 0 0) p
 sizes-none (refuse r) = refl
 sizes-none (parsed es next) = simp zero-add
 
-pub sizes-end : (n : ℕ) (any : Bool) (plain full at : ℕ) → sizes_after (gathered n any plain full) (parsed [] at) ≡ gathered n any plain full
+pub sizes-end : (any : Bool) (plain full at : ℕ) → sizes_after (gathered any plain full) (parsed [] at) ≡ Ok (gathered any plain full)
 unfolding any_tag entries_bytes
-sizes-end n any plain full at = simp (add-zero, or-false)
+sizes-end any plain full at = simp (add-zero, or-false)
 
 -- what an entry adds: `size` bytes, and where tags are wanted its tag and the `v` bytes of that one's length
-pub record Sized (tagged : Bool) (s : List ℕ) (at : ℕ) (r : WholeRead) (size v : ℕ) : Type 0 where
+pub record Sized (tagged : Bool) (s : List ℕ) (at : ℕ) (r : Read HeadRead) (size v : ℕ) : Type 0 where
   pub entry : Entry
   pub is : entry_at tagged s at ≡ parsed entry r.next
-  pub more : (n : ℕ) (any : Bool) (plain full : ℕ) (p : Parse (List Entry))
-      → sizes_after (gathered n any plain full) (ahead entry p)
-      ≡ sizes_after (gathered (n + 1) (any || ltb 0 r.tag_len) (plain + size) (full + (size + v + r.tag_len))) p
+  pub more : (any : Bool) (plain full : ℕ) (p : Parse (List Entry))
+      → sizes_after (gathered any plain full) (ahead entry p)
+      ≡ sizes_after (gathered (any || ltb 0 r.value.tag_len) (plain + size) (full + (size + v + r.value.tag_len))) p
 
 sizes-next : (k : Key) (is : List Interval) (size v len : ℕ) → len ≡ length (tag_of k)
     → length (entry_bytes false (entry k is)) ≡ size → length (entry_bytes true (entry k is)) ≡ size + v + len
-    → (n : ℕ) (any : Bool) (plain full : ℕ) (p : Parse (List Entry))
-    → sizes_after (gathered n any plain full) (ahead (entry k is) p)
-    ≡ sizes_after (gathered (n + 1) (any || ltb 0 len) (plain + size) (full + (size + v + len))) p
+    → (any : Bool) (plain full : ℕ) (p : Parse (List Entry))
+    → sizes_after (gathered any plain full) (ahead (entry k is) p)
+    ≡ sizes_after (gathered (any || ltb 0 len) (plain + size) (full + (size + v + len))) p
 unfolding any_tag entries_bytes
-sizes-next k is size v len l f g n any plain full (refuse r) = refl
-sizes-next k is size v len l f g n any plain full (parsed es next) =
-    let a : n + suc (length es) ≡ n + 1 + length es = omega arith in
+sizes-next k is size v len l f g any plain full (refuse r) = refl
+sizes-next k is size v len l f g any plain full (parsed es next) =
     let e = entry k is in
     rw (
-      a,
       length-append (entry_bytes false e) (entries_bytes false es),
       length-append (entry_bytes true e) (entries_bytes true es),
       f,
@@ -76,8 +79,8 @@ sizes-next k is size v len l f g n any plain full (parsed es next) =
       or_assoc,
     )
 
-pub sized : (tagged : Bool) (s : List ℕ) (at : ℕ) (r : WholeRead) → WholeTold tagged s at r → (v : ℕ) → v ≡ length (varlen_bytes r.tag_len)
-    → Sized tagged s at r (24 + 16 * r.intervals) v
+pub sized : (tagged : Bool) (s : List ℕ) (at : ℕ) (r : Read HeadRead) → WholeTold tagged s at r → (v : ℕ) → v ≡ length (varlen_bytes r.value.tag_len)
+    → Sized tagged s at r (24 + 16 * r.value.intervals) v
 sized tagged s at r told v e =
     let k = told.key in
     let there = told.there in
@@ -90,7 +93,7 @@ sized tagged s at r told v e =
     record {
       entry = entry k told.list;
       is = told.is;
-      more = sizes-next k told.list (24 + 16 * r.intervals) v r.tag_len told.tag-len
+      more = sizes-next k told.list (24 + 16 * r.value.intervals) v r.value.tag_len told.tag-len
           (entry_length false k told.list u ∙ omega arith)
           (entry_length true k told.list u ∙ omega (arith, told.tag-len));
     }
@@ -104,29 +107,24 @@ tag-wanted tags t e = rw e
 pub tag-unwanted : (tags : Bool) (t : List ℕ) → tags ≡ false → [] ≡ tag_bytes tags t
 tag-unwanted tags t e = rw e
 
--- what is left of a room behind a tag
-pub behind-tag : (tags : Bool) (t : List ℕ) (room : ℕ) → tags ≡ true → room - length (varlen_bytes (length t)) - length t ≡ room - length (tag_bytes tags t)
-behind-tag tags t room e = rw (e, length-append (varlen_bytes (length t)) t) (omega arith)
-
-pub behind-none : (tags : Bool) (t : List ℕ) (room : ℕ) → tags ≡ false → room ≡ room - length (tag_bytes tags t)
-behind-none tags t room e = rw e (omega arith)
-
 -- a key, and the count and the intervals behind it, make an entry
-module _ (tagged : Bool) (s : List ℕ) (from : ℕ) (r : WholeRead) (told : WholeTold tagged s from r) (tags : Bool) (are_bytes : Bytes s) where
+module _ (tagged : Bool) (s : List ℕ) (from : ℕ) (r : Read HeadRead) (told : WholeTold tagged s from r) (tags : Bool) (are_bytes : Bytes s) where
   pub entry-put : {l l₁ l₂ : List ℕ} {at at₁ at₂ : ℕ}
-      → WhereFits l at (part s from (from + 16 - from) ++ tag_bytes tags (part s (r.first - 8 - r.tag_len) (r.first - 8 - (r.first - 8 - r.tag_len))))
+      → WhereFits l at
+      (part s from (from + 16 - from)
+      ++ tag_bytes tags (part s (r.value.first - 8 - r.value.tag_len) (r.value.first - 8 - (r.value.first - 8 - r.value.tag_len))))
       l₁ at₁
-      → WhereFits l₁ at₁ (part s (r.first - 8) (r.next - (r.first - 8))) l₂ at₂
-      → (r.next ≡ used_of (entry_at tagged s from)) × WhereFits l at (entry_bytes_of tags (entry_at tagged s from)) l₂ at₂
+      → WhereFits l₁ at₁ (part s (r.value.first - 8) (r.next - (r.value.first - 8))) l₂ at₂
+      → WhereFits l at (entry_bytes_of tags (entry_at tagged s from)) l₂ at₂
   entry-put {l} {l₁} {l₂} {at} {at₁} {at₂} p q =
-      let t = r.first - 8 - r.tag_len in
+      let t = r.value.first - 8 - r.value.tag_len in
       let key : ℕ → ℕ → List ℕ = λ u n. part s from u ++ tag_bytes tags (part s t n) in
       let uuid : from + 16 - from ≡ 16 = omega arith in
-      let tag : r.first - 8 - t ≡ r.tag_len = omega (arith, whole-order told) in
-      let named : WhereFits l at (key 16 (r.first - 8 - t)) l₁ at₁ = subst (λ (n : ℕ). WhereFits l at (key n (r.first - 8 - t)) l₁ at₁) uuid p in
-      let keyed : WhereFits l at (key 16 r.tag_len) l₁ at₁ = subst (λ (n : ℕ). WhereFits l at (key 16 n) l₁ at₁) tag named in
+      let tag : r.value.first - 8 - t ≡ r.value.tag_len = omega (arith, whole-places told) in
+      let named : WhereFits l at (key 16 (r.value.first - 8 - t)) l₁ at₁ = subst (λ (n : ℕ). WhereFits l at (key n (r.value.first - 8 - t)) l₁ at₁) uuid p in
+      let keyed : WhereFits l at (key 16 r.value.tag_len) l₁ at₁ = subst (λ (n : ℕ). WhereFits l at (key 16 n) l₁ at₁) tag named in
       let all = ap (entry_bytes_of tags) told.is ∙ entry-bytes tagged s from r told tags are_bytes in
-      (sym (ap used_of told.is), subst (λ (bs : List ℕ). WhereFits l at bs l₂ at₂) (sym all) (keyed also q))
+      subst (λ (bs : List ℕ). WhereFits l at bs l₂ at₂) (sym all) (keyed also q)
 
 -- whoever writes the entries that are left writes all of them
 pub record PutSoFar (item : ℕ → Parse Entry) (tags : Bool) (out₀ : List ℕ) (at : ℕ) (wanted : List ℕ) (left next : ℕ) (out : List ℕ) (put : ℕ) : Type 0 where
@@ -170,59 +168,49 @@ put-done item tags out₀ at wanted next out put so_far =
     so_far.rest (rw (many-none item next) (record { placed = λ _. nothing_placed out put }))
 
 -- ---- the whole
-pub rewrite-refused : (p : Parse (List Entry)) (x : Refusal) (n : ℕ) (out : List ℕ) → p ≡ refuse x → n ≡ number x
-    → (record { refusal = n; len = 0 } ≡ answer_of out (rewritten p)) × (out ≡ output_of out (rewritten p))
-rewrite-refused p x n out e told = rw (e, told) (output-refused out x)
+pub rewrite-refused : (p : Parse (List Entry)) (out : List ℕ) {x : Refusal} {r : Result ℕ WriteError} → p ≡ refuse x → r ≡ Err (Refused x)
+    → (r ≡ answer_of out (rewritten p)) × (out ≡ output_of out (rewritten p))
+rewrite-refused p out {x} e told = rw (e, told) (output-refused out x)
 
-sizes-says : (p : Parse (List Entry)) → (sizes_of p).refusal ≡ refusal_of p
-sizes-says (refuse x) = refl
-sizes-says (parsed es next) = refl
+-- the first pass read n entries
+module _ (item : ℕ → Parse Entry) (n : ℕ) (z : Sizes) (is : Ok z ≡ sizes_read (many item n 8)) (out : List ℕ) where
+  abbrev entries : Parse (List Entry)
+  entries = many item n 8
 
-module _ (p : Parse (List Entry)) (z : Sizes) (is : z ≡ sizes_of p) (out : List ℕ) where
-  -- the first pass was refused
-  pub sizes-refused : (z.refusal ≡ 0 → ⊥)
-      → (record { refusal = z.refusal; len = 0 } ≡ answer_of out (rewritten p)) × (out ≡ output_of out (rewritten p))
-  sizes-refused h =
-      let (x, e, told) = was-not-read sizes_of (λ y. y.refusal) sizes-says p z is h in
-      rewrite-refused p x z.refusal out e (ap (λ (y : Sizes). y.refusal) told)
+  pub was-whole : refusal_of entries ≡ 0
+  was-whole = let (es, next, e, told) = answered-ok sizes_told entries is in ap refusal_of e
 
-  module _ (read : z.refusal ≡ 0) where
-    pub was-whole : refusal_of p ≡ 0
-    was-whole = sym (ap (λ (y : Sizes). y.refusal) is ∙ sizes-says p) ∙ read
+  -- what is to be written, and how long it is
+  body_is : rewritten entries ≡ bytes (header_bytes z.tagged n ++ entries_bytes_of z.tagged entries)
+  unfolding body_bytes
+  body_is =
+      let (es, next, e, told) = answered-ok sizes_told entries is in
+      ap rewritten e
+      ∙ ap (λ (m : ℕ). bytes (header_bytes (any_tag es) m ++ entries_bytes (any_tag es) es)) (many-length item n 8 es next e)
+      ∙ sym (ap (λ (y : Sizes). bytes (header_bytes y.tagged n ++ entries_bytes_of y.tagged entries)) told
+      ∙ ap (λ (q : Parse (List Entry)). bytes (header_bytes (any_tag es) n ++ entries_bytes_of (any_tag es) q)) e)
 
-    -- what is to be written, and how long it is
-    pub body_is : rewritten p ≡ bytes (header_bytes z.tagged z.entries ++ entries_bytes_of z.tagged p)
-    unfolding body_bytes
-    body_is =
-        let (es, next, e, told) = was_read sizes_of (λ y. y.refusal) sizes-says p z is read in
-        ap rewritten e
-        ∙ sym (ap (λ (y : Sizes). bytes (header_bytes y.tagged y.entries ++ entries_bytes_of y.tagged p)) told
-        ∙ ap (λ (q : Parse (List Entry)). bytes (header_bytes (any_tag es) (length es) ++ entries_bytes_of (any_tag es) q)) e)
+  body-size : length (header_bytes z.tagged n ++ entries_bytes_of z.tagged entries) ≡ 8 + pick z.tagged z.full z.plain
+  body-size =
+      let (es, next, e, told) = answered-ok sizes_told entries is in
+      length-append (header_bytes z.tagged n) (entries_bytes_of z.tagged entries)
+      ∙ ap (λ (m : ℕ). m + length (entries_bytes_of z.tagged entries)) (length-header z.tagged n)
+      ∙ ap (λ (m : ℕ). 8 + m) (ap (λ (q : Parse (List Entry)). length (entries_bytes_of z.tagged q)) e
+      ∙ picked z.tagged es ∙ sym (ap (λ (y : Sizes). pick z.tagged y.full y.plain) told))
+    where
+      picked : (t : Bool) (es : List Entry) → length (entries_bytes t es) ≡ pick t (length (entries_bytes true es)) (length (entries_bytes false es))
+      picked true es = refl
+      picked false es = refl
 
-    pub body-size : length (header_bytes z.tagged z.entries ++ entries_bytes_of z.tagged p) ≡ 8 + pick z.tagged z.full z.plain
-    body-size =
-        length-append (header_bytes z.tagged z.entries) (entries_bytes_of z.tagged p)
-        ∙ ap (λ (n : ℕ). n + length (entries_bytes_of z.tagged p)) (length-header z.tagged z.entries)
-        ∙ ap (λ (n : ℕ). 8 + n) picked
-      where
-        by_flag : (t : Bool) (q : Parse (List Entry)) → length (entries_bytes_of t q) ≡ pick t (sizes_of q).full (sizes_of q).plain
-        by_flag true (refuse x) = refl
-        by_flag true (parsed es next) = refl
-        by_flag false (refuse x) = refl
-        by_flag false (parsed es next) = refl
+  module _ (len : ℕ) (size : len ≡ 8 + pick z.tagged z.full z.plain) where
+    pub rewrite-short : length out < len
+        → (Err (NoRoom len) ≡ answer_of out (rewritten entries)) × (out ≡ output_of out (rewritten entries))
+    rewrite-short h = rw body_is (output-short out _ len (size ∙ sym body-size) h)
 
-        picked : length (entries_bytes_of z.tagged p) ≡ pick z.tagged z.full z.plain
-        picked = by_flag z.tagged p ∙ sym (ap (λ (y : Sizes). pick z.tagged y.full y.plain) is)
-
-    module _ (len : ℕ) (size : len ≡ 8 + pick z.tagged z.full z.plain) where
-      pub rewrite-short : length out < len
-          → (record { refusal = number no_room; len = len } ≡ answer_of out (rewritten p)) × (out ≡ output_of out (rewritten p))
-      rewrite-short h = rw body_is (output-short out _ len (size ∙ sym body-size) h)
-
-      -- the header stands at the front, and the entries behind it
-      pub rewrite-whole : {out₁ out₂ : List ℕ} {first end : ℕ} → len ≤ length out → WhereFits out 0 (header_bytes z.tagged z.entries) out₁ first
-          → WhereFits out₁ first (entries_bytes_of z.tagged p) out₂ end
-          → (record { refusal = 0; len = end } ≡ answer_of out (rewritten p)) × (out₂ ≡ output_of out (rewritten p))
-      rewrite-whole room front run =
-          let all : length (header_bytes z.tagged z.entries ++ entries_bytes_of z.tagged p) ≤ length out = omega (arith, body-size) in
-          rw body_is (output-fits all ((front also run).placed (omega arith)))
+    -- the header stands at the front, and the entries behind it
+    pub rewrite-whole : {out₁ out₂ : List ℕ} {first end : ℕ} → len ≤ length out → WhereFits out 0 (header_bytes z.tagged n) out₁ first
+        → WhereFits out₁ first (entries_bytes_of z.tagged entries) out₂ end
+        → (Ok end ≡ answer_of out (rewritten entries)) × (out₂ ≡ output_of out (rewritten entries))
+    rewrite-whole room front run =
+        let all : length (header_bytes z.tagged n ++ entries_bytes_of z.tagged entries) ≤ length out = omega (arith, body-size) in
+        rw body_is (output-fits all ((front also run).placed (omega arith)))

@@ -9,12 +9,11 @@ use lib.Dec.{ltb}
 use lib.ListN.{length, drop, length-append}
 use borrow.Author.Tests.{ltb-false}
 use Rattle.misc.specs.Parse.{Bytes, Parse, refuse, parsed, part}
-use Rattle.misc.specs.Refusal.{ended}
 use Rattle.misc.specs.Body.{of_body}
 use Rattle.misc.specs.Le.{le_of, le_bytes, le_at}
 use Rattle.misc.specs.Varlen.{varlen_size, varlen_bytes}
 use Rattle.misc.specs.Output.{bytes}
-use Rattle.misc.proofs.ParseLaws.{split, no_zero}
+use Rattle.misc.proofs.ParseLaws.{split, ok-err}
 use Rattle.misc.proofs.BodyLaws.{body-fits}
 use Rattle.misc.proofs.LeLaws.{le-here, le-gone, length-le_bytes, le_of-le_bytes}
 use Rattle.misc.proofs.Bounds.{front_bytes, behind-bytes, le_bytes-bytes}
@@ -28,7 +27,8 @@ use Rattle.packets.proofs.Tests.{clash}
 use Rattle.previous_gtids_event.specs.Entry.{Entry, entry, uuid_of, tag_of}
 use Rattle.packets.specs.Tag.{none_or_tag}
 use Rattle.previous_gtids_event.specs.Previous.{says_tagged, says_count, entries_in, previous}
-use Rattle.previous_gtids_event.specs.Answers.{header_read}
+use Rattle.previous_gtids_event.specs.Answers.{header_told, header_read}
+use Rattle.std.specs.Prelude.{Ok}
 use Rattle.previous_gtids_event.specs.declared.HeaderRead.{HeaderRead}
 use Rattle.previous_gtids_event.specs.Layout.{HeaderLaid, TagLaid, IntervalsLaid, EntryLaid, EntriesLaid, BodyLaid}
 use Rattle.previous_gtids_event.specs.Rewrite.{tag_bytes, intervals_bytes, entry_bytes, entries_bytes, any_tag, header_bytes, body_bytes, rewritten}
@@ -41,26 +41,24 @@ use Rattle.previous_gtids_event.proofs.Accepting.{header-spelt, header-found, en
 -- ---- headers: what `header_of` answers is what their bytes say
 module _ (s : List ℕ) (are : Bytes s) (small : length s ≤ 65536) (t : Bool) (n : ℕ) where
   pub header-told : (header rest : List ℕ) → s ≡ header ++ rest → HeaderLaid t n header
-      → header_read (of_body s (le_at 8 s 0)) ≡ record { refusal = 0; tagged = t; entries = n }
+      → header_read (of_body s (le_at 8 s 0)) ≡ Ok (record { tagged = t; entries = n })
   header-told header rest whole laid =
       let front : From s 0 (header ++ rest) = subst (From s 0) whole (from_start s) in
       let (h, read, tagged, count, _) = header-reads s header rest laid (front_bytes header rest (subst Bytes whole are)) front in
       ap header_read (body-fits s (le_at 8 s 0) small ∙ read) ∙ rw (tagged, count)
 
-  pub header-means : header_read (of_body s (le_at 8 s 0)) ≡ record { refusal = 0; tagged = t; entries = n } → Found (HeaderLaid t n) s 0 8
+  pub header-means : header_read (of_body s (le_at 8 s 0)) ≡ Ok (record { tagged = t; entries = n }) → Found (HeaderLaid t n) s 0 8
   header-means e =
       split 8 (length s)
       (λ room.
       let h = le_of (part s 0 8) in
       let read : le_at 8 s 0 ≡ parsed h 8 = le-here 8 s 0 room in
-      let told : header_read (parsed h 8) ≡ record { refusal = 0; tagged = t; entries = n } = ap header_read (sym (body-fits s (le_at 8 s 0) small ∙ read)) ∙ e in
-      let tagged : says_tagged h ≡ t = ap (λ (y : HeaderRead). y.tagged) told in
-      let count : says_count h ≡ n = ap (λ (y : HeaderRead). y.entries) told in
+      let told : Ok (header_told h 8) ≡ Ok (record { tagged = t; entries = n }) = ap header_read (sym (body-fits s (le_at 8 s 0) small ∙ read)) ∙ e in
+      let same : header_told h 8 ≡ record { tagged = t; entries = n } = cc in
+      let tagged : says_tagged h ≡ t = ap (λ (y : HeaderRead). y.tagged) same in
+      let count : says_count h ≡ n = ap (λ (y : HeaderRead). y.entries) same in
       rw (tagged, count) at (header-found s are h read))
-      (λ over.
-      let told : header_read (refuse ended) ≡ record { refusal = 0; tagged = t; entries = n } =
-      ap header_read (sym (body-fits s (le_at 8 s 0) small ∙ le-gone 8 s 0 over)) ∙ e in
-      absurd (no_zero ended (ap (λ (y : HeaderRead). y.refusal) told)))
+      (λ over. absurd (ok-err (sym e ∙ ap header_read (body-fits s (le_at 8 s 0) small ∙ le-gone 8 s 0 over))))
 
 -- ---- bodies
 module _ (s : List ℕ) (es : List Entry) (used : ℕ) where

@@ -16,7 +16,8 @@ use Rattle.packets.specs.Gno.{Interval, interval}
 use Rattle.packets.specs.Key.{Key}
 use Rattle.previous_gtids_event.specs.Entry.{entry, uuid_of, tag_of}
 use Rattle.previous_gtids_event.specs.Rewrite.{intervals_bytes, tag_bytes, head_run, entry_bytes, header_bytes}
-use Rattle.previous_gtids_event.specs.declared.WholeRead.{WholeRead}
+use Rattle.misc.specs.declared.Read.{Read}
+use Rattle.previous_gtids_event.specs.declared.HeadRead.{HeadRead}
 use Rattle.previous_gtids_event.proofs.Reading.{interval_of, intervals_of, WholeTold}
 
 -- ---- lengths
@@ -112,15 +113,16 @@ module _ (s : List ℕ) (are_bytes : Bytes s) where
       ∙ rw (← c.0, c.1, intervals-bytes n (at + 8) (omega (arith, c.1))) (part_join s at 8 (16 * n))
 
 -- an entry that was read, as its place says: its key, and the count and the intervals as they stand
-pub entry-bytes : (tagged : Bool) (s : List ℕ) (at : ℕ) (r : WholeRead) (told : WholeTold tagged s at r) (tags : Bool)
+pub entry-bytes : (tagged : Bool) (s : List ℕ) (at : ℕ) (r : Read HeadRead) (told : WholeTold tagged s at r) (tags : Bool)
     → Bytes s
     → entry_bytes tags (entry told.key told.list)
-    ≡ (part s at 16 ++ tag_bytes tags (part s (r.first - 8 - r.tag_len) r.tag_len)) ++ part s (r.first - 8) (r.next - (r.first - 8))
+    ≡ (part s at 16 ++ tag_bytes tags (part s (r.value.first - 8 - r.value.tag_len) r.value.tag_len))
+    ++ part s (r.value.first - 8) (r.next - (r.value.first - 8))
 unfolding entry_bytes
 entry-bytes tagged s at r told tags are_bytes =
     let there = told.there in
     let head = there.head in
     let rest = counted-bytes s are_bytes (there.first - 8) (length told.list) there.first told.list head.count-is refl there.intervals
     (omega (arith, there.end, there.inside)) in
-    let size : r.next - (r.first - 8) ≡ 8 + 16 * length told.list = omega (arith, told.first, there.end, head.eight) in
+    let size : r.next - (r.value.first - 8) ≡ 8 + 16 * length told.list = omega (arith, told.first, there.end, head.eight) in
     rw (head.uuid, rest, size, told.first, told.tag-len, head.tag.bytes) (sym (append_assoc (part s at 16) _ _))

@@ -1,52 +1,45 @@
 -- What the calls inside answer, of the parts of an entry and of the entries that are to be written.
-use Rattle.std.specs.Prelude.{ℕ, ◌-◌, ◌*◌, Bool, true, false, List, [], length}
-use Rattle.misc.specs.Refusal.{number}
-use Rattle.misc.specs.Parse.{Parse, refuse, parsed}
+use Rattle.std.specs.Prelude.{ℕ, ◌-◌, ◌*◌, Bool, true, false, List, [], length, Result}
+use Rattle.misc.specs.declared.refusal.Refusal.{Refusal}
+use Rattle.misc.specs.Parse.{Parse, refuse, parsed, answered}
+use Rattle.misc.specs.declared.Read.{Read}
 use Rattle.previous_gtids_event.specs.Entry.{Entry, entry, tag_of}
 use Rattle.previous_gtids_event.specs.Previous.{Head, head}
 use Rattle.previous_gtids_event.specs.Rewrite.{entry_bytes, entries_bytes, any_tag}
-use Rattle.previous_gtids_event.specs.declared.TagRead.{TagRead}
 use Rattle.previous_gtids_event.specs.declared.HeadRead.{HeadRead}
-use Rattle.previous_gtids_event.specs.declared.WholeRead.{WholeRead}
 use Rattle.previous_gtids_event.specs.declared.Sizes.{Sizes}
 
-abbrev pub refused_tag : ℕ → TagRead
-refused_tag refusal = record { refusal = refusal; len = 0; next = 0 }
+-- how long a tag is
+abbrev pub tag_told : List ℕ → ℕ → Read ℕ
+tag_told tag next = record { value = length tag; next = next }
 
-abbrev pub tag_read : Parse (List ℕ) → TagRead
-tag_read (refuse r) = refused_tag (number r)
-tag_read (parsed tag next) = record { refusal = 0; len = length tag; next = next }
+abbrev pub tag_read : Parse (List ℕ) → Result (Read ℕ) Refusal
+tag_read p = answered tag_told p
 
-abbrev pub refused_head : ℕ → HeadRead
-refused_head refusal = record { refusal = refusal; tag_len = 0; intervals = 0; first = 0 }
+-- a head: how long the tag is, how many intervals follow, and the place of the first
+abbrev pub head_told : Head → ℕ → HeadRead
+head_told (head k count) first = record { tag_len = length (tag_of k); intervals = count; first = first }
 
-abbrev pub head_read : Parse Head → HeadRead
-head_read (refuse r) = refused_head (number r)
-head_read (parsed (head k count) first) = record { refusal = 0; tag_len = length (tag_of k); intervals = count; first = first }
+abbrev pub head_read : Parse Head → Result HeadRead Refusal
+head_read p = answered head_told p
 
-abbrev pub refused_whole : ℕ → WholeRead
-refused_whole refusal = record { refusal = refusal; tag_len = 0; intervals = 0; first = 0; next = 0 }
+-- a whole entry: its head, and the place behind the last interval
+abbrev pub whole_told : Entry → ℕ → Read HeadRead
+whole_told (entry k is) next =
+    record { value = record { tag_len = length (tag_of k); intervals = length is; first = next - 16 * length is }; next = next }
 
-abbrev pub whole_read : Parse Entry → WholeRead
-whole_read (refuse r) = refused_whole (number r)
-whole_read (parsed (entry k is) next) =
-    record { refusal = 0; tag_len = length (tag_of k); intervals = length is; first = next - 16 * length is; next = next }
+abbrev pub whole_read : Parse Entry → Result (Read HeadRead) Refusal
+whole_read p = answered whole_told p
 
 -- ---- entries that are to be written
 
-abbrev pub refused_sizes : ℕ → Sizes
-refused_sizes refusal = record { refusal = refusal; entries = 0; tagged = false; plain = 0; full = 0 }
+-- whether one has a tag, and how many bytes they take without tags and with
+abbrev pub sizes_told : List Entry → ℕ → Sizes
+sizes_told es next =
+    record { tagged = any_tag es; plain = length (entries_bytes false es); full = length (entries_bytes true es) }
 
-abbrev pub sizes_of : Parse (List Entry) → Sizes
-sizes_of (refuse r) = refused_sizes (number r)
-sizes_of (parsed es next) =
-    record {
-      refusal = 0;
-      entries = length es;
-      tagged = any_tag es;
-      plain = length (entries_bytes false es);
-      full = length (entries_bytes true es);
-    }
+abbrev pub sizes_read : Parse (List Entry) → Result Sizes Refusal
+sizes_read p = answered sizes_told p
 
 -- the bytes of what was read, none of what was refused
 abbrev pub entry_bytes_of : Bool → Parse Entry → List ℕ

@@ -1,5 +1,4 @@
 // The body of a Previous-GTIDs event (type 35): read from left to right, handed out entry by entry, written anew.
-// Every answer begins with the number of its refusal, 0 for none, and is zero in every other part then (13 tells the length needed).
 #![tactic(auto)]
 
 use misc::UUID_LEN;
@@ -10,6 +9,9 @@ pub mod rewrite;
 
 // Its type.
 pub const PREVIOUS_GTIDS_EVENT: u8 = 35;
+
+// The place of a body's first entry, behind the header.
+pub const FIRST_ENTRY: usize = 8;
 
 // Before its intervals an entry has the uuid and their number; in a body with tags also the tag behind its length, which takes one byte.
 pub const ENTRY_HEAD: usize = UUID_LEN + 8;
@@ -25,7 +27,6 @@ pub(crate) const COUNT_TOP: u64 = 0x1_0000_0000_0000;
 // How many entries a body has, and how many bytes they took.
 #[derive(Clone, Copy)]
 pub struct PreviousRead {
-    pub refusal: u8,
     pub used: usize,
     pub entries: u64,
 }
@@ -33,7 +34,6 @@ pub struct PreviousRead {
 // What a body's header says: whether its entries have tags, and how many there are.
 #[derive(Clone, Copy)]
 pub struct HeaderRead {
-    pub refusal: u8,
     pub tagged: bool,
     pub entries: u64,
 }
@@ -42,7 +42,6 @@ pub struct HeaderRead {
 // and behind the last.
 #[derive(Clone, Copy)]
 pub struct EntryRead {
-    pub refusal: u8,
     pub uuid: [u8; UUID_LEN],
     pub tag: [u8; MAX_TAG],
     pub tag_len: usize,
@@ -54,55 +53,32 @@ pub struct EntryRead {
 // One interval: the numbers from start up to, and without, end.
 #[derive(Clone, Copy)]
 pub struct IntervalRead {
-    pub refusal: u8,
     pub start: u64,
     pub end: u64,
 }
 
 // ---- inside
 
-// A tag with its length: how many bytes it has, and the place behind them.
-#[derive(Clone, Copy)]
-pub(crate) struct TagRead {
-    pub(crate) refusal: u8,
-    pub(crate) len: usize,
-    pub(crate) next: usize,
-}
-
 // The head of an entry: how long its tag is, how many intervals it announces, and the place of the first. The count
 // stands in the eight bytes before that place, and the tag before the count.
 #[derive(Clone, Copy)]
 pub(crate) struct HeadRead {
-    pub(crate) refusal: u8,
     pub(crate) tag_len: usize,
     pub(crate) intervals: u64,
     pub(crate) first: usize,
 }
 
-// Where a whole entry lies: its head, and the place behind its last interval.
-#[derive(Clone, Copy)]
-pub(crate) struct WholeRead {
-    pub(crate) refusal: u8,
-    pub(crate) tag_len: usize,
-    pub(crate) intervals: u64,
-    pub(crate) first: usize,
-    pub(crate) next: usize,
-}
-
-// Entries that are to be written: how many there are, whether one of them has a tag, and how many bytes they take without
-// tags and with.
+// Entries that are to be written: whether one of them has a tag, and how many bytes they take without tags and with.
 #[derive(Clone, Copy)]
 pub(crate) struct Sizes {
-    pub(crate) refusal: u8,
-    pub(crate) entries: u64,
     pub(crate) tagged: bool,
     pub(crate) plain: usize,
     pub(crate) full: usize,
 }
 
-// Where an entry that was written ends, in the body and in the output.
+// Where the writing of entries has come to: the place of the next one in the body, and its place in the output.
 #[derive(Clone, Copy)]
-pub(crate) struct Put {
-    pub(crate) next: usize,
+pub(crate) struct Places {
+    pub(crate) from: usize,
     pub(crate) at: usize,
 }

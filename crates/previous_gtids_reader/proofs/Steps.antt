@@ -1,24 +1,23 @@
 -- The steps give exactly what reading the whole body gives: its entries in order, and then the end (`steps-give`, `steps-end`); where the body
 -- is refused, the entries before the fault and then that refusal, however often one asks again (`steps-refuse`).
 use mathlib.Core.Path.{◌≡◌, refl, sym, ap, ◌∙◌}
-use mathlib.Core.Bool.{true, false}
 use mathlib.Core.List.{List, [], ◌∷◌}
 use Prim.Native.Nat.{ℕ, zero, suc, ◌+◌, ◌-◌, ◌<◌}
 use native.Mathlib.Omega.{arith}
 use lib.ListN.{length, get_or}
-use Rattle.misc.specs.Refusal.{Refusal, number}
+use Rattle.std.specs.Prelude.{None, Some, Result, Ok, Err}
+use Rattle.misc.specs.declared.refusal.Refusal.{Refusal}
 use Rattle.misc.specs.Parse.{Parse, refuse, parsed, many}
-use Rattle.misc.proofs.ParseLaws.{split, never}
+use Rattle.misc.proofs.ParseLaws.{never}
 use Rattle.misc.proofs.Walk.{ahead, many-none, many-next, many-refused}
 use Rattle.previous_gtids_event.specs.Entry.{Entry}
 use Rattle.previous_gtids_event.specs.Previous.{entry_at, previous}
-use Rattle.previous_gtids_event.specs.Answers.{entry_read}
+use Rattle.previous_gtids_event.specs.declared.HeaderRead.{HeaderRead}
 use Rattle.previous_gtids_event.proofs.Reading.{headless, headed}
 use Rattle.previous_gtids_reader.specs.declared.Cursor.{Cursor}
-use Rattle.previous_gtids_reader.specs.declared.Step.{Step}
-use Rattle.previous_gtids_reader.specs.Steps.{cursor_at, start_of, refused_step, end_step, entry_step, step_of, onwards, cursor_after, step_after}
-use Rattle.previous_gtids_reader.proofs.StepLaws.{says, Hands, hands-told, start-read, step-unbegun, step_end, step-there, after_none, after_next}
-use Rattle.previous_gtids_reader.proofs.StepLaws.{after-still, after_more, step_after_lem}
+use Rattle.previous_gtids_reader.specs.Steps.{cursor_at, start_of, entry_step, step_of, onwards, cursor_after, step_after}
+use Rattle.previous_gtids_reader.proofs.StepLaws.{says, Hands, start-refused, start-read, step_end, step-there, after_none, after_next}
+use Rattle.previous_gtids_reader.proofs.StepLaws.{after-still, after_more, step_after_lem, never-begun}
 
 -- the steps from a cursor on hand out these entries, in order
 abbrev pub Gives : List ℕ → Cursor → List Entry → Type 0
@@ -39,26 +38,32 @@ AllGiven s n at es used = Gives s (cursor_at n at) es × (cursor_after s (length
 pub record Stops (s : List ℕ) (c : Cursor) (x : Refusal) : Type 0 where
   pub before : List Entry
   pub gives : Gives s c before
-  pub is : step_of s (cursor_after s (length before) c) ≡ refused_step (number x)
+  pub is : step_of s (cursor_after s (length before) c) ≡ Err x
 
 -- ---- from a cursor on
-module _ (s : List ℕ) (z : (says s).refusal ≡ 0) where
+module _ (s : List ℕ) (r : HeaderRead) (z : Ok r ≡ says s) where
   -- the entry at a place
   abbrev read : ℕ → Parse Entry
-  read = entry_at (says s).tagged s
+  read = entry_at r.tagged s
 
-  step_entry : (n at : ℕ) (e : Entry) (next : ℕ) → read at ≡ parsed e next → step_of s (cursor_at (suc n) at) ≡ entry_step n e next
+  step_entry : (n at : ℕ) (e : Entry) (next : ℕ) → read at ≡ parsed e next → step_of s (cursor_at (suc n) at) ≡ Ok (Some (entry_step n e next))
   step_entry n at e next p =
       let less : suc n - 1 ≡ n = omega arith in
-      step-there s (says s) refl z (cursor_at (suc n) at) (λ none. omega arith) (parsed e next) p ∙ ap (λ (m : ℕ). entry_step m e next) less
+      step-there s r z (cursor_at (suc n) at) (λ none. omega arith) (parsed e next) p ∙ ap (λ (m : ℕ). Ok (Some (entry_step m e next))) less
 
-  step-fault : (n at : ℕ) (x : Refusal) → read at ≡ refuse x → step_of s (cursor_at (suc n) at) ≡ refused_step (number x)
-  step-fault n at x p = step-there s (says s) refl z (cursor_at (suc n) at) (λ none. omega arith) (refuse x) p
+  step-fault : (n at : ℕ) (x : Refusal) → read at ≡ refuse x → step_of s (cursor_at (suc n) at) ≡ Err x
+  step-fault n at x p = step-there s r z (cursor_at (suc n) at) (λ none. omega arith) (refuse x) p
 
   hands-entry : (n at : ℕ) (e : Entry) (next : ℕ) → read at ≡ parsed e next → Hands s (cursor_at (suc n) at) e
   hands-entry n at e next p =
       let less : suc n - 1 ≡ n = omega arith in
-      record { next = next; whole = p; is = step_entry n at e next p ∙ ap (λ (m : ℕ). entry_step m e next) (sym less) }
+      record {
+        header = r;
+        says_so = z;
+        next = next;
+        whole = p;
+        is = step_entry n at e next p ∙ ap (λ (m : ℕ). Ok (Some (entry_step m e next))) (sym less);
+      }
 
   -- all of the entries that are read, and then none is left
   all-given : (n at : ℕ) (es : List Entry) (used : ℕ) → many read n at ≡ parsed es used → AllGiven s n at es used
@@ -125,87 +130,108 @@ module _ (s : List ℕ) (z : (says s).refusal ≡ 0) where
       go on (parsed e next) p = rest on e next p (many read n next) refl (sym (many-next read n at e next p) ∙ m)
 
 -- ---- from the start on
+
+-- the step that has k before it hands out an entry
+pub record HandsAt (s : List ℕ) (k : ℕ) (e : Entry) : Type 0 where
+  pub begin : Cursor
+  pub begins : start_of s ≡ Ok begin
+  pub hands : Hands s (cursor_after s k begin) e
+
+-- the first steps hand out these entries, in order
+abbrev pub GivesFirst : List ℕ → List Entry → Type 0
+GivesFirst s es = (d : Entry) (k : ℕ) → k < length es → HandsAt s k (get_or es k d)
+
+gives-first : (s : List ℕ) (c : Cursor) → start_of s ≡ Ok c → (es : List Entry) → Gives s c es → GivesFirst s es
+gives-first s c begins es g d k h = record { begin = c; begins = begins; hands = g d k h }
+
 module _ (s : List ℕ) where
   -- a step that hands out nothing is repeated
-  repeats : (n : ℕ) (c : Cursor) → cursor_after s n (start_of s) ≡ c → (step_of s c).more ≡ false → (m : ℕ) → step_after s (n + m) ≡ step_after s n
-  unfolding step_after
-  repeats n c e h m = ap (step_of s) (after_more s n m (start_of s) ∙ ap (cursor_after s m) e ∙ after-still s c h m ∙ sym e)
+  repeats : (n : ℕ) (b c : Cursor) → start_of s ≡ Ok b → cursor_after s n b ≡ c → onwards c (step_of s c) ≡ c → (m : ℕ)
+      → step_after s (n + m) ≡ step_after s n
+  repeats n b c begins e h m =
+      step_after_lem s (n + m) b begins
+      ∙ ap (step_of s) (after_more s n m b ∙ ap (cursor_after s m) e ∙ after-still s c h m ∙ sym e)
+      ∙ sym (step_after_lem s n b begins)
+
+  -- what the answer tells of an entry that is handed out
+  pub tells : (k : ℕ) (e : Entry) → HandsAt s k e → (left : ℕ) × (next : ℕ) × (step_after s k ≡ Ok (Some (entry_step left e next)))
+  tells k e h = (
+    (cursor_after s k h.begin).left - 1,
+    h.hands.next,
+    step_after_lem s k h.begin h.begins ∙ h.hands.is,
+  )
 
   module _ (es : List Entry) (used : ℕ) (read : previous s ≡ parsed es used) where
-    given : ((says s).refusal ≡ 0) × Gives s (start_of s) es × (cursor_after s (length es) (start_of s) ≡ cursor_at 0 used)
-    given =
-        split (says s).refusal 0
-        (λ h.
-        let z : (says s).refusal ≡ 0 = omega arith in
-        let (g, l) = all-given s z (says s).entries 8 es used (sym (headed s (says s) refl z).0 ∙ read) in
-        rw (← start-read s (says s) refl z) (z, g, l))
-        (λ h. let (x, m, n) = headless s (says s) refl (λ z. omega arith) in never (sym m ∙ read))
+    -- the start, from which these entries are handed out, up to where the bytes used end; there the end is
+    record Walked : Type 0 where
+      begin : Cursor
+      begins : start_of s ≡ Ok begin
+      gives : Gives s begin es
+      comes : cursor_after s (length es) begin ≡ cursor_at 0 used
+      ends : step_of s (cursor_at 0 used) ≡ Ok None
+
+    given : Walked
+    given = go (says s) refl
+      where
+        go : (answer : Result HeaderRead Refusal) → answer ≡ says s → Walked
+        go (Err x) is = never (sym (headless s is) ∙ read)
+        go (Ok r) is =
+            let (g, l) = all-given s r is r.entries 8 es used (sym (headed s is).0 ∙ read) in
+            record {
+              begin = cursor_at r.entries 8;
+              begins = sym (start-read s r is);
+              gives = g;
+              comes = l;
+              ends = step_end s r is (cursor_at 0 used) refl;
+            }
 
     -- step number k hands out entry number k of those that reading gave
-    pub steps-give : (d : Entry) (k : ℕ) → k < length es → Hands s (cursor_after s k (start_of s)) (get_or es k d)
-    steps-give d k h = given.1 d k h
+    pub steps-give : GivesFirst s es
+    steps-give = gives-first s given.begin given.begins es given.gives
 
-    -- the same, as the answer tells it
-    pub steps-tell : (d : Entry) (k : ℕ) → k < length es
-        → (next : ℕ) × ((step_after s k).more ≡ true) × ((step_after s k).entry.refusal ≡ 0) × ((step_after s k).entry ≡ entry_read (parsed (get_or es k d) next))
-    steps-tell d k h =
-        let g = steps-give d k h in
-        let (more, refusal) = hands-told s (cursor_after s k (start_of s)) (get_or es k d) g in
-        let e = step_after_lem s k in (
-          g.next,
-          ap (λ (y : Step). y.more) e ∙ more,
-          ap (λ (y : Step). y.entry.refusal) e ∙ refusal,
-          ap (λ (y : Step). y.entry) (e ∙ g.is),
-        )
+    -- behind the last entry comes the end
+    pub steps-end : step_after s (length es) ≡ Ok None
+    steps-end = step_after_lem s (length es) given.begin given.begins ∙ ap (step_of s) given.comes ∙ given.ends
 
-    -- behind the last entry comes the end, where the bytes used end
-    pub steps-end : step_after s (length es) ≡ end_step used
-    unfolding step_after
-    steps-end = let (z, g, l) = given in ap (step_of s) l ∙ step_end s (says s) refl z (cursor_at 0 used) refl
+    -- where the bytes used end
+    pub steps-come : (begin : Cursor) × (start_of s ≡ Ok begin) × (cursor_after s (length es) begin ≡ cursor_at 0 used)
+    steps-come = (given.begin, given.begins, given.comes)
 
     -- and it stays the end
     pub steps-end-again : (m : ℕ) → step_after s (length es + m) ≡ step_after s (length es)
     steps-end-again m =
-        let (z, g, l) = given in
-        repeats (length es) (cursor_at 0 used) l (ap (λ (y : Step). y.more) (step_end s (says s) refl z (cursor_at 0 used) refl)) m
+        repeats (length es) given.begin (cursor_at 0 used) given.begins given.comes (ap (onwards (cursor_at 0 used)) given.ends) m
 
--- a body that is refused: the entries before the fault, then its refusal, all zero but for its number, and the same again
+-- a body that is refused: the entries before the fault, then its refusal, and the same again
 pub record Refuses (s : List ℕ) (x : Refusal) : Type 0 where
   pub before : List Entry
-  pub gives : Gives s (start_of s) before
-  pub refused : step_after s (length before) ≡ refused_step (number x)
+  pub gives : GivesFirst s before
+  pub refused : step_after s (length before) ≡ Err x
   pub again : (m : ℕ) → step_after s (length before + m) ≡ step_after s (length before)
 
--- a cursor that could not be begun
-unbegun : (s : List ℕ) (x : Refusal) (c : Cursor) → step_of s c ≡ refused_step (number x) → Stops s c x
-unbegun s x c h =
-    record {
-      before = [];
-      gives = gives_none s c;
-      is = ap (step_of s) (after_none s c) ∙ h;
-    }
-
-told : (s : List ℕ) (x : Refusal) → Stops s (start_of s) x → Refuses s x
-unfolding step_after
-told s x o =
-    record {
-      before = o.before;
-      gives = o.gives;
-      refused = o.is;
-      again = repeats s (length o.before) (cursor_after s (length o.before) (start_of s)) refl (ap (λ (y : Step). y.more) o.is);
-    }
-
 pub steps-refuse : (s : List ℕ) (x : Refusal) → previous s ≡ refuse x → Refuses s x
-steps-refuse s x read =
-    split (says s).refusal 0
-    (λ h.
-    let z : (says s).refusal ≡ 0 = omega arith in
-    let o = stops s z (says s).entries 8 x (sym (headed s (says s) refl z).0 ∙ read) in
-    told s x (rw (start-read s (says s) refl z) at o))
-    (λ h.
-    let z : (says s).refusal ≡ 0 → ⊥ = λ none. omega arith in
-    let (y, m, n) = headless s (says s) refl z in
-    let same : ◌≡◌ {A = Parse (List Entry)} (refuse y) (refuse x) = sym m ∙ read in
-    let one : y ≡ x = cc in
-    let here : step_of s (start_of s) ≡ refused_step (number x) = sym (step-unbegun s (says s) refl z (start_of s)) ∙ ap refused_step (n ∙ ap number one) in
-    told s x (unbegun s x (start_of s) here))
+steps-refuse s x read = go (says s) refl
+  where
+    go : (answer : Result HeaderRead Refusal) → answer ≡ says s → Refuses s x
+    go (Err y) is =
+        let same : ◌≡◌ {A = Parse (List Entry)} (refuse y) (refuse x) = sym (headless s is) ∙ read in
+        let one : y ≡ x = cc in
+        let begins = start-refused s is in
+        record {
+          before = [];
+          gives = λ d k h. absurd (omega arith);
+          refused = sym (never-begun s 0 begins) ∙ ap Err one;
+          again = λ m. sym (never-begun s (0 + m) begins) ∙ never-begun s 0 begins;
+        }
+    go (Ok r) is =
+        let begin = cursor_at r.entries 8 in
+        let begins = sym (start-read s r is) in
+        let o = stops s r is r.entries 8 x (sym (headed s is).0 ∙ read) in
+        let n = length o.before in
+        let c = cursor_after s n begin in
+        record {
+          before = o.before;
+          gives = gives-first s begin begins o.before o.gives;
+          refused = step_after_lem s n begin begins ∙ o.is;
+          again = repeats s n begin c begins refl (ap (onwards c) o.is);
+        }

@@ -1,6 +1,4 @@
 // A request: its head, and reading its parts.
-ghost use Rattle.std.specs.Prelude.{◌<◌};
-
 use probe_calls::out_len_of;
 use probe_lines::parts::{byte_at, u32_at, u64_at};
 use probe_lines::request::Request;
@@ -18,19 +16,6 @@ pub struct Head {
     pub out_len: usize,
 }
 
-fn wide(b: u8) -> usize
-    ensures { result < 256 }
-{
-    b as usize
-}
-
-// The number whose low byte and high byte stand at two places.
-fn two_at(s: &[u8], low: usize, high: usize) -> usize
-    ensures { result < 65536 }
-{
-    wide(byte_at(s, low)) + 256 * wide(byte_at(s, high))
-}
-
 pub(crate) fn head_of(raw: &[u8]) -> Head {
     let call = byte_at(raw, 0);
     let request = Request {
@@ -40,7 +25,7 @@ pub(crate) fn head_of(raw: &[u8]) -> Head {
     };
     let a_len = u32_at(raw, 4) as usize;
     let b_len = u32_at(raw, 8) as usize;
-    let c_len = two_at(raw, 2, 3);
+    let c_len = u16::from_le_bytes([byte_at(raw, 2), byte_at(raw, 3)]) as usize;
     Head {
         request,
         a_len,
@@ -56,8 +41,8 @@ pub(crate) fn read_parts(parts: &mut [u8], len: usize) -> bool {
     if len == 0 {
         return true;
     }
-    if parts.len() < len {
-        return false;
+    match parts.get_mut(..len) {
+        Some(room) => io::read_full(0, room) == len,
+        None => false,
     }
-    io::read_full(0, &mut parts[..len]) == len
 }

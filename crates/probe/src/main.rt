@@ -8,6 +8,7 @@ mod frame;
 
 use crate::frame::Head;
 use probe_calls::{OUT_ROOM, answer};
+use probe_lines::line::Line;
 use probe_lines::parts::{from_on, front};
 
 // The longest A, B and C, one behind the other.
@@ -17,21 +18,21 @@ const LINE_ROOM: usize = 450_000;
 
 // Answers the request whose parts stand at the front of `parts`; false where its output doesn't fit in `out`.
 fn answer_read(head: Head, parts: &[u8], out: &mut [u8], line: &mut [u8]) -> bool {
-    let out_len = head.out_len;
-    if out.len() < out_len {
+    let Some(output) = out.get_mut(..head.out_len) else {
         return false;
-    }
+    };
     let behind_a = from_on(parts, head.a_len);
     let behind_b = from_on(behind_a, head.b_len);
-    let end = answer(
+    let mut text = Line::new(line);
+    answer(
         head.request,
         front(parts, head.a_len),
         front(behind_a, head.b_len),
         front(behind_b, head.c_len),
-        &mut out[..out_len],
-        line,
+        output,
+        &mut text,
     );
-    probe_lines::line::write(line, end)
+    text.write()
 }
 
 // Reads a request and answers it; false at the end of the input.
@@ -47,11 +48,12 @@ fn answer_one(parts: &mut [u8], out: &mut [u8], line: &mut [u8]) -> bool {
     answer_read(head, parts, out, line)
 }
 
-// A proved loop has to end, so it counts its turns down from a number that no run uses up.
+// A proved loop has to end, so it has more turns than any run uses up.
 fn answer_all(parts: &mut [u8], out: &mut [u8], line: &mut [u8]) {
-    let mut turns = u64::MAX;
-    while turns > 0 && answer_one(parts, out, line) {
-        turns -= 1;
+    for _ in 0..u64::MAX {
+        if !answer_one(parts, out, line) {
+            return;
+        }
     }
 }
 

@@ -7,7 +7,7 @@ mod sets;
 mod two;
 mod written;
 
-use probe_lines::beside::UNSET;
+use probe_lines::beside::{UNSET, number_of};
 use probe_lines::request::Request;
 
 // The variable-length unsigned integer at the front.
@@ -16,13 +16,16 @@ fn uint(a: &[u8]) -> bool {
     let mut value = UNSET as u64;
     let mut used = UNSET;
     let refusal = abi::gtid_read_varlen_uint(a, &mut value, &mut used);
-    (said.refusal != refusal) | (said.value != value) | (said.next != used)
+    let wanted = match said {
+        Ok(read) => (read.value, read.next),
+        Err(_) => (0, 0),
+    };
+    (number_of(said) != refusal) | (wanted != (value, used))
 }
 
 // The archive's function for a call without an output, if there is one, beside the library's.
 fn told(request: Request, a: &[u8], b: &[u8], c: &[u8]) -> bool {
-    let call = request.call;
-    match call {
+    match request.call {
         1 => uint(a),
         32 => bodies::previous(a),
         50 => sets::check_set(a),

@@ -1,35 +1,16 @@
 // The archive's functions over one set.
-use misc::Wrote;
-use probe_lines::beside::{UNSET, differs};
+use misc::refusal::WriteError;
+use probe_lines::beside::{UNSET, differs, number_of};
 use probe_lines::checks::MARK;
 use resume_set::Offered;
 
-// What the archive should say of an offer: 0 refused, 1 taken, 2 already there, 3 no id.
-#[derive(Clone, Copy)]
-struct Numbers {
-    refusal: u8,
-    kind: u8,
-    len: usize,
-}
-
-fn accepted(kind: u8, len: usize) -> Numbers {
-    Numbers {
-        refusal: 0,
-        kind,
-        len,
-    }
-}
-
-fn numbers_of(said: Offered) -> Numbers {
+// What the archive should say of an offer: its kind, 0 refused, 1 taken, 2 already there, 3 no id; and the length of the set.
+fn numbers_of(said: Result<Offered, WriteError>) -> (u8, Result<usize, WriteError>) {
     match said {
-        Offered::NoId(len) => accepted(3, len),
-        Offered::AlreadyThere(len) => accepted(2, len),
-        Offered::Taken(len) => accepted(1, len),
-        Offered::Refused(refusal, len) => Numbers {
-            refusal,
-            kind: 0,
-            len,
-        },
+        Ok(Offered::Taken(len)) => (1, Ok(len)),
+        Ok(Offered::AlreadyThere(len)) => (2, Ok(len)),
+        Ok(Offered::NoId(len)) => (3, Ok(len)),
+        Err(error) => (0, Err(error)),
     }
 }
 
@@ -40,15 +21,11 @@ pub(crate) fn offer(
     out: &mut [u8],
     twin: &mut [u8],
 ) -> bool {
-    let wanted = numbers_of(resume_set::offer(set, event_type, body, out));
+    let (wanted, wrote) = numbers_of(resume_set::offer(set, event_type, body, out));
     let mut kind: u8 = MARK;
     let mut len = UNSET;
     let refusal = abi::gtid_offer(set, event_type, body, twin, &mut kind, &mut len);
-    let wrote = Wrote {
-        refusal: wanted.refusal,
-        len: wanted.len,
-    };
-    (wanted.kind != kind) | differs(wrote, refusal, len, out, twin)
+    (wanted != kind) | differs(wrote, refusal, len, out, twin)
 }
 
 pub(crate) fn check_set(set: &[u8]) -> bool {
@@ -56,12 +33,16 @@ pub(crate) fn check_set(set: &[u8]) -> bool {
     let mut entries = UNSET as u64;
     let mut intervals = UNSET as u64;
     let refusal = abi::gtid_check_set(set, &mut entries, &mut intervals);
-    (said.refusal != refusal) | (said.entries != entries) | (said.intervals != intervals)
+    let wanted = match said {
+        Ok(read) => (read.entries, read.intervals),
+        Err(_) => (0, 0),
+    };
+    (number_of(said) != refusal) | (wanted != (entries, intervals))
 }
 
 pub(crate) fn contains(set: &[u8], uuid: &[u8], tag: &[u8], gno: u64) -> bool {
     let said = set_join::contains(set, uuid, tag, gno);
     let mut present: u8 = MARK;
     let refusal = abi::gtid_contains(set, uuid, tag, gno, &mut present);
-    (said.refusal != refusal) | (said.present as u8 != present)
+    (number_of(said) != refusal) | ((said == Ok(true)) as u8 != present)
 }

@@ -1,8 +1,8 @@
 // The archive's functions that write an output and hand out its length, as the library's answer both.
-use misc::Wrote;
+use misc::refusal::WriteError;
 use probe_lines::beside::{UNSET, differs};
 
-fn by_library(call: u8, a: &[u8], b: &[u8], out: &mut [u8]) -> Wrote {
+fn by_library(call: u8, a: &[u8], b: &[u8], out: &mut [u8]) -> Result<usize, WriteError> {
     match call {
         33 => previous_gtids_event::rewrite::rewrite(a, out),
         48 => set_join::take_in::take_in(a, out),

@@ -1,53 +1,42 @@
 // The archive's functions over GTID records.
 use abi::RECORD_SIZE;
-use gtid_event_read::GtidRead;
-use misc::Wrote;
-use misc::refusal::NO_ROOM;
-use probe_lines::beside::{UNSET, differs};
+use gtid_event_read::{GtidRead, read as library_read};
+use misc::refusal::{Refusal, WriteError};
+use probe_lines::beside::{UNSET, differs, number_of};
 use probe_lines::checks::fill;
 use probe_record::dump::{from_dump, to_dump};
 
 // Lays out the record that the library read, if it did, and says what the archive should: the bytes used, or 13 and a
 // record's size where the output is too short.
-fn laid_out(said: GtidRead, dump: &mut [u8]) -> Wrote {
-    let refusal = said.refusal;
-    if refusal != 0 {
-        return Wrote { refusal, len: 0 };
-    }
+fn laid_out(said: Result<GtidRead, Refusal>, dump: &mut [u8]) -> Result<usize, WriteError> {
+    let read = said?;
     if dump.len() < RECORD_SIZE {
-        return Wrote {
-            refusal: NO_ROOM,
-            len: RECORD_SIZE,
-        };
+        return Err(WriteError::NoRoom(RECORD_SIZE));
     }
-    let event = said.event;
-    to_dump(event, dump);
-    Wrote {
-        refusal: 0,
-        len: said.used,
-    }
+    to_dump(read.event, dump);
+    Ok(read.used)
 }
 
 // The archive reads into an output of this length.
 fn read_into(event_type: u8, body: &[u8], dump: &mut [u8], twin: &mut [u8]) -> bool {
     fill(dump);
     fill(twin);
-    let wanted = laid_out(gtid_event_read::read(event_type, body), dump);
+    let wanted = laid_out(library_read(event_type, body), dump);
     let mut used = UNSET;
     let refusal = abi::gtid_read(event_type, body, twin, &mut used);
     differs(wanted, refusal, used, dump, twin)
 }
 
-// And tells the fields.
+// And tells the fields: none with a refusal.
 fn present_into(event_type: u8, body: &[u8], dump: &mut [u8], twin: &mut [u8]) -> bool {
     fill(dump);
     fill(twin);
-    let said = gtid_event_read::read(event_type, body);
-    let mut told = said.present;
+    let said = library_read(event_type, body);
     let wanted = laid_out(said, dump);
-    if wanted.refusal != 0 {
-        told = 0;
-    }
+    let told = match said {
+        Ok(read) if wanted.is_ok() => read.present,
+        _ => 0,
+    };
     let mut used = UNSET;
     let mut present = 0xa5a5u16;
     let refusal = abi::gtid_read_present(event_type, body, twin, &mut used, &mut present);
@@ -71,15 +60,14 @@ pub(crate) fn reread(event_type: u8, body: &[u8], out: &mut [u8], twin: &mut [u8
     let mut dump = [0u8; RECORD_SIZE];
     let mut used = UNSET;
     let refusal = abi::gtid_read(event_type, body, &mut dump, &mut used);
-    let said = gtid_event_read::read(event_type, body);
-    if said.refusal != refusal {
+    let said = library_read(event_type, body);
+    if number_of(said) != refusal {
         return true;
     }
-    if refusal != 0 {
+    let Ok(read) = said else {
         return used != 0;
-    }
-    let event = said.event;
-    let wrote = gtid_event_write::write::write(event, out);
+    };
+    let wrote = gtid_event_write::write::write(read.event, out);
     let mut len = UNSET;
     let written = abi::gtid_write(&dump, twin, &mut len);
     differs(wrote, written, len, out, twin)

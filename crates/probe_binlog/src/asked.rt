@@ -5,12 +5,17 @@ use probe_binlog_line::{ALREADY_THERE, ENDED, Heard, JOINED, MORE_WANTED, NO_ID,
 use probe_lines::parts::{byte_at, u64_at};
 use set_check::LONGEST_SET;
 
-// Which of the two is asked, both readers, of which only that one goes on, and what it said last.
+// Which of the two is asked.
+#[derive(Clone, Copy)]
+enum Kept {
+    Library(Reader),
+    Archive([u8; READER_SIZE]),
+}
+
+// The reader, and what it said last.
 #[derive(Clone, Copy)]
 pub(crate) struct Asked {
-    archive: bool,
-    reader: Reader,
-    bytes: [u8; READER_SIZE],
+    kept: Kept,
     pub(crate) heard: Heard,
 }
 
@@ -23,106 +28,75 @@ fn kind_of(told: Told) -> u8 {
     }
 }
 
-fn heard_of(step: Answer) -> Heard {
-    let said = step.said;
-    let used = step.used;
-    let reader = step.reader;
-    let set_len = reader.len;
+// What the library says, as the archive's numbers: the refusal, the kind, the event's type and a length.
+fn numbers_of(said: Said) -> (u8, u8, u8, usize) {
     match said {
-        Said::MoreWanted => Heard {
-            refusal: 0,
-            kind: MORE_WANTED,
-            event_type: 0,
-            len: 0,
-            used,
-            set_len,
-        },
-        Said::Ended => Heard {
-            refusal: 0,
-            kind: ENDED,
-            event_type: 0,
-            len: 0,
-            used,
-            set_len,
-        },
-        Said::Event(told, event_type, len) => Heard {
-            refusal: 0,
-            kind: kind_of(told),
+        Said::MoreWanted => (0, MORE_WANTED, 0, 0),
+        Said::Ended => (0, ENDED, 0, 0),
+        Said::Event(told, event_type, len) => (0, kind_of(told), event_type, len),
+        Said::Refused(refusal, len) => (refusal, 0, 0, len),
+    }
+}
+
+fn by_library(step: Answer) -> Asked {
+    let (refusal, kind, event_type, len) = numbers_of(step.said);
+    Asked {
+        kept: Kept::Library(step.reader),
+        heard: Heard {
+            refusal,
+            kind,
             event_type,
             len,
-            used,
-            set_len,
-        },
-        Said::Refused(refusal, len) => Heard {
-            refusal,
-            kind: 0,
-            event_type: 0,
-            len,
-            used,
-            set_len,
+            used: step.used,
+            set_len: step.reader.len,
         },
     }
 }
 
-fn heard_in(bytes: &[u8], refusal: u8) -> Heard {
-    Heard {
+fn by_archive(bytes: [u8; READER_SIZE], refusal: u8) -> Asked {
+    let heard = Heard {
         refusal,
-        kind: byte_at(bytes, 3),
-        event_type: byte_at(bytes, 4),
-        len: u64_at(bytes, 40) as usize,
-        used: u64_at(bytes, 32) as usize,
-        set_len: u64_at(bytes, 24) as usize,
-    }
-}
-
-fn by_library(step: Answer, bytes: [u8; READER_SIZE]) -> Asked {
-    let reader = step.reader;
-    let heard = heard_of(step);
+        kind: byte_at(&bytes, 3),
+        event_type: byte_at(&bytes, 4),
+        len: u64_at(&bytes, 40) as usize,
+        used: u64_at(&bytes, 32) as usize,
+        set_len: u64_at(&bytes, 24) as usize,
+    };
     Asked {
-        archive: false,
-        reader,
-        bytes,
-        heard,
-    }
-}
-
-fn by_archive(reader: Reader, bytes: [u8; READER_SIZE], refusal: u8) -> Asked {
-    let heard = heard_in(&bytes, refusal);
-    Asked {
-        archive: true,
-        reader,
-        bytes,
+        kept: Kept::Archive(bytes),
         heard,
     }
 }
 
 pub(crate) fn begin(archive: bool, set: &[u8], checksums: bool) -> Asked {
-    let step = binlog_reader::begin(set, checksums);
-    let mut bytes = [0u8; READER_SIZE];
     if archive {
+        let mut bytes = [0u8; READER_SIZE];
         let refusal = abi::gtid_binlog_begin(set, checksums as u8, &mut bytes);
-        return by_archive(step.reader, bytes, refusal);
+        return by_archive(bytes, refusal);
     }
-    by_library(step, bytes)
+    by_library(binlog_reader::begin(set, checksums))
 }
 
 // Feeds a chunk. Nothing is kept in the spare bytes from one call to the next, so each has its own.
 pub(crate) fn feed(asked: Asked, chunk: &[u8], work: &mut [u8], set: &mut [u8]) -> Asked {
-    let mut bytes = asked.bytes;
     let mut spare = [0u8; LONGEST_SET];
-    if asked.archive {
-        let refusal = abi::gtid_binlog_step(&mut bytes, chunk, work, set, &mut spare);
-        return by_archive(asked.reader, bytes, refusal);
+    match asked.kept {
+        Kept::Library(reader) => {
+            by_library(binlog_reader::step(reader, chunk, work, set, &mut spare))
+        }
+        Kept::Archive(mut bytes) => {
+            let refusal = abi::gtid_binlog_step(&mut bytes, chunk, work, set, &mut spare);
+            by_archive(bytes, refusal)
+        }
     }
-    let step = binlog_reader::step(asked.reader, chunk, work, set, &mut spare);
-    by_library(step, bytes)
 }
 
 pub(crate) fn end(asked: Asked) -> Asked {
-    let mut bytes = asked.bytes;
-    if asked.archive {
-        let refusal = abi::gtid_binlog_end(&mut bytes);
-        return by_archive(asked.reader, bytes, refusal);
+    match asked.kept {
+        Kept::Library(reader) => by_library(binlog_reader::end(reader)),
+        Kept::Archive(mut bytes) => {
+            let refusal = abi::gtid_binlog_end(&mut bytes);
+            by_archive(bytes, refusal)
+        }
     }
-    by_library(binlog_reader::end(asked.reader), bytes)
 }

@@ -6,10 +6,11 @@ mod asked;
 
 use crate::asked::Asked;
 use binlog::WORK;
-use probe_binlog_line::{Heard, Notes};
+use misc::bytes::write_bytes;
+use probe_binlog_line::Notes;
 use probe_lines::answers;
-use probe_lines::checks::{MARK, is_suffix};
-use probe_lines::line::{push_text, push_text_if};
+use probe_lines::checks::MARK;
+use probe_lines::line::Line;
 use probe_lines::parts::{from_on, front, part_end, u32_at};
 use set_check::LONGEST_SET;
 
@@ -28,160 +29,118 @@ struct Run {
     notes: Notes,
 }
 
-// Where a line ends, and the sum of what was told beside it.
-#[derive(Clone, Copy)]
-struct Line {
-    end: usize,
-    told: usize,
+// The bytes that a reader is lent.
+#[derive(Drop)]
+struct Lent<'a> {
+    work: &'a mut [u8],
+    set: &'a mut [u8],
 }
 
 // ---- a chunk
 
-fn heard_last(run: Run) -> Heard {
-    let asked = run.asked;
-    asked.heard
-}
-
 // The run after a call, with A fed up to a place.
-fn after_call(notes: Notes, asked: Asked, at: usize, line: &mut [u8]) -> Run {
-    let heard = asked.heard;
+fn after_call(notes: Notes, asked: Asked, at: usize, line: &mut Line<'_>) -> Run {
     Run {
         asked,
         at,
-        notes: probe_binlog_line::with_call(notes, heard, line),
+        notes: probe_binlog_line::with_call(notes, asked.heard, line),
     }
 }
 
 // Feeds what is left of a chunk, which ends where `fed` does.
-fn feed_rest(run: Run, fed: &[u8], work: &mut [u8], set: &mut [u8], line: &mut [u8]) -> Run {
-    let at = run.at;
-    let asked = asked::feed(run.asked, from_on(fed, at), work, set);
-    let heard = asked.heard;
-    after_call(run.notes, asked, part_end(at, heard.used, fed.len()), line)
-}
-
-// Whether something is left of the chunk, and the reader didn't refuse.
-fn goes_on(run: Run, end: usize) -> bool {
-    let heard = heard_last(run);
-    (run.at < end) & (heard.refusal == 0)
+fn feed_rest(run: Run, fed: &[u8], lent: &mut Lent<'_>, line: &mut Line<'_>) -> Run {
+    let asked = asked::feed(run.asked, from_on(fed, run.at), lent.work, lent.set);
+    let at = part_end(run.at, asked.heard.used, fed.len());
+    after_call(run.notes, asked, at, line)
 }
 
 // Feeds a chunk, which ends where `fed` does, up to there or a refusal. An empty one is fed once; of any other a call uses a byte at least.
-fn feed_chunk(run: Run, fed: &[u8], work: &mut [u8], set: &mut [u8], line: &mut [u8]) -> Run {
-    let mut here = run;
-    let mut turns = fed.len();
-    loop {
-        here = feed_rest(here, fed, work, set, line);
-        if turns == 0 || !goes_on(here, fed.len()) {
-            return here;
+fn feed_chunk(run: Run, fed: &[u8], lent: &mut Lent<'_>, line: &mut Line<'_>) -> Run {
+    let mut here = feed_rest(run, fed, lent, line);
+    for _ in 0..fed.len() {
+        if (fed.len() <= here.at) | (here.asked.heard.refusal != 0) {
+            break;
         }
-        turns -= 1;
+        here = feed_rest(here, fed, lent, line);
     }
+    here
 }
 
 // ---- the steps
 
-fn name_end(run: Run, line: &mut [u8]) -> Run {
-    let asked = asked::end(run.asked);
-    after_call(run.notes, asked, run.at, line)
+fn name_end(run: Run, line: &mut Line<'_>) -> Run {
+    after_call(run.notes, asked::end(run.asked), run.at, line)
 }
 
 // The run after a step, with A fed up to a place. The step's state is put down.
 fn after_step(run: Run, at: usize) -> Run {
-    let heard = heard_last(run);
-    let notes = probe_binlog_line::with_step(run.notes, heard);
-    let mut after = run;
-    after.at = at;
-    after.notes = notes;
-    after
+    Run {
+        asked: run.asked,
+        at,
+        notes: probe_binlog_line::with_step(run.notes, run.asked.heard),
+    }
 }
 
 // A step names the end, or feeds the next so many bytes of A as a chunk.
-fn step(run: Run, a: &[u8], number: u32, work: &mut [u8], set: &mut [u8], line: &mut [u8]) -> Run {
+fn step(run: Run, a: &[u8], number: u32, lent: &mut Lent<'_>, line: &mut Line<'_>) -> Run {
     if number == THE_END {
         return after_step(name_end(run, line), run.at);
     }
     let end = part_end(run.at, number as usize, a.len());
-    after_step(feed_chunk(run, front(a, end), work, set, line), end)
+    after_step(feed_chunk(run, front(a, end), lent, line), end)
 }
 
 // Takes all steps of B.
-fn drive(run: Run, a: &[u8], b: &[u8], work: &mut [u8], set: &mut [u8], line: &mut [u8]) -> Run {
-    let count = b.len() / 4;
+fn drive(run: Run, a: &[u8], b: &[u8], lent: &mut Lent<'_>, line: &mut Line<'_>) -> Run {
     let mut here = run;
-    let mut i: usize = 0;
-    while i < count {
-        here = step(here, a, u32_at(b, 4 * i), work, set, line);
-        i += 1;
+    for number in b.chunks_exact(4) {
+        here = step(here, a, u32_at(number, 0), lent, line);
     }
     here
 }
 
 // ---- the line
 
-// `ok ANSWERS STATES LEN HEX` of a reader that was made.
-fn read_file(
-    asked: Asked,
-    a: &[u8],
-    b: &[u8],
-    work: &mut [u8],
-    set: &mut [u8],
-    line: &mut [u8],
-) -> Line {
-    let notes = probe_binlog_line::begin(line);
-    let run = drive(
-        Run {
-            asked,
-            at: 0,
-            notes,
-        },
-        a,
-        b,
-        work,
-        set,
-        line,
-    );
-    let heard = heard_last(run);
-    let noted = run.notes;
-    Line {
-        end: probe_binlog_line::end(noted, set, heard.set_len, line),
-        told: noted.told,
-    }
-}
-
-// Puts the line that a reader of the library's or of the archive's comes to, or the refusal of one that wasn't made. It goes on from the set
-// C; every other byte that it is lent is the mark before.
-fn answer_by(archive: bool, number: u64, a: &[u8], b: &[u8], c: &[u8], line: &mut [u8]) -> Line {
-    let asked = asked::begin(archive, c, number % 2 == 1);
-    let made = asked.heard;
-    if made.refusal != 0 {
-        let end = answers::refused(line, made.refusal, made.len != 0);
-        return Line { end, told: 0 };
-    }
-    let mut work = [MARK; WORK];
-    let mut set = [MARK; LONGEST_SET];
-    push_text(&mut set, 0, c);
-    read_file(asked, a, b, &mut work, &mut set, line)
-}
-
-// Whether both lines are the same, and what was told beside them.
-fn is_same(line: &[u8], said: Line, twin: &[u8], by_archive: Line) -> bool {
-    let text = front(line, said.end);
-    let same = is_suffix(text, 0, front(twin, by_archive.end));
-    same & (said.told == by_archive.told)
-}
-
-// An odd number says that checksums end the events.
-pub fn answer(
+// Puts the line that a reader of the library's or of the archive's comes to, or the refusal of one that wasn't made, and tells the sum of what
+// was told beside it. The reader goes on from the set C; every other byte that it is lent is the mark before.
+fn answer_by(
+    archive: bool,
     number: u64,
     a: &[u8],
     b: &[u8],
     c: &[u8],
-    twin: &mut [u8],
-    line: &mut [u8],
+    line: &mut Line<'_>,
 ) -> usize {
-    let said = answer_by(false, number, a, b, c, line);
-    let by_archive = answer_by(true, number, a, b, c, twin);
-    let same = is_same(line, said, twin, by_archive);
-    push_text_if(line, said.end, !same, b" abi")
+    let asked = asked::begin(archive, c, number % 2 == 1);
+    let made = asked.heard;
+    if made.refusal != 0 {
+        answers::refused_number(line, made.refusal);
+        line.text_if(made.len != 0, b" nonzero");
+        return 0;
+    }
+    let mut work = [MARK; WORK];
+    let mut set = [MARK; LONGEST_SET];
+    let _ = write_bytes(c, &mut set);
+    let notes = probe_binlog_line::begin(line);
+    let begun = Run {
+        asked,
+        at: 0,
+        notes,
+    };
+    let mut lent = Lent {
+        work: &mut work,
+        set: &mut set,
+    };
+    let run = drive(begun, a, b, &mut lent, line);
+    probe_binlog_line::end(run.notes, &set, run.asked.heard.set_len, line);
+    run.notes.told
+}
+
+// An odd number says that checksums end the events.
+pub fn answer(number: u64, a: &[u8], b: &[u8], c: &[u8], twin: &mut [u8], line: &mut Line<'_>) {
+    let told = answer_by(false, number, a, b, c, line);
+    let mut other = Line::new(twin);
+    let told_by_archive = answer_by(true, number, a, b, c, &mut other);
+    let same = (line.so_far() == other.so_far()) & (told == told_by_archive);
+    line.text_if(!same, b" abi");
 }

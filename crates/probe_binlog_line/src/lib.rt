@@ -3,11 +3,10 @@
 
 use misc::refusal::NO_ROOM;
 use probe_lines::answers;
-use probe_lines::line::{push_byte, push_decimal, push_text, push_text_if};
-use probe_lines::parts::front;
+use probe_lines::line::Line;
 use std::num::wrapping_add_usize;
 
-// The archive's kinds of answers; 0 is a refusal.
+// The archive's kinds of answers; 0 is a refusal. They are numbers here too, since what the library says is held against the archive's.
 pub const TAKEN: u8 = 1;
 
 pub const ALREADY_THERE: u8 = 2;
@@ -20,8 +19,8 @@ pub const MORE_WANTED: u8 = 5;
 
 pub const ENDED: u8 = 6;
 
-// What a call said: the refusal, 0 for none; the kind of the answer; the event's type; the length of its body, or the one that a refusal
-// names; how many bytes of the chunk were used; and the length of the set.
+// What a call said, as the archive's numbers: the refusal, 0 for none; the kind of the answer; the event's type; the length of its body, or
+// the one that a refusal names; how many bytes of the chunk were used; and the length of the set.
 #[derive(Clone, Copy)]
 pub struct Heard {
     pub refusal: u8,
@@ -32,25 +31,29 @@ pub struct Heard {
     pub set_len: usize,
 }
 
+// The state of a file: it goes on, it ended well, or it was refused with a number.
+#[derive(Clone, Copy, PartialEq, Eq)]
+enum State {
+    On,
+    Ended,
+    Refused(u8),
+}
+
 const STATES_ROOM: usize = 100;
 
-// The state of a file that ended well; no refusal has this number.
-const ENDED_WELL: u8 = 255;
-
-// The front of the bytes, up to the end, is the states' text.
+// The text of states: the front of the bytes, up to the end. (A `Line` lends its bytes, and this is handed on by value.)
 #[derive(Clone, Copy)]
-pub struct States {
+struct States {
     bytes: [u8; STATES_ROOM],
     end: usize,
 }
 
-// What is noted of a run: where the events' letters on the line begin and end; the last state, and the text of all states; the sum of all
-// types and lengths that were told; and whether a refusal other than 13 named a length.
+// What is noted of a run: where the events' letters begin on the line; the last state, and the text of all states; the sum of all types and
+// lengths that were told; and whether a refusal other than 13 named a length.
 #[derive(Clone, Copy)]
 pub struct Notes {
     letters_at: usize,
-    letters_end: usize,
-    state: u8,
+    state: State,
     states: States,
     pub told: usize,
     nonzero: bool,
@@ -58,23 +61,15 @@ pub struct Notes {
 
 // ---- the letters, one for each event
 
-// The letter of an event's answer, 0 for an answer of another kind.
-fn letter_of(kind: u8) -> u8 {
+// The letter of an event's answer; an answer of another kind has none.
+fn letter_of(kind: u8) -> Option<u8> {
     match kind {
-        TAKEN => b't',
-        ALREADY_THERE => b'p',
-        NO_ID => b'n',
-        JOINED => b'j',
-        _ => 0,
+        TAKEN => Some(b't'),
+        ALREADY_THERE => Some(b'p'),
+        NO_ID => Some(b'n'),
+        JOINED => Some(b'j'),
+        _ => None,
     }
-}
-
-fn push_letter(line: &mut [u8], at: usize, kind: u8) -> usize {
-    let letter = letter_of(kind);
-    if letter == 0 {
-        return at;
-    }
-    push_byte(line, at, letter)
 }
 
 fn nonzero(heard: Heard) -> bool {
@@ -82,10 +77,12 @@ fn nonzero(heard: Heard) -> bool {
 }
 
 // The notes after a call.
-pub fn with_call(notes: Notes, heard: Heard, line: &mut [u8]) -> Notes {
+pub fn with_call(notes: Notes, heard: Heard, line: &mut Line<'_>) -> Notes {
+    if let Some(letter) = letter_of(heard.kind) {
+        line.byte(letter);
+    }
     let told = wrapping_add_usize(heard.event_type as usize, heard.len);
     let mut after = notes;
-    after.letters_end = push_letter(line, notes.letters_end, heard.kind);
     after.told = wrapping_add_usize(notes.told, told);
     after.nonzero = notes.nonzero | nonzero(heard);
     after
@@ -93,23 +90,42 @@ pub fn with_call(notes: Notes, heard: Heard, line: &mut [u8]) -> Notes {
 
 // ---- the states, one for each step
 
-fn state_of(heard: Heard) -> u8 {
+fn state_of(heard: Heard) -> State {
     if heard.kind == ENDED {
-        return ENDED_WELL;
+        return State::Ended;
     }
-    heard.refusal
+    if heard.refusal == 0 {
+        return State::On;
+    }
+    State::Refused(heard.refusal)
 }
 
-// The states with one more behind them.
-fn with_next(states: States, state: u8) -> States {
-    let mut bytes = states.bytes;
-    let name_at = push_byte(&mut bytes, states.end, b',');
-    if state == ENDED_WELL {
-        let end = push_byte(&mut bytes, name_at, b'e');
-        return States { bytes, end };
+impl States {
+    // The state before the first step.
+    fn first() -> States {
+        let mut bytes = [0u8; STATES_ROOM];
+        bytes[0] = b'0';
+        States { bytes, end: 1 }
     }
-    let end = push_decimal(&mut bytes, name_at, state as u64);
-    States { bytes, end }
+
+    // With one more behind them.
+    fn and(self, state: State) -> States {
+        let mut bytes = [0u8; STATES_ROOM];
+        let mut text = Line::new(&mut bytes);
+        text.text(self.text());
+        text.byte(b',');
+        match state {
+            State::On => text.byte(b'0'),
+            State::Ended => text.byte(b'e'),
+            State::Refused(number) => text.decimal(number as u64),
+        }
+        let end = text.len();
+        States { bytes, end }
+    }
+
+    fn text(&self) -> &[u8] {
+        probe_lines::parts::front(&self.bytes, self.end)
+    }
 }
 
 // The notes after a step, with its state, unless that is the last again.
@@ -118,49 +134,32 @@ pub fn with_step(notes: Notes, heard: Heard) -> Notes {
     if state == notes.state {
         return notes;
     }
-    let states = with_next(notes.states, state);
     let mut after = notes;
     after.state = state;
-    after.states = states;
+    after.states = notes.states.and(state);
     after
 }
 
 // ---- the line
 
-// The states before the first step.
-fn no_states() -> States {
-    let mut bytes = [0u8; STATES_ROOM];
-    let end = push_byte(&mut bytes, 0, b'0');
-    States { bytes, end }
-}
-
 // The notes before the first step. The line begins with `ok `.
-pub fn begin(line: &mut [u8]) -> Notes {
-    let letters_at = answers::ok(line);
+pub fn begin(line: &mut Line<'_>) -> Notes {
+    answers::ok(line);
     Notes {
-        letters_at,
-        letters_end: letters_at,
-        state: 0,
-        states: no_states(),
+        letters_at: line.len(),
+        state: State::On,
+        states: States::first(),
         told: 0,
         nonzero: false,
     }
 }
 
-// A space and the states.
-fn push_states(line: &mut [u8], at: usize, states: States) -> usize {
-    let bytes = states.bytes;
-    let states_at = push_byte(line, at, b' ');
-    push_text(line, states_at, front(&bytes, states.end))
-}
-
 // ` STATES LEN HEX` behind the letters, or `-` for none of them. The set of this length stands at the front of `set`.
-pub fn end(notes: Notes, set: &[u8], len: usize, line: &mut [u8]) -> usize {
-    let letters_end = notes.letters_end;
-    let none = letters_end == notes.letters_at;
-    let answers_end = push_text_if(line, letters_end, none, b"-");
-    let states_end = push_states(line, answers_end, notes.states);
-    let len_at = push_byte(line, states_end, b' ');
-    let set_end = answers::push_output(line, len_at, set, len);
-    push_text_if(line, set_end, notes.nonzero, b" nonzero")
+pub fn end(notes: Notes, set: &[u8], len: usize, line: &mut Line<'_>) {
+    line.text_if(line.len() == notes.letters_at, b"-");
+    line.byte(b' ');
+    line.text(notes.states.text());
+    line.byte(b' ');
+    answers::push_output(line, set, len);
+    line.text_if(notes.nonzero, b" nonzero");
 }

@@ -1,59 +1,36 @@
 // Calls 1 to 8 of the test program: the integers of crate misc.
 #![tactic(auto)]
 
+use misc::lenenc::{lenenc_int_len, read_lenenc_int, write_lenenc_int};
+use misc::refusal::WriteError;
+use misc::signed::{read_varlen_int, write_varlen_int};
+use misc::varlen::{read_varlen_uint, varlen_uint_size, write_varlen_uint};
+use probe_lines::line::Line;
 use probe_lines::request::Request;
 use probe_lines::{answers, checks, twos};
 
-fn uint(a: &[u8], line: &mut [u8]) -> usize {
-    answers::read_uint(line, misc::varlen::read_varlen_uint(a, 0))
-}
-
-fn putuint(number: u64, out: &mut [u8], line: &mut [u8]) -> usize {
-    checks::fill(out);
-    let wrote = misc::varlen::write_varlen_uint(number, out);
-    answers::wrote(line, out, wrote)
-}
-
-fn int(a: &[u8], line: &mut [u8]) -> usize {
-    answers::read_int(line, misc::signed::read_varlen_int(a, 0))
-}
-
-fn putint(number: u64, out: &mut [u8], line: &mut [u8]) -> usize {
-    checks::fill(out);
-    let wrote = misc::signed::write_varlen_int(twos::from_bits(number), out);
-    answers::wrote(line, out, wrote)
-}
-
-fn lenenc(a: &[u8], line: &mut [u8]) -> usize {
-    answers::read_uint(line, misc::lenenc::read_lenenc_int(a, 0))
-}
-
-fn putlenenc(number: u64, out: &mut [u8], line: &mut [u8]) -> usize {
-    checks::fill(out);
-    let wrote = misc::lenenc::write_lenenc_int(number, out);
-    answers::wrote(line, out, wrote)
-}
-
-fn uintsize(number: u64, line: &mut [u8]) -> usize {
-    answers::size(line, misc::varlen::varlen_uint_size(number))
-}
-
-fn lenencsize(number: u64, line: &mut [u8]) -> usize {
-    answers::size(line, misc::lenenc::lenenc_int_len(number))
-}
-
-pub fn answer(request: Request, a: &[u8], out: &mut [u8], line: &mut [u8]) -> usize {
-    let number = request.number;
-    let call = request.call;
+fn put(call: u8, number: u64, out: &mut [u8]) -> Result<usize, WriteError> {
     match call {
-        1 => uint(a, line),
-        2 => putuint(number, out, line),
-        3 => int(a, line),
-        4 => putint(number, out, line),
-        5 => lenenc(a, line),
-        6 => putlenenc(number, out, line),
-        7 => uintsize(number, line),
-        8 => lenencsize(number, line),
+        2 => write_varlen_uint(number, out),
+        4 => write_varlen_int(twos::from_bits(number), out),
+        _ => write_lenenc_int(number, out),
+    }
+}
+
+fn written(request: Request, out: &mut [u8], line: &mut Line<'_>) {
+    checks::fill(out);
+    let wrote = put(request.call, request.number, out);
+    answers::wrote(line, out, wrote);
+}
+
+pub fn answer(request: Request, a: &[u8], out: &mut [u8], line: &mut Line<'_>) {
+    match request.call {
+        1 => answers::read_uint(line, read_varlen_uint(a, 0)),
+        3 => answers::read_int(line, read_varlen_int(a, 0)),
+        5 => answers::read_uint(line, read_lenenc_int(a, 0)),
+        2 | 4 | 6 => written(request, out, line),
+        7 => answers::size(line, varlen_uint_size(request.number)),
+        8 => answers::size(line, lenenc_int_len(request.number)),
         _ => answers::none(line),
     }
 }

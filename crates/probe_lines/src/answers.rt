@@ -1,100 +1,100 @@
 // The lines that several calls have: `ok ..` or `refused N`, with the words for what is wrong at the end.
 use crate::checks;
-use crate::line::{push_byte, push_decimal, push_hex, push_signed, push_text, push_text_if};
-use misc::refusal::NO_ROOM;
-use misc::{ReadInt, ReadUint, Wrote};
+use crate::line::Line;
+use crate::parts::front;
+use misc::Read;
+use misc::refusal::{Refusal, WriteError};
 
-pub fn none(line: &mut [u8]) -> usize {
-    push_text(line, 0, b"none")
+pub fn none(line: &mut Line<'_>) {
+    line.text(b"none");
 }
 
 // The beginning of an answer.
-pub fn ok(line: &mut [u8]) -> usize {
-    push_text(line, 0, b"ok ")
+pub fn ok(line: &mut Line<'_>) {
+    line.text(b"ok ");
 }
 
-// `nonzero` says that the refusal carries a part that isn't zero.
-pub fn refused(line: &mut [u8], refusal: u8, nonzero: bool) -> usize {
-    let number_at = push_text(line, 0, b"refused ");
-    let end = push_decimal(line, number_at, refusal as u64);
-    push_text_if(line, end, nonzero, b" nonzero")
+pub fn refused_number(line: &mut Line<'_>, number: u8) {
+    line.text(b"refused ");
+    line.decimal(number as u64);
 }
 
-// A space and a number.
-pub fn push_next(line: &mut [u8], at: usize, n: usize) -> usize {
-    let number_at = push_byte(line, at, b' ');
-    push_decimal(line, number_at, n as u64)
+pub fn refused(line: &mut Line<'_>, refusal: Refusal) {
+    refused_number(line, refusal.number());
 }
 
 // `ok LEN`
-pub fn size(line: &mut [u8], len: usize) -> usize {
-    let at = ok(line);
-    push_decimal(line, at, len as u64)
+pub fn size(line: &mut Line<'_>, len: usize) {
+    ok(line);
+    line.decimal(len as u64);
 }
 
-pub fn read_uint(line: &mut [u8], read: ReadUint) -> usize {
-    let refusal = read.refusal;
-    let value = read.value;
-    let next = read.next;
-    if refusal != 0 {
-        return refused(line, refusal, value != 0 || next != 0);
+// `ok yes` or `ok no`
+pub fn told(line: &mut Line<'_>, said: Result<bool, Refusal>) {
+    match said {
+        Ok(true) => line.text(b"ok yes"),
+        Ok(false) => line.text(b"ok no"),
+        Err(refusal) => refused(line, refusal),
     }
-    let value_at = ok(line);
-    let end = push_decimal(line, value_at, value);
-    push_next(line, end, next)
 }
 
-pub fn read_int(line: &mut [u8], read: ReadInt) -> usize {
-    let refusal = read.refusal;
-    let value = read.value;
-    let next = read.next;
-    if refusal != 0 {
-        return refused(line, refusal, value != 0 || next != 0);
+pub fn read_uint(line: &mut Line<'_>, read: Result<Read<u64>, Refusal>) {
+    match read {
+        Ok(item) => {
+            ok(line);
+            line.decimal(item.value);
+            line.number(item.next as u64);
+        }
+        Err(refusal) => refused(line, refusal),
     }
-    let value_at = ok(line);
-    let end = push_signed(line, value_at, value);
-    push_next(line, end, next)
 }
 
-// A refusal of a call with an output.
-fn refused_write(line: &mut [u8], wrote: Wrote) -> usize {
-    let refusal = wrote.refusal;
-    let len = wrote.len;
-    if refusal == NO_ROOM {
-        let end = refused(line, refusal, false);
-        return push_next(line, end, len);
+pub fn read_int(line: &mut Line<'_>, read: Result<Read<i64>, Refusal>) {
+    match read {
+        Ok(item) => {
+            ok(line);
+            line.signed(item.value);
+            line.number(item.next as u64);
+        }
+        Err(refusal) => refused(line, refusal),
     }
-    refused(line, refusal, len != 0)
 }
 
-// The first `len` bytes of the output as hex.
-pub fn push_front(line: &mut [u8], at: usize, out: &[u8], len: usize) -> usize {
-    if out.len() < len {
-        return at;
+// A refusal of a call with an output, which was filled before the call.
+pub fn unwritten(line: &mut Line<'_>, error: WriteError, out: &[u8]) {
+    refused_number(line, error.number());
+    if let WriteError::NoRoom(needed) = error {
+        line.number(needed as u64);
     }
-    push_hex(line, at, &out[..len])
+    push_dirty(line, out, 0);
 }
 
-// `LEN HEX` of the first `len` bytes of the output. A length beyond the output is a wrong answer, and has no HEX.
-pub fn push_output(line: &mut [u8], at: usize, out: &[u8], len: usize) -> usize {
-    let end = push_decimal(line, at, len as u64);
-    let hex_at = push_byte(line, end, b' ');
-    push_front(line, hex_at, out, len)
+// The first `len` bytes of the output as hex; a length beyond the output is a wrong answer, and has none.
+pub fn push_front(line: &mut Line<'_>, out: &[u8], len: usize) {
+    if len <= out.len() {
+        line.hex(front(out, len));
+    }
 }
 
-pub fn push_dirty(line: &mut [u8], at: usize, out: &[u8], from: usize) -> usize {
-    push_text_if(line, at, checks::dirty(out, from), b" dirty")
+// `LEN HEX` of the first `len` bytes of the output.
+pub fn push_output(line: &mut Line<'_>, out: &[u8], len: usize) {
+    line.decimal(len as u64);
+    line.byte(b' ');
+    push_front(line, out, len);
+}
+
+pub fn push_dirty(line: &mut Line<'_>, out: &[u8], from: usize) {
+    line.text_if(checks::dirty(out, from), b" dirty");
 }
 
 // The answer of a call with an output, which was filled before the call.
-pub fn wrote(line: &mut [u8], out: &[u8], wrote: Wrote) -> usize {
-    let refusal = wrote.refusal;
-    let len = wrote.len;
-    if refusal != 0 {
-        let end = refused_write(line, wrote);
-        return push_dirty(line, end, out, 0);
+pub fn wrote(line: &mut Line<'_>, out: &[u8], wrote: Result<usize, WriteError>) {
+    match wrote {
+        Ok(len) => {
+            ok(line);
+            push_output(line, out, len);
+            push_dirty(line, out, len);
+        }
+        Err(error) => unwritten(line, error, out),
     }
-    let at = ok(line);
-    let end = push_output(line, at, out, len);
-    push_dirty(line, end, out, len)
 }

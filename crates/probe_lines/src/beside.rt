@@ -1,10 +1,27 @@
 // The archive's answers beside the library's. Every number that the archive hands out is the mark's before, or this one.
-use crate::checks::is_suffix;
-use misc::Wrote;
+use misc::refusal::{Refusal, WriteError};
 
 pub const UNSET: usize = 0xa5a5_a5a5;
 
-// Whether the archive's answer or its output is another than the library's.
-pub fn differs(wrote: Wrote, refusal: u8, len: usize, out: &[u8], twin: &[u8]) -> bool {
-    (wrote.refusal != refusal) | (wrote.len != len) | !is_suffix(out, 0, twin)
+// The number that the archive should give for an answer: that of its refusal, 0 for none.
+pub fn number_of<T: Copy>(said: Result<T, Refusal>) -> u8 {
+    match said {
+        Ok(_) => 0,
+        Err(refusal) => refusal.number(),
+    }
+}
+
+// Whether the archive's answer, a refusal's number and a length, or its output is another than the library's.
+pub fn differs(
+    wrote: Result<usize, WriteError>,
+    refusal: u8,
+    len: usize,
+    out: &[u8],
+    twin: &[u8],
+) -> bool {
+    let wanted = match wrote {
+        Ok(written) => (0, written),
+        Err(error) => (error.number(), error.needed()),
+    };
+    (wanted != (refusal, len)) | (out != twin)
 }

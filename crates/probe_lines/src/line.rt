@@ -1,79 +1,94 @@
-// The line that is being built. Each `push` puts its text at `at` and returns the place after it. What finds no room is
-// left out: the buffer holds the longest line.
-ghost use Rattle.std.specs.Prelude.{◌<◌};
-
+// The line that is being built, or other bytes: each function puts its text behind what stands there. What finds no room is left out: the
+// buffer holds the longest line.
+use crate::parts::front;
 use crate::twos;
 
-pub fn push_byte(line: &mut [u8], at: usize, b: u8) -> usize {
-    if at < line.len() {
-        line[at] = b;
-        return at + 1;
+#[derive(Drop)]
+pub struct Line<'a> {
+    room: &'a mut [u8],
+    end: usize,
+}
+
+impl<'a> Line<'a> {
+    pub fn new(room: &'a mut [u8]) -> Line<'a> {
+        Line { room, end: 0 }
     }
-    at
-}
 
-pub fn push_text(line: &mut [u8], at: usize, text: &[u8]) -> usize {
-    let mut end = at;
-    let mut i = 0;
-    while i < text.len() {
-        end = push_byte(line, end, text[i]);
-        i += 1;
+    pub fn byte(&mut self, b: u8) {
+        if self.end < self.room.len() {
+            self.room[self.end] = b;
+            self.end += 1;
+        }
     }
-    end
-}
 
-// The text, where the test came out true.
-pub fn push_text_if(line: &mut [u8], at: usize, test: bool, text: &[u8]) -> usize {
-    if test {
-        return push_text(line, at, text);
+    pub fn text(&mut self, text: &[u8]) {
+        for b in text {
+            self.byte(*b);
+        }
     }
-    at
-}
 
-pub fn push_decimal(line: &mut [u8], at: usize, n: u64) -> usize {
-    let mut digits = [0u8; 20];
-    let count = io::decimal(n, &mut digits);
-    push_text(line, at, &digits[..count])
-}
-
-pub fn push_signed(line: &mut [u8], at: usize, v: i64) -> usize {
-    let size = twos::magnitude(v);
-    if v < 0 {
-        let digits_at = push_byte(line, at, b'-');
-        return push_decimal(line, digits_at, size);
+    // The text, where the test came out true.
+    pub fn text_if(&mut self, test: bool, text: &[u8]) {
+        if test {
+            self.text(text);
+        }
     }
-    push_decimal(line, at, size)
-}
 
-fn hex_digit(d: u8) -> u8
-    requires { d < 16 }
-{
-    if d < 10 {
-        return b'0' + d;
+    pub fn decimal(&mut self, n: u64) {
+        let mut digits = [0u8; 20];
+        let count = io::decimal(n, &mut digits);
+        self.text(&digits[..count]);
     }
-    b'a' + (d - 10)
-}
 
-fn push_hex_byte(line: &mut [u8], at: usize, b: u8) -> usize {
-    let low_at = push_byte(line, at, hex_digit(b / 16));
-    push_byte(line, low_at, hex_digit(b % 16))
-}
-
-pub fn push_hex(line: &mut [u8], at: usize, bytes: &[u8]) -> usize {
-    let mut end = at;
-    let mut i = 0;
-    while i < bytes.len() {
-        end = push_hex_byte(line, end, bytes[i]);
-        i += 1;
+    // A space and a number.
+    pub fn number(&mut self, n: u64) {
+        self.byte(b' ');
+        self.decimal(n);
     }
-    end
-}
 
-// Ends the line at `at` and writes it to standard output.
-pub fn write(line: &mut [u8], at: usize) -> bool {
-    let end = push_byte(line, at, b'\n');
-    if line.len() < end {
-        return false;
+    pub fn signed(&mut self, v: i64) {
+        if v < 0 {
+            self.byte(b'-');
+        }
+        self.decimal(twos::magnitude(v));
     }
-    io::write_all(1, &line[..end])
+
+    pub fn hex(&mut self, bytes: &[u8]) {
+        const DIGITS: [u8; 16] = *b"0123456789abcdef";
+        for b in bytes {
+            self.byte(DIGITS[(*b / 16) as usize]);
+            self.byte(DIGITS[(*b % 16) as usize]);
+        }
+    }
+
+    // A space and the digits.
+    pub fn hex_word(&mut self, bytes: &[u8]) {
+        self.byte(b' ');
+        self.hex(bytes);
+    }
+
+    // How many bytes stand there.
+    pub fn len(&self) -> usize {
+        self.end
+    }
+
+    // Takes all of them back.
+    pub fn clear(&mut self) {
+        self.end = 0;
+    }
+
+    // The bytes that stand there.
+    pub fn so_far(&self) -> &[u8] {
+        front(self.room, self.end)
+    }
+
+    // Ends the line and writes it to standard output; false where it has no room for its end.
+    pub fn write(&mut self) -> bool {
+        let len = self.end;
+        self.byte(b'\n');
+        if self.end == len {
+            return false;
+        }
+        io::write_all(1, self.so_far())
+    }
 }

@@ -2,34 +2,28 @@
 ghost use Rattle.std.specs.Prelude.{◌-◌, ◌≡◌};
 
 pub fn byte_at(s: &[u8], at: usize) -> u8 {
-    if at < s.len() {
-        return s[at];
-    }
-    0
+    s.get(at).copied().unwrap_or(0)
 }
 
 pub fn u32_at(s: &[u8], at: usize) -> u32 {
-    misc::le::read_u32_le(s, at).value as u32
+    match misc::le::read_u32_le(s, at) {
+        Ok(read) => read.value as u32,
+        Err(_) => 0,
+    }
 }
 
 pub fn u64_at(s: &[u8], at: usize) -> u64 {
-    misc::le::read_u64_le(s, at).value
+    misc::le::number_at(s, at)
 }
 
 // The bytes from a place on.
 pub fn from_on(s: &[u8], at: usize) -> &[u8] {
-    if s.len() < at {
-        return &s[..0];
-    }
-    &s[at..]
+    s.get(at..).unwrap_or(&[])
 }
 
 // So many bytes of the front, or all where there are fewer.
 pub fn front(s: &[u8], len: usize) -> &[u8] {
-    if s.len() < len {
-        return s;
-    }
-    &s[..len]
+    s.get(..len).unwrap_or(s)
 }
 
 // Where a part of so many bytes ends; at the end of the whole if that comes first.

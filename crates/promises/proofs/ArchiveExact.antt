@@ -6,9 +6,10 @@ use mathlib.Core.List.{List}
 use lib.Dec.{eqb, leb}
 use lib.ListN.{length}
 use borrow.Author.Tests.{eqb-true, eqb-false, eq-eqb, ne_eqb}
-use Rattle.misc.specs.Refusal.{Refusal, number, not_writable}
-use Rattle.misc.specs.Parse.{Bytes, Parse, refuse, parsed}
-use Rattle.misc.specs.Output.{refused, bytes, answer_of}
+use Rattle.misc.specs.declared.refusal.Refusal.{Refusal}
+use Rattle.misc.specs.Refusal.{number, not_writable}
+use Rattle.misc.specs.Parse.{Bytes, Parse, refuse, parsed, refusal_in}
+use Rattle.misc.specs.Output.{refused, bytes, answer_of, written_number, written_len}
 use Rattle.packets.proofs.Tests.{split}
 use Rattle.previous_gtids_event.specs.Answers.{entry_read}
 use Rattle.gtid_event.specs.declared.GtidEvent.{GtidEvent}
@@ -24,14 +25,14 @@ use Rattle.abi.proofs.FlatLaws.{length-flat}
 use Rattle.promises.specs.Meaning.{RecordLaid}
 use Rattle.promises.specs.Faults.{EventFault}
 use Rattle.promises.specs.PlainFaults.{OfBody, HeadedFault, WriteFault}
-use Rattle.promises.specs.Exact.{RefusesExactly, WritesExactly, FlatFault, ArchiveExact}
+use Rattle.promises.specs.Exact.{RefusesExactly, NumbersExactly, FlatFault, ArchiveExact}
 use Rattle.promises.proofs.Forces.{WriterRefuses}
-use Rattle.promises.proofs.Exactly.{writes-exactly}
+use Rattle.promises.proofs.Exactly.{answers-exactly, writes-exactly}
 use Rattle.promises.proofs.Demand2.{laid-record-read, records-mean}
 use Rattle.promises.proofs.EventExact.{event-refused, event-faulty}
 use Rattle.promises.proofs.WritingExact.{write-given, write-forced, write-writes, write-written}
 use Rattle.promises.proofs.SetsExact.{apart}
-use Rattle.promises.proofs.BodiesExact.{entry-good, headed-exact}
+use Rattle.promises.proofs.BodiesExact.{headed-exact}
 
 -- ---- a record that is read
 
@@ -63,8 +64,8 @@ module _ (type : ℕ) (body out : List ℕ) (are : Bytes body) where
   read-written bs (x, used, laid, is) = rw (laid-record-read type body x used laid, is)
 
   -- where it refuses, it answers 0 or the needed length in the place of the bytes used
-  used-is : (p : Parse GtidEvent) → gtid type body ≡ p → ((answer_of out (read_output p)).refusal ≡ 0 → ⊥)
-      → read_used p (length out) ≡ (answer_of out (read_output p)).len
+  used-is : (p : Parse GtidEvent) → gtid type body ≡ p → (written_number (answer_of out (read_output p)) ≡ 0 → ⊥)
+      → read_used p (length out) ≡ written_len (answer_of out (read_output p))
   unfolding answer_of
   used-is (refuse r) read some = refl
   used-is (parsed e used) read some =
@@ -74,12 +75,12 @@ module _ (type : ℕ) (body out : List ℕ) (are : Bytes body) where
       (λ room. absurd (some (rw (size, room))))
       (λ over. rw (size, over))
 
-  read-exact : WritesExactly (record { refusal = (answer_of out (read_output (gtid type body))).refusal; len = read_used (gtid type body) (length out) })
+  read-exact : NumbersExactly (written_number (answer_of out (read_output (gtid type body)))) (read_used (gtid type body) (length out))
       (WriteFault (EventFault type body) Flat (length out))
   read-exact n len =
       let both = writes-exactly (read_output (gtid type body)) out (EventFault type body) Flat read-given read-forced read-writes read-written n len in
-      let used : ((answer_of out (read_output (gtid type body))).refusal ≡ 0 → ⊥)
-      → read_used (gtid type body) (length out) ≡ (answer_of out (read_output (gtid type body))).len =
+      let used : (written_number (answer_of out (read_output (gtid type body))) ≡ 0 → ⊥)
+      → read_used (gtid type body) (length out) ≡ written_len (answer_of out (read_output (gtid type body))) =
       used-is (gtid type body) refl in (
         λ (is, long, some). both.0 (is, sym (used (λ zero. some (sym is ∙ zero))) ∙ long, some),
         λ fault.
@@ -133,9 +134,9 @@ module _ (fields : List ℕ) where
 
 -- ---- an entry at a place
 
-read-entry-exact : (body : List ℕ) (at : ℕ) → Bytes body → RefusesExactly (entry_read (entry_in body at)).refusal (OfBody body (HeadedFault 1 at body))
+read-entry-exact : (body : List ℕ) (at : ℕ) → Bytes body → RefusesExactly (refusal_in (entry_read (entry_in body at))) (OfBody body (HeadedFault 1 at body))
 unfolding entry_in
-read-entry-exact body at are = headed-exact 1 body at are (λ p. (entry_read p).refusal) (λ r. refl) entry-good
+read-entry-exact body at are = answers-exactly _ _ _ (headed-exact 1 body at are)
 
 pub archive-exact : ArchiveExact
 archive-exact = record {

@@ -8,19 +8,19 @@ use lib.Dec.{eqb, leb}
 use lib.ListN.{length, drop, length-append, length-drop}
 use borrow.Author.Tests.{leb-true, leb-false, le-leb, lt-leb, eqb-false, ne_eqb}
 use Rattle.misc.specs.Pick.{pick}
-use Rattle.misc.specs.Refusal.{Refusal, number, ended, too_long}
-use Rattle.misc.specs.Parse.{Bytes, Parse, refuse, parsed, and_then}
+use Rattle.misc.specs.declared.refusal.Refusal.{Refusal}
+use Rattle.misc.specs.Refusal.{number, ended, too_long}
+use Rattle.misc.specs.Parse.{Bytes, Parse, refuse, parsed, and_then, refusal_of}
 use Rattle.misc.specs.Body.{body_limit, of_body}
 use Rattle.misc.specs.Le.{le_at}
 use Rattle.misc.specs.Output.{refused, bytes}
 use Rattle.misc.proofs.ParseLaws.{split, bytes-gone}
 use Rattle.misc.proofs.Bounds.{front_bytes}
 use Rattle.misc.proofs.LeLaws.{le-here, le-gone}
-use Rattle.packets.specs.Gno.{Interval, interval}
+use Rattle.packets.specs.Gno.{interval}
 use Rattle.previous_gtids_event.specs.Entry.{Entry, entry}
 use Rattle.previous_gtids_event.specs.Previous.{key_at, head_at, interval_at, entry_at, says_tagged, previous}
 use Rattle.previous_gtids_event.specs.Rewrite.{body_bytes, rewritten}
-use Rattle.previous_gtids_event.specs.Answers.{previous_read, header_read, entry_read, interval_read}
 use Rattle.previous_gtids_event.proofs.Laying.{header-reads}
 use Rattle.previous_gtids_event.proofs.Accepting.{header-found}
 use Rattle.promises.specs.BodyFaults.{EntryFault, BodyFault}
@@ -29,7 +29,7 @@ use Rattle.promises.specs.SetFaults.{RewrittenAs}
 use Rattle.promises.specs.Exact.{RefusesExactly, BodiesExact}
 use Rattle.promises.proofs.Gives.{Gives, refuse-gives, parsed-gives, pick_gives, mapped-gives, le-gives, then-le-gives}
 use Rattle.promises.proofs.Forces.{Refuses, WriterRefuses, is-refused, same-refused}
-use Rattle.promises.proofs.Exactly.{reads-exactly, writes-exactly}
+use Rattle.promises.proofs.Exactly.{reads-exactly, answers-exactly, writes-exactly}
 use Rattle.promises.proofs.IntegersExact.{fixed-given, fixed-forced}
 use Rattle.promises.proofs.BodyFaults.{entry-fault, body-faults}
 use Rattle.promises.proofs.BodyForced.{entry-forced, body-forced}
@@ -48,10 +48,8 @@ module _ {A : Type 0} (body : List ℕ) (p : Parse A) (Fault : ℕ → Type 0) w
   of-body-forced forced n (OfBody.too_long long) = is-refused too_long (rw (lt-leb (length body) body_limit long))
   of-body-forced forced n (OfBody.in_part short fault) = same-refused (forced n fault) (λ r e. rw (le-leb (length body) body_limit short) e)
 
-  pub of-body-exact : (say : Parse A → ℕ) → ((r : Refusal) → say (refuse r) ≡ number r) → ((a : A) (next : ℕ) → say (parsed a next) ≡ 0) → Gives Fault p
-      → ((n : ℕ) → Fault n → Refuses p n) → RefusesExactly (say (of_body body p)) (OfBody body Fault)
-  of-body-exact say bad good gives forced =
-      reads-exactly say (OfBody body Fault) (of_body body p) bad good (of-body-given gives) (of-body-forced forced)
+  pub of-body-exact : Gives Fault p → ((n : ℕ) → Fault n → Refuses p n) → RefusesExactly (refusal_of (of_body body p)) (OfBody body Fault)
+  of-body-exact gives forced = reads-exactly (OfBody body Fault) (of_body body p) (of-body-given gives) (of-body-forced forced)
 
 -- an interval is 16 bytes
 module _ (s : List ℕ) (at : ℕ) where
@@ -67,9 +65,6 @@ module _ (s : List ℕ) (at : ℕ) where
   interval-forced n (FixedFault.cut few) = split (at + 8) (length s)
       (λ there. is-refused ended (rw (le-here 8 s at there, le-gone 8 s (at + 8) (omega (arith, length-drop at s)))))
       (λ gone. is-refused ended (rw (le-gone 8 s at gone)))
-
-  interval-good : (i : Interval) (next : ℕ) → (interval_read (parsed i next)).refusal ≡ 0
-  interval-good (interval start end) next = refl
 
 -- fewer than 16 bytes have no tag
 few-cut : (tagged : Bool) (l : List ℕ) (n : ℕ) → length l < 16 → EntryFault tagged l n → n ≡ 1
@@ -97,9 +92,6 @@ module _ (s : List ℕ) (tagged : Bool) (at : ℕ) where
       let none : length (drop at s) < 16 = rw length-drop (omega arith) in
       (ended, entry_past past, sym (few-cut tagged (drop at s) n none fault)))
 
-pub entry-good : (e : Entry) (next : ℕ) → (entry_read (parsed e next)).refusal ≡ 0
-entry-good (entry k is) next = refl
-
 -- ---- an entry as the header says
 
 -- as it is read
@@ -122,9 +114,8 @@ module _ (left : ℕ) (s : List ℕ) (at : ℕ) (are : Bytes s) where
       header-reads s header rest says (front_bytes header rest (subst Bytes whole are)) (record { is = whole; inside = omega arith }) in
       same-refused (entry-place-forced s tagged at n fault) (λ r e. rw (read, ne_eqb left 0 some, is, e))
 
-  pub headed-exact : (say : Parse Entry → ℕ) → ((r : Refusal) → say (refuse r) ≡ number r) → ((e : Entry) (next : ℕ) → say (parsed e next) ≡ 0)
-      → RefusesExactly (say (of_body s (headed left s at))) (OfBody s (HeadedFault left at s))
-  headed-exact say bad good = of-body-exact s (headed left s at) (HeadedFault left at s) say bad good headed-given headed-forced
+  pub headed-exact : RefusesExactly (refusal_of (of_body s (headed left s at))) (OfBody s (HeadedFault left at s))
+  headed-exact = of-body-exact s (headed left s at) (HeadedFault left at s) headed-given headed-forced
 
 -- ---- a whole body
 
@@ -154,15 +145,13 @@ module _ (body : List ℕ) (are : Bytes body) where
 
 pub bodies-exact : BodiesExact
 bodies-exact = record {
-  read = λ body are. reads-exactly (λ p. (previous_read p).refusal) (BodyFault body) (previous body) (λ r. refl) (λ es used. refl) (body-given body are)
-      (body-forced body are);
-  header_of = λ body. of-body-exact body (le_at 8 body 0) (FixedFault 8 body) (λ p. (header_read p).refusal) (λ r. refl) (λ h next. refl)
-      (fixed-given 8 (omega arith) body 0) (fixed-forced 8 (omega arith) body 0);
-  entry_at = λ body at tagged are. of-body-exact body (entry_at tagged body at) (EntryFault tagged (drop at body)) (λ p. (entry_read p).refusal)
-      (λ r. refl) entry-good (entry-given body tagged at are) (entry-place-forced body tagged at);
-  interval_at = λ body first index. of-body-exact body (interval_at body (first + 16 * index)) (FixedFault 16 (drop (first + 16 * index) body))
-      (λ p. (interval_read p).refusal) (λ r. refl) (interval-good body (first + 16 * index)) (interval-given body (first + 16 * index))
-      (interval-forced body (first + 16 * index));
+  read = λ body are. answers-exactly _ _ _ (reads-exactly (BodyFault body) (previous body) (body-given body are) (body-forced body are));
+  header_of = λ body. answers-exactly _ _ _ (of-body-exact body (le_at 8 body 0) (FixedFault 8 body) (fixed-given 8 (omega arith) body 0)
+      (fixed-forced 8 (omega arith) body 0));
+  entry_at = λ body at tagged are. answers-exactly _ _ _ (of-body-exact body (entry_at tagged body at) (EntryFault tagged (drop at body))
+      (entry-given body tagged at are) (entry-place-forced body tagged at));
+  interval_at = λ body first index. answers-exactly _ _ _ (of-body-exact body (interval_at body (first + 16 * index))
+      (FixedFault 16 (drop (first + 16 * index) body)) (interval-given body (first + 16 * index)) (interval-forced body (first + 16 * index)));
   rewrite = λ body out are. writes-exactly (rewritten (previous body)) out (BodyFault body) (RewrittenAs body) (rewrite-given body are)
       (rewrite-forced body are)
       (rewrite-writes body are) (rewrite-written body are);

@@ -7,7 +7,8 @@ use native.Mathlib.Omega.{arith}
 use lib.Dec.{leb}
 use lib.ListN.{length, drop, length-drop}
 use borrow.Author.Tests.{leb-true, leb-false}
-use Rattle.misc.specs.Refusal.{Refusal, number, ended, bad_tag, too_long}
+use Rattle.misc.specs.declared.refusal.Refusal.{Refusal}
+use Rattle.misc.specs.Refusal.{number, ended, bad_tag, too_long}
 use Rattle.misc.specs.Parse.{Bytes, parsed, refuse, many, part, bytes_at}
 use Rattle.misc.specs.Body.{body_limit}
 use Rattle.misc.specs.Le.{le_at}

@@ -12,7 +12,7 @@ use Rattle.misc.specs.Output.{bytes}
 use Rattle.misc.proofs.Bounds.{zeros-bytes}
 use Rattle.misc.proofs.LeLaws.{length-le_bytes}
 use Rattle.packets.specs.Tag.{is_tag}
-use Rattle.gtid_event.specs.Event.{undefined_version, fresh, new_untagged, new_tagged, with_tag, set_number, set_typecode}
+use Rattle.gtid_event.specs.Event.{undefined_version, fresh, new_untagged, new_tagged, with_tag, set_tag, set_number, set_typecode}
 use Rattle.gtid_event.specs.declared.GtidEvent.{GtidEvent}
 use Rattle.gtid_event.proofs.BuiltLaws.{built}
 use Rattle.gtid_event_read.specs.Read.{gtid}
@@ -22,6 +22,7 @@ use Rattle.gtid_event_write.specs.Write.{event_bytes, event_output}
 use Rattle.gtid_event.specs.Fits.{Fits}
 use Rattle.gtid_event_laws.proofs.EventBack.{event-alone}
 use Rattle.gtid_sets.proofs.Bools.{or-false-parts}
+use Rattle.std.specs.Prelude.{Ok}
 use Rattle.promises.specs.UntaggedLayout.{PairLaid, PairIfLeft}
 use Rattle.promises.specs.TaggedLayout.{Sent, number, the_uuid, the_tag, sends, last_number}
 use Rattle.promises.specs.Building.{server_versions, Unversioned, KeepsVersions, Building}
@@ -103,21 +104,25 @@ module _ (sid : List ℕ) (gno : ℕ) where
 
 kept : KeepsVersions with_tag
 unfolding with_tag
-kept tag e is = rw is
+kept tag e is = (set_tag tag e, rw is, refl)
 
-new_tagged-absent : (sid tag : List ℕ) (gno : ℕ) → is_tag tag ≡ true → server_versions (new_tagged sid tag gno).event ≡ 999999 ∷ 999999 ∷ []
-unfolding new_tagged
-new_tagged-absent sid tag gno is = kept tag (fresh sid gno 0 undefined_version) is
+new-tagged : (sid tag : List ℕ) (gno : ℕ) → is_tag tag ≡ true → new_tagged sid tag gno ≡ Ok (set_tag tag (fresh sid gno 0 undefined_version))
+unfolding new_tagged with_tag
+new-tagged sid tag gno is = rw is
 
 pub zeros-kept : (sid tag : List ℕ) (gno : ℕ) → is_tag tag ≡ true
-    → server_versions (with_tag tag (set_number 9 0 (set_number 10 0 (new_untagged sid gno)))).event ≡ 0 ∷ 0 ∷ []
+    → (x : GtidEvent) × (with_tag tag (set_number 9 0 (set_number 10 0 (new_untagged sid gno))) ≡ Ok x) × (server_versions x ≡ 0 ∷ 0 ∷ [])
 zeros-kept sid tag gno is = kept tag (set_number 9 0 (set_number 10 0 (new_untagged sid gno))) is
 
 pub building : Building
 building = record {
   built = built;
   untagged = λ s e used none sid gno. rw (absent-versions none);
-  tagged = λ tag is s e used none sid gno. rw (absent-versions none) (new_tagged-absent sid tag gno is);
+  tagged = λ tag is. (
+    λ sid gno. set_tag tag (fresh sid gno 0 undefined_version),
+    λ sid gno. new-tagged sid tag gno is,
+    λ s e used none sid gno. rw (absent-versions none),
+  );
   kept = kept;
   written = λ sid gno size are few. (bare-output sid gno, bare-long sid gno size, bare-back sid gno size are few);
 }

@@ -1,6 +1,5 @@
 -- An event is refused with a number exactly where, by the layouts, a case of that number holds of its bytes.
 use Prim.Native.Nat.{ℕ, ◌≤◌}
-use mathlib.Core.Path.{refl}
 use mathlib.Core.Bool.{◌||◌}
 use mathlib.Core.List.{List}
 use mathlib.Core.Logic.{inl, inr}
@@ -8,7 +7,7 @@ use lib.Dec.{eqb, leb}
 use lib.ListN.{length}
 use borrow.Author.Tests.{leb-true, leb-false, eqb-true, eqb-false, le-leb, lt-leb, ne_eqb}
 use Rattle.misc.specs.Refusal.{too_long, wrong_type}
-use Rattle.misc.specs.Parse.{Bytes}
+use Rattle.misc.specs.Parse.{Bytes, refusal_in}
 use Rattle.misc.specs.Body.{body_limit}
 use Rattle.gtid_sets.proofs.Bools.{or-false-parts}
 use Rattle.gtid_event_read.specs.Seen.{untagged_seen}
@@ -24,7 +23,7 @@ use Rattle.promises.proofs.UntaggedForced.{untagged-forced}
 use Rattle.promises.proofs.UntaggedFaulty.{untagged-stop, untagged-faulty}
 use Rattle.promises.proofs.TaggedRefused.{tagged-refused}
 use Rattle.promises.proofs.TaggedFaulty.{tagged-faulty}
-use Rattle.promises.proofs.Exactly.{reads-exactly}
+use Rattle.promises.proofs.Exactly.{reads-exactly, answers-exactly}
 
 pub event-refused : (type : ℕ) (s : List ℕ) (n : ℕ) → EventFault type s n → Refuses (seen type s) n
 unfolding seen
@@ -55,6 +54,6 @@ event-faulty type s are =
     (EventFault.wrong_type fits (eqb-false type 33 not-33) (eqb-false type 34 not-34) (eqb-false type 42 not-42)))))
     (λ long. refuse-gives (EventFault type s) too_long (EventFault.too_long (leb-false (length s) body_limit long)))
 
-pub event-exact : (type : ℕ) (s : List ℕ) → Bytes s → RefusesExactly (gtid_read (seen type s)).refusal (EventFault type s)
+pub event-exact : (type : ℕ) (s : List ℕ) → Bytes s → RefusesExactly (refusal_in (gtid_read (seen type s))) (EventFault type s)
 event-exact type s are =
-    reads-exactly (λ p. (gtid_read p).refusal) (EventFault type s) (seen type s) (λ r. refl) (λ e used. refl) (event-faulty type s are) (event-refused type s)
+    answers-exactly _ _ _ (reads-exactly (EventFault type s) (seen type s) (event-faulty type s are) (event-refused type s))

@@ -7,32 +7,39 @@ use native.Mathlib.Omega.{arith}
 use lib.Dec.{leb}
 use lib.ListN.{length}
 use borrow.Author.Tests.{leb-false, lt-leb}
-use Rattle.misc.specs.Refusal.{Refusal, number}
-use Rattle.misc.specs.Parse.{Parse, refuse, parsed}
-use Rattle.misc.specs.Output.{Output, refused, bytes, answer_of}
-use Rattle.misc.specs.declared.Wrote.{Wrote}
+use Rattle.misc.specs.declared.refusal.Refusal.{Refusal}
+use Rattle.misc.specs.declared.refusal.WriteError.{WriteError}
+use Rattle.misc.specs.Refusal.{number}
+use Rattle.misc.specs.Parse.{Parse, refuse, parsed, refusal_of, refusal_in, answered}
+use Rattle.misc.specs.Output.{Output, refused, bytes, answer_of, written_number, written_len}
 use Rattle.misc.proofs.ParseLaws.{never, no_zero}
 use Rattle.packets.proofs.Tests.{split}
 use Rattle.promises.specs.PlainFaults.{ShortFault, WriteFault}
 use Rattle.promises.specs.Exact.{RefusesExactly, WritesExactly}
+use Rattle.std.specs.Prelude.{Result}
 use Rattle.promises.proofs.Gives.{Gives}
 use Rattle.promises.proofs.Forces.{Refuses, WriterRefuses}
 
--- ---- a call that reads: `say` is the number that it answers
+-- ---- a call that reads
 
-pub reads-exactly : {A : Type 0} (say : Parse A → ℕ) (Fault : ℕ → Type 0) (p : Parse A) → ((r : Refusal) → say (refuse r) ≡ number r)
-    → ((a : A) (next : ℕ) → say (parsed a next) ≡ 0) → Gives Fault p → ((n : ℕ) → Fault n → Refuses p n) → RefusesExactly (say p) Fault
-reads-exactly say Fault (refuse x) bad good gives forced n = (
-  λ (is, _). subst Fault (sym (bad x) ∙ is) (gives x refl),
+pub reads-exactly : {A : Type 0} (Fault : ℕ → Type 0) (p : Parse A) → Gives Fault p → ((n : ℕ) → Fault n → Refuses p n) → RefusesExactly (refusal_of p) Fault
+reads-exactly Fault (refuse x) gives forced n = (
+  λ (is, _). subst Fault is (gives x refl),
   λ fault.
       let (r, e, this) = forced n fault in
       let same : x ≡ r = cc in
-      (bad x ∙ ap number same ∙ this, λ zero. no_zero r (this ∙ zero)),
+      (ap number same ∙ this, λ zero. no_zero r (this ∙ zero)),
 )
-reads-exactly say Fault (parsed a next) bad good gives forced n = (
-  λ (is, ne). absurd (ne (sym is ∙ good a next)),
+reads-exactly Fault (parsed a next) gives forced n = (
+  λ (is, ne). absurd (ne (sym is)),
   λ fault. let (r, e, _) = forced n fault in never (sym e),
 )
+
+-- whatever it says of what it read
+pub answers-exactly : {A B : Type 0} (say : A → ℕ → B) (Fault : ℕ → Type 0) (p : Parse A) → RefusesExactly (refusal_of p) Fault
+    → RefusesExactly (refusal_in (answered say p)) Fault
+answers-exactly say Fault (refuse x) exactly = exactly
+answers-exactly say Fault (parsed a next) exactly = exactly
 
 -- ---- a call that judges: a test fails, and then it refuses with a number
 
@@ -48,8 +55,8 @@ judges-exactly refusal k Fault test good bad case only some n = (
 -- ---- a call that writes
 
 -- what is answered
-abbrev pub Answers : Wrote → ℕ → ℕ → Type 0
-Answers wrote n len = (wrote.refusal ≡ n) × (wrote.len ≡ len) × (n ≡ 0 → ⊥)
+abbrev pub Answers : Result ℕ WriteError → ℕ → ℕ → Type 0
+Answers wrote n len = (written_number wrote ≡ n) × (written_len wrote ≡ len) × (n ≡ 0 → ⊥)
 
 pub short-exactly : (bs out : List ℕ) → WritesExactly (answer_of out (bytes bs)) (ShortFault bs (length out))
 unfolding answer_of

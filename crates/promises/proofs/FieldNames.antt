@@ -12,7 +12,7 @@ use Rattle.gtid_event_read.specs.Seen.{Seen}
 use Rattle.gtid_event_read.specs.Read.{seen, gtid_read}
 use Rattle.promises.specs.TaggedLayout.{Sent, Value, FieldsLaid, TaggedLaid}
 use Rattle.promises.specs.Exact.{Exactly}
-use Rattle.promises.specs.Presence.{Has}
+use Rattle.promises.specs.Presence.{bits_in, Has}
 use Rattle.promises.proofs.PresenceHolds.{presence}
 
 pub data Field : Type 0 where
@@ -128,7 +128,7 @@ to-id f (FieldsLaid.field form value rest) (inl is) = inl (sym (value-name value
 to-id f (FieldsLaid.field form value rest) (inr more) = inr (to-id f rest more)
 
 pub bits-by-name : (s : List ℕ) (x : Seen) (used : ℕ) → length s ≤ body_limit → (laid : TaggedLaid s x used) → (f : Field)
-    → Exactly (has_bit (field_id f) (gtid_read (seen 42 s)).present ≡ true) (HasNamed f laid.fields_are)
+    → Exactly (has_bit (field_id f) (bits_in (gtid_read (seen 42 s))) ≡ true) (HasNamed f laid.fields_are)
 bits-by-name s x used few laid f =
     let both = presence.bits s x used (field_id f) few laid (low f) in (
       λ set. to-name f laid.fields_are (both.0 set),

@@ -7,10 +7,11 @@ use native.Mathlib.Omega.{arith}
 use lib.Dec.{leb}
 use lib.ListN.{length}
 use borrow.Author.Tests.{leb-true, leb-false, le-leb, lt-leb}
-use Rattle.misc.specs.Refusal.{Refusal, refusal, number, not_a_set, bad_gno, full, crowded, no_room}
+use Rattle.misc.specs.declared.refusal.Refusal.{Refusal}
+use Rattle.misc.specs.Refusal.{number, not_a_set, bad_gno, full, crowded}
 use Rattle.misc.specs.Parse.{Bytes, Parse, refuse, parsed}
 use Rattle.misc.specs.Output.{Output, refused, bytes, answer_of}
-use Rattle.misc.proofs.ParseLaws.{pick-either, no_zero}
+use Rattle.misc.proofs.ParseLaws.{split, pick-either, no_zero}
 use Rattle.previous_gtids_event.specs.Entry.{Entry}
 use Rattle.previous_gtids_event.specs.Previous.{previous}
 use Rattle.previous_gtids_event.specs.Rewrite.{body_bytes}
@@ -24,7 +25,9 @@ use Rattle.gtid_sets.proofs.TakeInLaws.{has-union, form-union, is_union}
 use Rattle.gtid_sets.proofs.LentLaws.{lent_is, is-lent}
 use Rattle.set_join.specs.Answers.{saved_if}
 use Rattle.set_join.specs.JoinIn.{joined_in, join_answers}
+use Rattle.binlog.specs.Stop.{Stop, stop, stop_number, stop_for, no_room}
 use Rattle.binlog.specs.Run.{did, fails}
+use Rattle.binlog.proofs.PhaseLaws.{renumber}
 use Rattle.binlog_reader.specs.Does.{fitted, joins}
 use Rattle.binlog_reader.specs.declared.Told.{Told}
 use Rattle.binlog_reader.specs.declared.Told.TheVariants.{Joined}
@@ -39,14 +42,18 @@ use Rattle.promises.proofs.BodyFaults.{body-faults}
 use Rattle.promises.proofs.BodyForced.{body-forced}
 use Rattle.promises.proofs.SetsExact.{apart, unfit-fault, fault-unfit, body_is, body-read}
 
--- refusals with one number are one
-pub same_number : (x y : Refusal) → number x ≡ number y → x ≡ y
-same_number (refusal m) (refusal n) e = ap refusal (omega arith)
+-- where a reader stops with one number, it stops alike
+pub same_stop : (x y : Stop) → stop_number x ≡ stop_number y → x ≡ y
+same_stop (stop m) (stop n) e = ap stop (omega arith)
+
+-- a refusal of the table is told by its number
+pub stop-number : (r : Refusal) → stop_number (stop_for r) ≡ number r
+stop-number r = renumber (number r) (split (number r) 0 (λ none. absurd (no_zero r (omega arith))) (λ some. some))
 
 -- bytes that there is no room for
-short-fails : (room : ℕ) (t : Told) (bs : List ℕ) (r : Refusal) (n len : ℕ) → ShortFault bs room n len → number r ≡ n → fitted room t bs ≡ fails r len
+short-fails : (room : ℕ) (t : Told) (bs : List ℕ) (r : Stop) (n len : ℕ) → ShortFault bs room n len → stop_number r ≡ n → fitted room t bs ≡ fails r len
 short-fails room t bs r n len (ShortFault.short over) this =
-    let same : no_room ≡ r = same_number no_room r (sym this) in
+    let same : no_room ≡ r = same_stop no_room r (sym this) in
     rw (lt-leb (length bs) room over, same)
 
 -- ---- joining
@@ -181,15 +188,15 @@ module _ (set body : List ℕ) (are : Bytes body) where
 
   -- ---- and of an event
 
-  pub joins-refused : (room : ℕ) (r : Refusal) (len : ℕ)
-      → Exactly (joins room (joined_in (lent_set set) (previous body)) ≡ fails r len) (JoinFault set body room (number r) len)
+  pub joins-refused : (room : ℕ) (r : Stop) (len : ℕ)
+      → Exactly (joins room (joined_in (lent_set set) (previous body)) ≡ fails r len) (JoinFault set body room (stop_number r) len)
   joins-refused room r len = (go (joined_in (lent_set set) (previous body)) refl, forced)
     where
-      go : (o : Output) → joined_in (lent_set set) (previous body) ≡ o → joins room o ≡ fails r len → JoinFault set body room (number r) len
+      go : (o : Output) → joined_in (lent_set set) (previous body) ≡ o → joins room o ≡ fails r len → JoinFault set body room (stop_number r) len
       go (refused x) e h =
-          let same : x ≡ r = cc in
+          let same : stop_for x ≡ r = cc in
           let none : 0 ≡ len = cc in
-          rw (← none) (join-given room r (rw same at e))
+          rw (← none, ← same, stop-number x) (join-given room x e)
       go (bytes bs) e h = pick-either (leb (length bs) room) h
           (λ fits f. apart cc)
           (λ over f.
@@ -197,10 +204,10 @@ module _ (set body : List ℕ) (are : Bytes body) where
           let needed : length bs ≡ len = cc in
           rw (← same, ← needed) (short-case room bs 13 (length bs) (join_kept bs e) (ShortFault.short (leb-false _ _ over))))
 
-      forced : JoinFault set body room (number r) len → joins room (joined_in (lent_set set) (previous body)) ≡ fails r len
-      forced fault = join-forced room (number r) len fault
-          (λ x e this none. rw (e, same_number x r this, none))
-          (λ bs e lacks. rw e (short-fails room Joined bs r (number r) len lacks refl))
+      forced : JoinFault set body room (stop_number r) len → joins room (joined_in (lent_set set) (previous body)) ≡ fails r len
+      forced fault = join-forced room (stop_number r) len fault
+          (λ x e this none. rw (e, same_stop (stop_for x) r (stop-number x ∙ this), none))
+          (λ bs e lacks. rw e (short-fails room Joined bs r (stop_number r) len lacks refl))
 
   pub joins-did : (room : ℕ) (after : List ℕ) → Exactly (joins room (joined_in (lent_set set) (previous body)) ≡ did Joined after) (JoinedAs set body room after)
   joins-did room after = (go (joined_in (lent_set set) (previous body)) refl, forced after)

@@ -7,6 +7,7 @@ use Rattle.misc.specs.Refusal.{not_a_set}
 use Rattle.previous_gtids_event.specs.Entry.{Entry}
 use Rattle.gtid_sets.specs.Lent.{Lent, SetLaid}
 use Rattle.gtid_sets.proofs.LentLaws.{is-lent}
+use Rattle.binlog.specs.Stop.{stop_for}
 use Rattle.binlog.specs.Format.{trailer}
 use Rattle.binlog.specs.Place.{opening, heading, inside, passing, whole, ended, stopped}
 use Rattle.binlog.specs.Run.{at, begin, feed, walking, Word, chunk, end, heard, hear}
@@ -38,7 +39,7 @@ module _ (room : ℕ) (checksums : Bool) where
   no-set set ws fault =
       let (_, lent) = fault-unfit set 14 fault in
       ap (λ (l : Lent). read_in (hears (at (begins_at l) set []) ws)) lent
-      ∙ ap read_in (run.stays-stopped (does room) (trailer checksums) not_a_set 0 set [] ws)
+      ∙ ap read_in (run.stays-stopped (does room) (trailer checksums) (stop_for not_a_set) 0 set [] ws)
 
   in_words : (set : List ℕ) (s : List Entry) (ws : List Word) → SetLaid set s → hears (start_of set) ws ≡ hears (begin set) ws
   in_words set s ws laid = ap (λ (r : SetRun). hears r ws) (begins set s laid)

@@ -6,16 +6,17 @@ use mathlib.Core.Bool.{Bool, true, false}
 use mathlib.Core.List.{List, [], ◌∷◌, ◌++◌}
 use native.Mathlib.Omega.{arith}
 use lib.ListN.{length}
-use Rattle.misc.specs.Parse.{Bytes}
+use Rattle.misc.specs.Parse.{Bytes, refusal_in}
 use Rattle.misc.specs.Body.{body_limit}
 use Rattle.misc.specs.Forms.{Form}
-use Rattle.misc.specs.Output.{answer_of}
+use Rattle.misc.specs.declared.refusal.Refusal.{Refusal}
+use Rattle.misc.specs.declared.refusal.WriteError.{WriteError}
+use Rattle.misc.specs.Refusal.{error_number, error_needed, diverged}
+use Rattle.misc.specs.Output.{answer_of, written_number}
 use Rattle.packets.specs.Key.{Key}
-use Rattle.packets.proofs.Tests.{clash}
 use Rattle.previous_gtids_event.specs.Entry.{Entry}
 use Rattle.previous_gtids_event.specs.Previous.{previous}
 use Rattle.previous_gtids_event.specs.Answers.{previous_read}
-use Rattle.previous_gtids_event.specs.Rewrite.{body_bytes}
 use Rattle.gtid_event.specs.declared.GtidEvent.{GtidEvent}
 use Rattle.gtid_event_read.specs.Read.{seen, gtid_read}
 use Rattle.gtid_event_write.specs.Writable.{writable}
@@ -26,7 +27,6 @@ use Rattle.gtid_sets.specs.Limits.{EntryOver}
 use Rattle.gtid_sets.specs.Lent.{SetLaid}
 use Rattle.set_join.specs.Answers.{take_in_answers}
 use Rattle.resume_set.specs.declared.Offered.{Offered}
-use Rattle.resume_set.specs.declared.Offered.TheVariants as offered
 use Rattle.resume_set_laws.specs.History.{Turn, Offering}
 use Rattle.binlog.specs.Format.{trailer}
 use Rattle.binlog.specs.Run.{walking, Word, chunk, end, spelled, each_byte}
@@ -34,32 +34,32 @@ use Rattle.binlog.proofs.SaysLaws.{says_all}
 use Rattle.binlog.proofs.EndSaysLaws.{end-says-all}
 use Rattle.binlog_reader.specs.Does.{does}
 use Rattle.binlog_laws.specs.Files.{FileRead, read_in}
-use Rattle.two_sets.specs.declared.AllWithin.{AllWithin}
 use Rattle.two_sets.specs.declared.Choice.{Choice}
-use Rattle.two_sets.specs.declared.Choice.TheVariants.{First, Second, Refused}
+use Rattle.two_sets.specs.declared.Choice.TheVariants.{First, Second}
+use Rattle.std.specs.Prelude.{Result, Ok, Err}
 use Rattle.promises.specs.Faults.{ValueFault, FieldFault, TaggedFault, UntaggedFault, EventFault}
 use Rattle.promises.specs.BodyFaults.{BodyFault}
 use Rattle.promises.specs.PlainFaults.{RecordFault, ShortFault, WriteFault}
-use Rattle.promises.specs.SetFaults.{SetFault, BodyIs, TakeInFault, NamingFault, Accepts, OfferFault, OfferAnswer}
+use Rattle.promises.specs.SetFaults.{SetFault, BodyIs, TakeInFault, NamingFault, OfferFault, OfferAnswer}
 use Rattle.promises.specs.Exact.{EventsExact, BodiesExact, SetsExact, OffersExactly}
 use Rattle.promises.specs.Rules.{Rules}
 use Rattle.promises.specs.Told.{SetsTold}
-use Rattle.promises.specs.TwoSets.{Contains, Lacks, PairFault, WithinAnswer, ComparesExactly}
+use Rattle.promises.specs.TwoSets.{Contains, Lacks, WithinAnswer, ComparesExactly}
 use Rattle.promises.specs.Files.{ReadsFiles}
 use Rattle.promises.specs.Heads.{HeadFault, HeadAnswer, ChoosesExactly}
-use Rattle.promises.proofs.SetsExact.{apart}
+use Rattle.promises.proofs.SetsExact.{apart, offer-faults-answered}
 
 -- ---- which of several faults counts
 
 -- a body that is too long is 11, whatever else is wrong with it, and 14 where it is lent as a set
 module _ (s : List ℕ) (are : Bytes s) (long : body_limit < length s) where
-  pub long-event : EventsExact → (type : ℕ) → (gtid_read (seen type s)).refusal ≡ 11
+  pub long-event : EventsExact → (type : ℕ) → refusal_in (gtid_read (seen type s)) ≡ 11
   long-event x type = ((x.read type s are 11).1 (EventFault.too_long long)).0
 
-  pub long-body : BodiesExact → (previous_read (previous s)).refusal ≡ 11
+  pub long-body : BodiesExact → refusal_in (previous_read (previous s)) ≡ 11
   long-body x = ((x.read s are 11).1 (BodyFault.too_long s long)).0
 
-  pub long-take-in : SetsExact → (out : List ℕ) → (take_in_answers s out).refusal ≡ 11
+  pub long-take-in : SetsExact → (out : List ℕ) → written_number (take_in_answers s out) ≡ 11
   long-take-in x out = ((x.take_in s out are 11 0).1 (WriteFault.itself (TakeInFault.bad_body (BodyFault.too_long s long)))).0
 
   pub long-set : Rules → SetFault s 14
@@ -67,22 +67,26 @@ module _ (s : List ℕ) (are : Bytes s) (long : body_limit < length s) where
 
 -- 9 before 1: a payload smaller than its envelope, however many bytes there are
 pub small-first : EventsExact → {size last : ℕ} {a b : List ℕ} (rest : List ℕ) → Form size a → Form last b → size < length (2 ∷ (a ++ b))
-    → Bytes (2 ∷ (a ++ (b ++ rest))) → length (2 ∷ (a ++ (b ++ rest))) ≤ body_limit → (gtid_read (seen 42 (2 ∷ (a ++ (b ++ rest))))).refusal ≡ 9
+    → Bytes (2 ∷ (a ++ (b ++ rest))) → length (2 ∷ (a ++ (b ++ rest))) ≤ body_limit → refusal_in (gtid_read (seen 42 (2 ∷ (a ++ (b ++ rest))))) ≡ 9
 small-first x rest p q small are short = ((x.read 42 _ are 9).1 (EventFault.tagged short refl (TaggedFault.small_payload rest p q small))).0
 
 -- 17 before 16, on the set of all ids: an entry with more than 1,024 intervals counts, however many entries and intervals there are
 pub crowded-first : SetsExact → (body out : List ℕ) {es : List Entry} → Bytes body → BodyIs body es → lawful es ≡ true → EntryOver 1024 (taken_set es)
-    → (take_in_answers body out).refusal ≡ 17
+    → written_number (take_in_answers body out) ≡ 17
 crowded-first x body out are is fine over = ((x.take_in body out are 17 0).1 (WriteFault.itself (TakeInFault.crowded_entry is fine over))).0
 
 -- 12 before 13
-pub writable-first : EventsExact → (e : GtidEvent) (out : List ℕ) → writable e ≡ false → (answer_of out (event_output e)).refusal ≡ 12
+pub writable-first : EventsExact → (e : GtidEvent) (out : List ℕ) → writable e ≡ false → written_number (answer_of out (event_output e)) ≡ 12
 writable-first x e out can't = ((x.write e out 12 0).1 (WriteFault.itself (RecordFault.not_writable can't))).0
 
 -- an offer that has a case of `OfferFault` is refused with its number, whatever else is wrong: 14, the event's own, 21, 15, 17, 16, 13
 pub offer-refuses : {f : Offering} → OffersExactly f → (set : List ℕ) (t : Turn) → Bytes t.body → {n len : ℕ}
-    → OfferFault set t.type t.body (length t.out) n len → (f.answers set t ≡ offered.Refused n len) × (f.leaves set t ≡ t.out)
-offer-refuses exactly set t are fault = (exactly set t _ _ are).1 (OfferAnswer.refused fault)
+    → OfferFault set t.type t.body (length t.out) n len
+    → (x : WriteError) × (error_number x ≡ n) × (error_needed x ≡ len) × (f.answers set t ≡ Err x) × (f.leaves set t ≡ t.out)
+offer-refuses exactly set t are {n} {len} fault =
+    let (x, is, needed) = offer-faults-answered set t.type t.body (length t.out) n len fault in
+    let (answers, left) = (exactly set t _ _ are).1 (OfferAnswer.refused (rw (is, needed) fault)) in
+    (x, is, needed, answers, left)
 
 -- 21 is no number of a fault of the event itself
 small-value : {last id n : ℕ} {rest : List ℕ} → ValueFault last id rest n → n ≤ 6
@@ -139,34 +143,22 @@ offer-alone (OfferFault.crowded_entry _ _ _ _ _) this = absurd (omega arith)
 offer-alone (OfferFault.over_limits _ _ _ _ _) this = absurd (omega arith)
 offer-alone (OfferFault.no_room _ _ lacks) this = short-alone lacks this
 
--- the refusal in an offer's answer, 0 for none
-abbrev refusal_of : Offered → ℕ
-refusal_of (offered.NoId len) = 0
-refusal_of (offered.AlreadyThere len) = 0
-refusal_of (offered.Taken len) = 0
-refusal_of (offered.Refused n len) = n
-
-none-accepted : {s after : List Entry} {type : ℕ} {body : List ℕ} {case : ℕ → Offered} → Accepts s type body case after → (len : ℕ) → refusal_of (case len) ≡ 0
-none-accepted (Accepts.no_id _ _) len = refl
-none-accepted (Accepts.already _ _ _) len = refl
-none-accepted (Accepts.taken _ _ _ _) len = refl
-
 -- 21 is said of a tagged event alone, whatever the set
-pub tagged_alone : {f : Offering} → OffersExactly f → (set : List ℕ) (t : Turn) → Bytes t.body → {len : ℕ} → f.answers set t ≡ offered.Refused 21 len
-    → t.type ≡ 42
-tagged_alone {f} exactly set t are {len} e = go (offered.Refused 21 len) (f.leaves set t) ((exactly set t _ _ are).0 (e, refl)) refl
+pub tagged_alone : {f : Offering} → OffersExactly f → (set : List ℕ) (t : Turn) → Bytes t.body → {x : WriteError} → f.answers set t ≡ Err x
+    → error_number x ≡ 21 → t.type ≡ 42
+tagged_alone {f} exactly set t are {x} e this = go (Err x) (f.leaves set t) ((exactly set t _ _ are).0 (e, refl)) refl
   where
-    go : (a : Offered) (l : List ℕ) → OfferAnswer set t.type t.body t.out a l → refusal_of a ≡ 21 → t.type ≡ 42
-    go a l (OfferAnswer.refused fault) this = offer-alone fault this
-    go a l (OfferAnswer.accepted {after = after} laid accepts fits) this = absurd (omega (arith, this, none-accepted accepts (length (body_bytes after))))
+    go : (a : Result Offered WriteError) (l : List ℕ) → OfferAnswer set t.type t.body t.out a l → a ≡ Err x → t.type ≡ 42
+    go a l (OfferAnswer.refused {x = y} fault) is = let same : y ≡ x = cc in offer-alone fault (rw same this)
+    go a l (OfferAnswer.accepted laid accepts fits) is = apart cc
 
 -- ---- heads, by what `within` says, asked both ways: 22 exactly if it says no twice
 
-abbrev yes : AllWithin
-yes = record { refusal = 0; all = true }
+abbrev yes : Result Bool Refusal
+yes = Ok true
 
-abbrev no : AllWithin
-no = record { refusal = 0; all = false }
+abbrev no : Result Bool Refusal
+no = Ok false
 
 -- two sets, as their bytes are laid out, and what holds of them
 record Pair (P : List Entry → List Entry → Type 0) (a b : List ℕ) : Type 0 where
@@ -176,24 +168,17 @@ record Pair (P : List Entry → List Entry → Type 0) (a b : List ℕ) : Type 0
   right : SetLaid b t
   holds : P s t
 
-only-14 : {a b : List ℕ} {n : ℕ} → PairFault a b n → n ≡ 14
-only-14 (PairFault.bad_first (SetFault.no_set _)) = refl
-only-14 (PairFault.bad_second _ (SetFault.no_set _)) = refl
-
-yes-in : {a b : List ℕ} (r : AllWithin) → WithinAnswer a b r → r ≡ yes → Pair (λ s t. Contains t s) a b
-yes-in r (WithinAnswer.refused _) e = clash (ap (λ (x : AllWithin). x.all) e) refl
+yes-in : {a b : List ℕ} (r : Result Bool Refusal) → WithinAnswer a b r → r ≡ yes → Pair (λ s t. Contains t s) a b
+yes-in r (WithinAnswer.refused _) e = apart cc
 yes-in r (WithinAnswer.inside {s = s} {t = t} i j all) e = record { s = s; t = t; left = i; right = j; holds = all }
-yes-in r (WithinAnswer.missing _ _ _) e = clash (ap (λ (x : AllWithin). x.all) e) refl
+yes-in r (WithinAnswer.missing _ _ _) e = apart cc
 
-no-in : {a b : List ℕ} (r : AllWithin) → WithinAnswer a b r → r ≡ no → Pair (λ s t. Lacks t s) a b
-no-in r (WithinAnswer.refused {n = n} fault) e =
-    let z : n ≡ 0 = ap (λ (x : AllWithin). x.refusal) e in
-    let y : n ≡ 14 = only-14 fault in
-    absurd (omega arith)
-no-in r (WithinAnswer.inside _ _ _) e = clash refl (ap (λ (x : AllWithin). x.all) e)
+no-in : {a b : List ℕ} (r : Result Bool Refusal) → WithinAnswer a b r → r ≡ no → Pair (λ s t. Lacks t s) a b
+no-in r (WithinAnswer.refused _) e = apart cc
+no-in r (WithinAnswer.inside _ _ _) e = apart cc
 no-in r (WithinAnswer.missing {s = s} {t = t} i j lacks) e = record { s = s; t = t; left = i; right = j; holds = lacks }
 
-module _ (told : SetsTold) {which : List ℕ → List ℕ → Choice} (chooses : ChoosesExactly which) {within : List ℕ → List ℕ → AllWithin}
+module _ (told : SetsTold) {which : List ℕ → List ℕ → Result Choice Refusal} (chooses : ChoosesExactly which) {within : List ℕ → List ℕ → Result Bool Refusal}
     (compares : ComparesExactly within) (first second : List ℕ) where
   same : {set : List ℕ} {s t : List Entry} → SetLaid set s → SetLaid set t → (k : Key) (n : ℕ) → has s k n ≡ has t k n
   same {set} {s} {t} i j k n = sym (told.members set s i k n) ∙ told.members set t j k n
@@ -207,34 +192,34 @@ module _ (told : SetsTold) {which : List ℕ → List ℕ → Choice} (chooses :
     lacked = same i' i l.key l.gno ∙ l.lacked;
   }
 
-  pub first-from : within second first ≡ yes → which first second ≡ First
-  first-from e = let y = yes-in _ ((compares second first _).0 e) refl in (chooses first second First).1 (HeadAnswer.first y.right y.left y.holds)
+  pub first-from : within second first ≡ yes → which first second ≡ Ok First
+  first-from e = let y = yes-in _ ((compares second first _).0 e) refl in (chooses first second (Ok First)).1 (HeadAnswer.first y.right y.left y.holds)
 
-  pub second_from : within first second ≡ yes → within second first ≡ no → which first second ≡ Second
+  pub second_from : within first second ≡ yes → within second first ≡ no → which first second ≡ Ok Second
   second_from e f =
       let y = yes-in _ ((compares first second _).0 e) refl in
       let n = no-in _ ((compares second first _).0 f) refl in
-      (chooses first second Second).1 (HeadAnswer.second y.left y.right (still-lacks n.right y.left n.left y.right n.holds) y.holds)
+      (chooses first second (Ok Second)).1 (HeadAnswer.second y.left y.right (still-lacks n.right y.left n.left y.right n.holds) y.holds)
 
-  pub neither-from : within first second ≡ no → within second first ≡ no → which first second ≡ Refused 22
+  pub neither-from : within first second ≡ no → within second first ≡ no → which first second ≡ Err diverged
   neither-from e f =
       let m = no-in _ ((compares first second _).0 e) refl in
       let n = no-in _ ((compares second first _).0 f) refl in
-      (chooses first second (Refused 22)).1
+      (chooses first second (Err diverged)).1
       (HeadAnswer.refused (HeadFault.apart m.left m.right m.holds (still-lacks n.right m.left n.left m.right n.holds)))
 
-  pub first_to : which first second ≡ First → within second first ≡ yes
-  first_to e = go First ((chooses first second First).0 e) refl
+  pub first_to : which first second ≡ Ok First → within second first ≡ yes
+  first_to e = go (Ok First) ((chooses first second (Ok First)).0 e) refl
     where
-      go : (r : Choice) → HeadAnswer first second r → r ≡ First → within second first ≡ yes
+      go : (r : Result Choice Refusal) → HeadAnswer first second r → r ≡ Ok First → within second first ≡ yes
       go r (HeadAnswer.refused _) e = apart cc
       go r (HeadAnswer.first i j all) e = (compares second first _).1 (WithinAnswer.inside j i all)
       go r (HeadAnswer.second _ _ _ _) e = apart cc
 
-  pub second-to : which first second ≡ Second → (within first second ≡ yes) × (within second first ≡ no)
-  second-to e = go Second ((chooses first second Second).0 e) refl
+  pub second-to : which first second ≡ Ok Second → (within first second ≡ yes) × (within second first ≡ no)
+  second-to e = go (Ok Second) ((chooses first second (Ok Second)).0 e) refl
     where
-      go : (r : Choice) → HeadAnswer first second r → r ≡ Second → (within first second ≡ yes) × (within second first ≡ no)
+      go : (r : Result Choice Refusal) → HeadAnswer first second r → r ≡ Ok Second → (within first second ≡ yes) × (within second first ≡ no)
       go r (HeadAnswer.refused _) e = apart cc
       go r (HeadAnswer.first _ _ _) e = apart cc
       go r (HeadAnswer.second i j lacks all) e =

@@ -7,7 +7,8 @@ use native.Mathlib.Omega.{arith}
 use lib.Dec.{eqb}
 use lib.ListN.{length, get_or}
 use borrow.Author.Tests.{eqb-true}
-use Rattle.misc.specs.Refusal.{Refusal, number, ended, bad_lead}
+use Rattle.misc.specs.declared.refusal.Refusal.{Refusal}
+use Rattle.misc.specs.Refusal.{number, ended, bad_lead}
 use Rattle.misc.specs.Parse.{Parse, refuse, parsed, many}
 use Rattle.misc.specs.Output.{Output, refused}
 use Rattle.misc.specs.Varlen.{trailing_ones, varlen_at}

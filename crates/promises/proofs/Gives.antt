@@ -10,7 +10,8 @@ use lib.Dec.{eqb, leb, ltb}
 use lib.ListN.{length, get_or}
 use borrow.Author.Tests.{ltb-false, leb-false, eqb-false}
 use Rattle.misc.specs.Pick.{pick}
-use Rattle.misc.specs.Refusal.{Refusal, number, ended, bad_lead}
+use Rattle.misc.specs.declared.refusal.Refusal.{Refusal}
+use Rattle.misc.specs.Refusal.{number, ended, bad_lead}
 use Rattle.misc.specs.Parse.{Parse, refuse, parsed, and_then, mapped, judged, many, part, bytes_at, byte_at}
 use Rattle.misc.specs.Le.{le_of, le_at}
 use Rattle.misc.specs.Varlen.{trailing_ones, varlen_at}

@@ -6,6 +6,8 @@ use mathlib.Core.List.{List, [], ◌++◌}
 use native.Mathlib.Omega.{arith}
 use lib.ListN.{length, length-append}
 use Rattle.misc.specs.Pick.{pick}
+use Rattle.misc.specs.declared.refusal.Refusal.{Refusal}
+use Rattle.misc.specs.Refusal.{number, not_a_set, diverged}
 use Rattle.packets.proofs.Tests.{split, clash}
 use Rattle.previous_gtids_event.specs.Entry.{Entry}
 use Rattle.previous_gtids_event.specs.Rewrite.{entries_bytes, any_tag, header_bytes, body_bytes}
@@ -18,10 +20,12 @@ use Rattle.gtid_sets.proofs.SetLaws.{set-unique}
 use Rattle.gtid_sets.proofs.CombineLaws.{subset-says, subset-from}
 use Rattle.two_sets.specs.Answers.{head_read, which_answers, part_of}
 use Rattle.two_sets.specs.declared.Choice.{Choice}
-use Rattle.two_sets.specs.declared.Choice.TheVariants.{First, Second, Refused}
-use Rattle.promises.specs.Exact.{Exactly}
+use Rattle.two_sets.specs.declared.Choice.TheVariants.{First, Second}
+use Rattle.std.specs.Prelude.{Result, Ok, Err}
+use Rattle.promises.specs.Exact.{Exactly, IsRefusal}
 use Rattle.promises.specs.TwoSets.{Keeps, Contains, PairFault, ResultAs}
 use Rattle.promises.specs.Heads.{HeadFault, HeadAnswer, ChoosesExactly, HandedBack, HandsExactly, our_head, Heads}
+use Rattle.promises.proofs.Numbers.{same_number}
 use Rattle.promises.proofs.SetsExact.{apart, unfit-fault}
 use Rattle.promises.proofs.TwoSetsHold.{pair-unfit, lacking, not_within}
 
@@ -46,39 +50,46 @@ module _ (first second : List ℕ) where
   answered : HeadAnswer first second (which_answers first second)
   answered = found (lent_set first) (lent_set second) refl refl
 
-  fault-forced : (n : ℕ) → HeadFault first second n → which_answers first second ≡ Refused n
-  fault-forced n (HeadFault.bad_set fault) = pair-unfit first second n fault (λ this p. rw (p, this)) (λ this s p q. rw (p, q, this))
-  fault-forced n (HeadFault.apart {s = s} {t = t} i j one two) =
-      rw (is-lent first s i, is-lent second t j, not_within t s j.formed i.formed two, not_within s t i.formed j.formed one)
+  fault-forced : (n : ℕ) → HeadFault first second n → (x : Refusal) × (number x ≡ n) × (which_answers first second ≡ Err x)
+  fault-forced n (HeadFault.bad_set fault) =
+      pair-unfit first second n fault (λ this p. (not_a_set, sym this, rw p)) (λ this s p q. (not_a_set, sym this, rw (p, q)))
+  fault-forced n (HeadFault.apart {s = s} {t = t} i j one two) = (
+    diverged,
+    refl,
+    rw (is-lent first s i, is-lent second t j, not_within t s j.formed i.formed two, not_within s t i.formed j.formed one),
+  )
 
-  forced : (r : Choice) → HeadAnswer first second r → which_answers first second ≡ r
-  forced r (HeadAnswer.refused {n = n} fault) = fault-forced n fault
+  forced : (r : Result Choice Refusal) → HeadAnswer first second r → which_answers first second ≡ r
+  forced r (HeadAnswer.refused {r = y} fault) = let (x, is, e) = fault-forced (number y) fault in e ∙ ap Err (same_number x y is)
   forced r (HeadAnswer.first {s = s} {t = t} i j all) = rw (is-lent first s i, is-lent second t j, subset-from t s j.formed i.formed all)
   forced r (HeadAnswer.second {s = s} {t = t} i j lacks all) =
       rw (is-lent first s i, is-lent second t j, not_within t s j.formed i.formed lacks, subset-from s t i.formed j.formed all)
 
   -- a refusal has its fault
-  fault-of : (n : ℕ) (r : Choice) → HeadAnswer first second r → r ≡ Refused n → HeadFault first second n
-  fault-of n r (HeadAnswer.refused {n = m} fault) e = let same : m ≡ n = cc in rw (← same) fault
-  fault-of n r (HeadAnswer.first i j all) e = apart cc
-  fault-of n r (HeadAnswer.second i j lacks all) e = apart cc
+  fault-of : (x : Refusal) (r : Result Choice Refusal) → HeadAnswer first second r → r ≡ Err x → HeadFault first second (number x)
+  fault-of x r (HeadAnswer.refused {r = y} fault) e = let same : y ≡ x = cc in rw (← same) fault
+  fault-of x r (HeadAnswer.first i j all) e = apart cc
+  fault-of x r (HeadAnswer.second i j lacks all) e = apart cc
 
 pub chooses-exactly : ChoosesExactly which_answers
 chooses-exactly first second r = (λ is. rw is at (answered first second), forced first second r)
 
+head-number : (first second : List ℕ) (n : ℕ) → HeadFault first second n → IsRefusal n
+head-number first second n fault = let (x, is, _) = fault-forced first second n fault in (x, is)
+
 -- ---- what is handed back
 
 module _ (first second : List ℕ) (p q : ℕ × ℕ) where
-  handed : (r : Choice) → HeadAnswer first second r → which_answers first second ≡ r
+  handed : (r : Result Choice Refusal) → HeadAnswer first second r → which_answers first second ≡ r
       → HandedBack first second p q (our_head.part first second) (our_head.place first second p q)
-  handed First is e = rw e (HandedBack.first is)
-  handed Second is e = rw e (HandedBack.second is)
-  handed (Refused n) is e = rw e (HandedBack.none (fault-of first second n (Refused n) is refl))
+  handed (Ok First) is e = rw e (HandedBack.first is)
+  handed (Ok Second) is e = rw e (HandedBack.second is)
+  handed (Err x) is e = rw e (HandedBack.none (fault-of first second x (Err x) is refl))
 
   back-forced : (bs : List ℕ) (at : ℕ × ℕ) → HandedBack first second p q bs at → (our_head.part first second ≡ bs) × (our_head.place first second p q ≡ at)
-  back-forced bs at (HandedBack.first is) = rw (forced first second First is) (refl, refl)
-  back-forced bs at (HandedBack.second is) = rw (forced first second Second is) (refl, refl)
-  back-forced bs at (HandedBack.none {n = n} fault) = rw (fault-forced first second n fault) (refl, refl)
+  back-forced bs at (HandedBack.first is) = rw (forced first second (Ok First) is) (refl, refl)
+  back-forced bs at (HandedBack.second is) = rw (forced first second (Ok Second) is) (refl, refl)
+  back-forced bs at (HandedBack.none {n = n} fault) = let (_, _, e) = fault-forced first second n fault in rw e (refl, refl)
 
 pub hands-exactly : HandsExactly our_head
 hands-exactly first second p q bs at = (
@@ -87,8 +98,8 @@ hands-exactly first second p q bs at = (
 )
 
 -- which is chosen, by whether the first contains the second, and whether the second contains it
-abbrev chosen : Bool → Bool → Choice
-chosen b c = pick b First (pick c Second (Refused 22))
+abbrev chosen : Bool → Bool → Result Choice Refusal
+chosen b c = pick b (Ok First) (pick c (Ok Second) (Err diverged))
 
 -- ---- what follows
 
@@ -113,7 +124,8 @@ module _ (first second : List ℕ) where
         let keeps : Keeps either s t t = record { formed = j.formed; members = λ k n. absorbed (has s k n) (has t k n) (all k n) } in
         rw (← j.written) at (ResultAs.kept i j keeps j.limited)
 
-  is-united : (r : Choice) → HeadAnswer first second r → (r ≡ First → ResultAs either first second first) × (r ≡ Second → ResultAs either first second second)
+  is-united : (r : Result Choice Refusal) → HeadAnswer first second r
+      → (r ≡ Ok First → ResultAs either first second first) × (r ≡ Ok Second → ResultAs either first second second)
   is-united r (HeadAnswer.refused fault) = (λ e. apart cc, λ e. apart cc)
   is-united r (HeadAnswer.first i j all) = (λ _. first-united i j all, λ e. apart cc)
   is-united r (HeadAnswer.second i j lacks all) = (λ e. apart cc, λ _. second-united i j all)
@@ -128,11 +140,11 @@ module _ (first second : List ℕ) where
   none-exactly : Exactly (our_head.part first second ≡ []) ((n : ℕ) × HeadFault first second n)
   none-exactly = (
     λ e. go (which_answers first second) (answered first second) e,
-    λ (n, fault). rw (fault-forced first second n fault),
+    λ (n, fault). let (_, _, e) = fault-forced first second n fault in rw e,
   )
     where
-      go : (r : Choice) → HeadAnswer first second r → part_of r first second ≡ [] → (n : ℕ) × HeadFault first second n
-      go r (HeadAnswer.refused {n = n} fault) e = (n, fault)
+      go : (r : Result Choice Refusal) → HeadAnswer first second r → part_of r first second ≡ [] → (n : ℕ) × HeadFault first second n
+      go r (HeadAnswer.refused {r = x} fault) e = (number x, fault)
       go r (HeadAnswer.first {s = s} i j all) e = absurd (not-empty first s i e)
       go r (HeadAnswer.second {t = t} i j lacks all) e = absurd (not-empty second t j e)
 
@@ -166,9 +178,10 @@ pub heads : Heads
 heads = record {
   which = chooses-exactly;
   head = hands-exactly;
-  united_first = λ first second is. (is-united first second First is).0 refl;
-  united_second = λ first second is. (is-united first second Second is).1 refl;
+  faults = head-number;
+  united_first = λ first second is. (is-united first second (Ok First) is).0 refl;
+  united_second = λ first second is. (is-united first second (Ok Second) is).1 refl;
   empty = none-exactly;
   turned = same-part;
-  gtid_head = λ n. (refl, refl, refl);
+  gtid_head = λ r. (refl, refl, refl);
 }

@@ -6,6 +6,7 @@ use mathlib.Core.List.{List, [], ◌∷◌, ◌++◌}
 use mathlib.Core.Logic.{inl, inr}
 use native.Mathlib.Omega.{arith}
 use borrow.Author.Tests.{lt-ltb}
+use Rattle.misc.specs.declared.refusal.WriteError.TheVariants.{Refused}
 use Rattle.misc.specs.Refusal.{bad_gno}
 use Rattle.misc.specs.Parse.{Bytes}
 use Rattle.packets.specs.Gno.{gno_top, is_gno, Interval, interval}
@@ -33,6 +34,7 @@ use Rattle.listing.specs.EventText.{gtid_text, event_text}
 use Rattle.listing.proofs.EventTextLaws.{id-named, event-gtid}
 use Rattle.resume_set_laws.specs.History.{kept, kept_all, lent_has, member, Turn, Offering, comes_to}
 use Rattle.resume_set_laws.specs.Ours.{ours}
+use Rattle.std.specs.Prelude.{Err}
 use Rattle.promises.specs.SetFaults.{SetFault, BodyIs, TakeInFault, Names}
 use Rattle.promises.specs.Highest.{EndsAt, HasEnd, CarriedOnly, Highest}
 use Rattle.promises.proofs.SetsExact.{body-read}
@@ -64,7 +66,7 @@ module _ (end : ℕ) (over : gno_top < end) where
     unlawful : lawful es ≡ false
     unlawful = split (lawful es) (λ good. absurd (none-lawful es (lawful-holds es good) has_end)) (λ bad. bad)
 
-    untaken : (out : List ℕ) → (take_in_answers body out ≡ record { refusal = 15; len = 0 }) × (event_text 35 body ≡ refused_text 15)
+    untaken : (out : List ℕ) → (take_in_answers body out ≡ Err (Refused bad_gno)) × (event_text 35 body ≡ refused_text 15)
     untaken out =
         let (used, read) = body-read body are is in
         (rw (read, unlawful) ((zeros bad_gno).wrote out), listing-told.refused_body body 15 are (TakeInFault.gno_rule is unlawful))

@@ -7,10 +7,10 @@ use lib.IntN.{ℤ, pos, negsuc}
 use lib.ListN.{length, drop, get_or, length-append, length-drop, drop_of_length-le}
 use lib.Seq.{drop-cons}
 use Rattle.misc.specs.Refusal.{ended, negative, bad_lead}
-use Rattle.misc.specs.Parse.{Bytes, refuse, parsed, uint_read}
+use Rattle.misc.specs.Parse.{Bytes, refuse, parsed, refusal_in, read_of}
 use Rattle.misc.specs.Le.{le_at}
 use Rattle.misc.specs.Varlen.{varlen_at}
-use Rattle.misc.specs.Signed.{meant_by, signed_at, not_negative, natural_at, int_read}
+use Rattle.misc.specs.Signed.{meant_by, signed_at, not_negative, natural_at}
 use Rattle.misc.specs.Lenenc.{lenenc_at}
 use Rattle.misc.proofs.ParseLaws.{split}
 use Rattle.misc.proofs.Places.{from_first}
@@ -26,7 +26,7 @@ use Rattle.promises.specs.Exact.{RefusesExactly, IntegersExact}
 use Rattle.promises.proofs.Stops.{lenenc, Ends}
 use Rattle.promises.proofs.Gives.{Gives, le-gives, varlen-gives, lenenc-gives, then-gives, mapped-gives, parsed-gives, refuse-gives}
 use Rattle.promises.proofs.Forces.{Refuses, is-refused, lenenc-ends, lead-refused}
-use Rattle.promises.proofs.Exactly.{reads-exactly, short-exactly}
+use Rattle.promises.proofs.Exactly.{reads-exactly, answers-exactly, short-exactly}
 use Rattle.promises.proofs.TaggedRefused.{cut-ends}
 use Rattle.promises.proofs.TaggedFaulty.{cut-form, signed_sent}
 use Rattle.promises.proofs.UntaggedFaulty.{lenenc-cut, cut-lenenc}
@@ -40,8 +40,8 @@ module _ (w : ℕ) (some : 1 ≤ w) (s : List ℕ) (at : ℕ) where
   pub fixed-given : Gives (FixedFault w (drop at s)) (le_at w s at)
   fixed-given = le-gives (FixedFault w (drop at s)) s w at (λ over. FixedFault.cut (rw length-drop (omega arith)))
 
-  fixed-exact : RefusesExactly (uint_read (le_at w s at)).refusal (FixedFault w (drop at s))
-  fixed-exact = reads-exactly (λ p. (uint_read p).refusal) (FixedFault w (drop at s)) (le_at w s at) (λ r. refl) (λ v next. refl) fixed-given fixed-forced
+  fixed-exact : RefusesExactly (refusal_in (read_of (le_at w s at))) (FixedFault w (drop at s))
+  fixed-exact = answers-exactly _ _ _ (reads-exactly (FixedFault w (drop at s)) (le_at w s at) fixed-given fixed-forced)
 
 -- ---- variable-length integers
 
@@ -87,17 +87,16 @@ module _ (s : List ℕ) (at : ℕ) where
             let form = form-read s are at (n * 2 + 1) next (signed_sent s at n next e) in
             refuse-gives (NaturalFault (drop at s)) negative (rw form.is (NaturalFault.negative n (drop next s) form.holds))
 
-    varlen-exact : RefusesExactly (uint_read (varlen_at s at)).refusal (VarlenFault (drop at s))
-    varlen-exact = reads-exactly (λ p. (uint_read p).refusal) (VarlenFault (drop at s)) (varlen_at s at) (λ r. refl) (λ v next. refl)
-        (varlen-given (VarlenFault (drop at s)) VarlenFault.cut) varlen-forced
+    varlen-exact : RefusesExactly (refusal_in (read_of (varlen_at s at))) (VarlenFault (drop at s))
+    varlen-exact = answers-exactly _ _ _
+        (reads-exactly (VarlenFault (drop at s)) (varlen_at s at) (varlen-given (VarlenFault (drop at s)) VarlenFault.cut) varlen-forced)
 
-    signed-exact : RefusesExactly (int_read (signed_at s at)).refusal (VarlenFault (drop at s))
-    signed-exact =
-        reads-exactly (λ p. (int_read p).refusal) (VarlenFault (drop at s)) (signed_at s at) (λ r. refl) (λ v next. refl) signed-given signed-forced
+    signed-exact : RefusesExactly (refusal_in (read_of (signed_at s at))) (VarlenFault (drop at s))
+    signed-exact = answers-exactly _ _ _ (reads-exactly (VarlenFault (drop at s)) (signed_at s at) signed-given signed-forced)
 
-    natural-exact : RefusesExactly (uint_read (natural_at s at)).refusal (NaturalFault (drop at s))
-    natural-exact = reads-exactly (λ p. (uint_read p).refusal) (NaturalFault (drop at s)) (natural_at s at) (λ r. refl) (λ v next. refl)
-        natural-given (λ n. natural-forced (drop at s) n refl)
+    natural-exact : RefusesExactly (refusal_in (read_of (natural_at s at))) (NaturalFault (drop at s))
+    natural-exact = answers-exactly _ _ _
+        (reads-exactly (NaturalFault (drop at s)) (natural_at s at) natural-given (λ n. natural-forced (drop at s) n refl))
 
 -- ---- length-encoded ones
 
@@ -115,11 +114,11 @@ module _ (s : List ℕ) (at : ℕ) where
       is-refused bad_lead (lead-refused s at more (rw first bad)))
       (λ past. absurd (omega (arith, ap length is, length-drop at s)))
 
-  lenenc-exact : Bytes s → RefusesExactly (uint_read (lenenc_at s at)).refusal (LenencFault (drop at s))
-  lenenc-exact are = reads-exactly (λ p. (uint_read p).refusal) (LenencFault (drop at s)) (lenenc_at s at) (λ r. refl) (λ v next. refl)
+  lenenc-exact : Bytes s → RefusesExactly (refusal_in (read_of (lenenc_at s at))) (LenencFault (drop at s))
+  lenenc-exact are = answers-exactly _ _ _ (reads-exactly (LenencFault (drop at s)) (lenenc_at s at)
       (lenenc-gives (LenencFault (drop at s)) s at (are at) cut
       (λ inside bad. rw (drop-cons s at 0 inside) (LenencFault.bad_lead (get_or s at 0) _ bad)))
-      (λ n. lenenc-forced (drop at s) n refl)
+      (λ n. lenenc-forced (drop at s) n refl))
     where
       cut : Ends lenenc s at → LenencFault (drop at s) 1
       cut ends = split (length s) at (λ past. rw (drop_of_length-le s {i = at} past) LenencFault.nothing)

@@ -7,6 +7,7 @@
 -- the language: what is refused has its case, and a case forces its number
 pub mod Gives
 pub mod Forces
+pub mod Numbers
 pub mod Exactly
 -- the layouts of records: what is laid out is read, what is read is laid out
 pub mod TaggedSaid

@@ -7,10 +7,12 @@ use native.Mathlib.Omega.{arith}
 use lib.Dec.{leb, eqb}
 use lib.ListN.{length}
 use borrow.Author.Tests.{leb-true, leb-false, eqb-true, eqb-false}
-use Rattle.misc.specs.Refusal.{Refusal, full, crowded}
+use Rattle.misc.specs.declared.refusal.Refusal.{Refusal}
+use Rattle.misc.specs.Refusal.{full, crowded}
+use Rattle.misc.specs.Parse.{refusal_in}
 use Rattle.packets.proofs.Tests.{split}
 use Rattle.previous_gtids_event.specs.Entry.{Entry}
-use Rattle.gtid_sets.specs.Limits.{max_entries, max_intervals, intervals, crowds, fine, breaks, judged_as, limits, EntryOver}
+use Rattle.gtid_sets.specs.Limits.{max_entries, max_intervals, intervals, crowds, Judged, fine, breaks, judged_as, limits, EntryOver}
 use Rattle.gtid_sets.proofs.LimitLaws.{max_entries-is, max_intervals-is, max_of_entry-is, entry-over, over-entry, limits-crowded, limits-from, too-many-entries}
 use Rattle.gtid_sets.proofs.LimitLaws.{too-many-intervals}
 use Rattle.promises.specs.Exact.{Exactly}
@@ -40,6 +42,10 @@ module _ (s : List Entry) where
       (λ more. let a = leb-false _ _ more in many lower (inl (omega (arith, max_entries-is))) (too-many-entries s fair a)))
       (λ some. let ne = eqb-false (crowds s) 0 some in over (counted ne) (limits-crowded s ne))
 
+  -- as a number, 0 for none
+  abbrev said : Judged → ℕ
+  said j = refusal_in (judged_as j)
+
   -- two of them are never the same
   other : {X : Type 0} (a b : ℕ) → a < b → a ≡ b → X
   other a b less same = absurd (omega arith)
@@ -52,25 +58,25 @@ module _ (s : List Entry) where
   entry_limit = (
     λ h. limits-kinds
         (λ e _. e)
-        (λ _ _ is. other 16 17 (omega arith) (ap judged_as (sym is ∙ h)))
-        (λ _ _ _ is. other 0 17 (omega arith) (ap judged_as (sym is ∙ h))),
+        (λ _ _ is. other 16 17 (omega arith) (ap said (sym is ∙ h)))
+        (λ _ _ _ is. other 0 17 (omega arith) (ap said (sym is ∙ h))),
     λ e. limits-crowded s (counts e),
   )
 
   pub other_limits : Exactly (limits s ≡ breaks full) ((EntryOver 1024 s → ⊥) × ((384 < length s) ⊎ (2560 < intervals s)))
   other_limits = (
     λ h. limits-kinds
-        (λ _ is. other 16 17 (omega arith) (ap judged_as (sym h ∙ is)))
+        (λ _ is. other 16 17 (omega arith) (ap said (sym h ∙ is)))
         (λ none many _. (none, many))
-        (λ _ _ _ is. other 0 16 (omega arith) (ap judged_as (sym is ∙ h))),
+        (λ _ _ _ is. other 0 16 (omega arith) (ap said (sym is ∙ h))),
     λ (none, many). limits-kinds (λ e _. absurd (none e)) (λ _ _ is. is) (λ _ few less _. absurd (both few less many)),
   )
 
   pub set_limits : Exactly (limits s ≡ fine) ((EntryOver 1024 s → ⊥) × (length s ≤ 384) × (intervals s ≤ 2560))
   set_limits = (
     λ h. limits-kinds
-        (λ _ is. other 0 17 (omega arith) (ap judged_as (sym h ∙ is)))
-        (λ _ _ is. other 0 16 (omega arith) (ap judged_as (sym h ∙ is)))
+        (λ _ is. other 0 17 (omega arith) (ap said (sym h ∙ is)))
+        (λ _ _ is. other 0 16 (omega arith) (ap said (sym h ∙ is)))
         (λ none few less _. (none, few, less)),
     λ (none, few, less). limits-kinds (λ e _. absurd (none e)) (λ _ many _. absurd (both few less many)) (λ _ _ _ is. is),
   )

@@ -6,7 +6,7 @@ use mathlib.Core.List.{List}
 use lib.Dec.{eqb}
 use borrow.Author.Tests.{eqb-true, eq-eqb, ne_eqb}
 use Rattle.misc.specs.Refusal.{absent_id}
-use Rattle.misc.specs.Parse.{Bytes, parsed}
+use Rattle.misc.specs.Parse.{Bytes, parsed, refusal_in}
 use Rattle.misc.proofs.ParseLaws.{pick-either}
 use Rattle.packets.proofs.Tests.{split, clash}
 use Rattle.gtid_event.specs.Event.{tagged, type_of}
@@ -25,7 +25,7 @@ use Rattle.promises.specs.SetFaults.{key_of, sent_id, NamingFault, Names}
 use Rattle.promises.specs.Exact.{RefusesExactly}
 use Rattle.promises.proofs.Gives.{Gives}
 use Rattle.promises.proofs.Forces.{Refuses, is-refused, same-refused}
-use Rattle.promises.proofs.Exactly.{reads-exactly}
+use Rattle.promises.proofs.Exactly.{reads-exactly, answers-exactly}
 use Rattle.promises.proofs.Demand2.{laid-record-read, records-mean}
 use Rattle.promises.proofs.EventExact.{event-refused, event-faulty}
 
@@ -66,8 +66,8 @@ module _ (type : ℕ) (body : List ℕ) where
         let (is, lacks) = lacking type x none in
         rw this (NamingFault.no_id laid is lacks))
 
-    pub naming-exact : RefusesExactly (gtid_read (named type body)).refusal (NamingFault type body)
-    naming-exact = reads-exactly (λ p. (gtid_read p).refusal) (NamingFault type body) (named type body) (λ r. refl) (λ x used. refl) naming-faulty naming-refused
+    pub naming-exact : RefusesExactly (refusal_in (gtid_read (named type body))) (NamingFault type body)
+    naming-exact = answers-exactly _ _ _ (reads-exactly (NamingFault type body) (named type body) naming-faulty naming-refused)
 
     -- what is not refused is laid out, and if it is tagged was sent with its id
     pub named-laid : (x : Seen) (used : ℕ) → named type body ≡ parsed x used

@@ -11,7 +11,6 @@ use lib.ListN.{length}
 use borrow.Author.Tests.{eqb-true, eqb-false}
 use Rattle.misc.specs.Refusal.{number}
 use Rattle.misc.specs.Parse.{Bytes, Parse, refuse, parsed}
-use Rattle.misc.specs.declared.Wrote.{Wrote}
 use Rattle.misc.specs.Body.{body_limit}
 use Rattle.misc.proofs.BodyLaws.{body_limit-is}
 use Rattle.packets.proofs.Tests.{split}
@@ -25,7 +24,7 @@ use Rattle.resume_set_laws.specs.History.{Turn, Offering}
 use Rattle.promises.specs.Faults.{EventFault}
 use Rattle.promises.specs.BodyFaults.{BodyFault}
 use Rattle.promises.specs.Meaning.{RecordLaid}
-use Rattle.promises.specs.Exact.{Exactly, RefusesExactly, WritesExactly, OffersExactly}
+use Rattle.promises.specs.Exact.{Exactly, RefusesExactly, NumbersExactly, OffersExactly}
 use Rattle.promises.proofs.Forces.{refused-not-read}
 use Rattle.promises.proofs.EventExact.{event-refused, event-faulty}
 use Rattle.promises.proofs.BodyFaults.{body-faults}
@@ -43,19 +42,19 @@ accepted {refusal} exactly = (
   λ none. split (eqb refusal 0) (λ zero. eqb-true refusal 0 zero) (λ some. absurd (none refusal ((exactly refusal).0 (refl, eqb-false refusal 0 some)))),
 )
 
-pub one-write-case : {wrote : Wrote} {Fault : ℕ → ℕ → Type 0} → WritesExactly wrote Fault → {n m len other : ℕ} → Fault n len → Fault m other
+pub one-write-case : {refusal needed : ℕ} {Fault : ℕ → ℕ → Type 0} → NumbersExactly refusal needed Fault → {n m len other : ℕ} → Fault n len → Fault m other
     → (n ≡ m) × (len ≡ other)
 one-write-case exactly {n} {m} {len} {other} a b =
     let (first, long, _) = (exactly n len).1 a in
     let (second, wide, _) = (exactly m other).1 b in
     (sym first ∙ second, sym long ∙ wide)
 
-pub accepted-write : {wrote : Wrote} {Fault : ℕ → ℕ → Type 0} → WritesExactly wrote Fault → Exactly (wrote.refusal ≡ 0) ((n len : ℕ) → Fault n len → ⊥)
-accepted-write {wrote} exactly = (
+pub accepted-write : {refusal needed : ℕ} {Fault : ℕ → ℕ → Type 0} → NumbersExactly refusal needed Fault → Exactly (refusal ≡ 0) ((n len : ℕ) → Fault n len → ⊥)
+accepted-write {refusal} {needed} exactly = (
   λ zero n len fault. let (is, _, some) = (exactly n len).1 fault in some (sym is ∙ zero),
-  λ none. split (eqb wrote.refusal 0)
-      (λ zero. eqb-true wrote.refusal 0 zero)
-      (λ some. absurd (none wrote.refusal wrote.len ((exactly wrote.refusal wrote.len).0 (refl, refl, eqb-false wrote.refusal 0 some)))),
+  λ none. split (eqb refusal 0)
+      (λ zero. eqb-true refusal 0 zero)
+      (λ some. absurd (none refusal needed ((exactly refusal needed).0 (refl, refl, eqb-false refusal 0 some)))),
 )
 
 -- ---- of offers: two that answer exactly by the cases are one

@@ -21,7 +21,7 @@ use Rattle.abi.specs.Flat.{read_present}
 use Rattle.promises.specs.TaggedLayout.{Sent, Value, FieldsLaid, id_of, sends, TaggedLaid}
 use Rattle.promises.specs.Meaning.{RecordLaid}
 use Rattle.promises.specs.Exact.{Exactly}
-use Rattle.promises.specs.Presence.{Has, Presence}
+use Rattle.promises.specs.Presence.{Has, bits_in, Presence}
 use Rattle.promises.proofs.TaggedSaid.{listed}
 use Rattle.promises.proofs.Demand2.{laid-record-read, records-mean}
 use Rattle.promises.proofs.Naming.{written-named}
@@ -57,12 +57,12 @@ has-sent k (FieldsLaid.field {x = x} form value rest) (inl is) = rw (eq-eqb (id_
 has-sent k (FieldsLaid.field {x = x} form value rest) (inr more) = rw (has-sent k rest more) (or-true (eqb (id_of x) k))
 
 bits : (s : List ℕ) (x : Seen) (used id : ℕ) → length s ≤ body_limit → (laid : TaggedLaid s x used) → id < 12
-    → Exactly (has_bit id (gtid_read (seen 42 s)).present ≡ true) (Has id laid.fields_are)
+    → Exactly (has_bit id (bits_in (gtid_read (seen 42 s))) ≡ true) (Has id laid.fields_are)
 bits s x used id few laid low =
     let told = laid.told in
     let read : seen 42 s ≡ parsed x used = laid-record-read 42 s x used (RecordLaid.tagged few refl laid) in
-    let bit : has_bit id (gtid_read (seen 42 s)).present ≡ sends id told =
-    ap (λ (p : Parse Seen). has_bit id (gtid_read p).present) read ∙ bit-of id x.present
+    let bit : has_bit id (bits_in (gtid_read (seen 42 s))) ≡ sends id told =
+    ap (λ (p : Parse Seen). has_bit id (bits_in (gtid_read p))) read ∙ bit-of id x.present
     ∙ ap (λ (y : Seen). get_or y.present id false) laid.is ∙ sym (listed told id low) in (
       λ set. sent-has id laid.fields_are (sym bit ∙ set),
       λ there. bit ∙ has-sent id laid.fields_are there,
@@ -70,7 +70,7 @@ bits s x used id few laid low =
 
 -- ---- all of them
 
-archive : (p : Parse Seen) (room : ℕ) → read_present p room ≡ pick (leb 116 room) (gtid_read p).present 0
+archive : (p : Parse Seen) (room : ℕ) → read_present p room ≡ pick (leb 116 room) (bits_in (gtid_read p)) 0
 archive (refuse r) room = split (leb 116 room) (λ h. rw h) (λ h. rw h)
 archive (parsed x next) room = refl
 
@@ -78,18 +78,18 @@ laid-twelve : (type : ℕ) (s : List ℕ) (x : Seen) (used : ℕ) → RecordLaid
 laid-twelve type s x used (RecordLaid.untagged few is laid none) = rw none
 laid-twelve type s x used (RecordLaid.tagged few is laid) = rw laid.is
 
-twelve : (type : ℕ) (s : List ℕ) → Bytes s → (gtid_read (seen type s)).present < 2 ^ 12
+twelve : (type : ℕ) (s : List ℕ) → Bytes s → bits_in (gtid_read (seen type s)) < 2 ^ 12
 twelve type s are = go (seen type s) refl
   where
-    go : (p : Parse Seen) → seen type s ≡ p → (gtid_read p).present < 2 ^ 12
+    go : (p : Parse Seen) → seen type s ≡ p → bits_in (gtid_read p) < 2 ^ 12
     go (refuse r) e = omega arith
     go (parsed x used) e = bits_below 12 x.present (omega (arith, laid-twelve type s x used ((records-mean type s x used are).0 e)))
 
-tagged_alone : (type : ℕ) (s : List ℕ) → (type ≡ 42 → ⊥) → (gtid_read (seen type s)).present ≡ 0
+tagged_alone : (type : ℕ) (s : List ℕ) → (type ≡ 42 → ⊥) → bits_in (gtid_read (seen type s)) ≡ 0
 unfolding bits_of
 tagged_alone type s other = go (seen type s) refl
   where
-    go : (p : Parse Seen) → seen type s ≡ p → (gtid_read p).present ≡ 0
+    go : (p : Parse Seen) → seen type s ≡ p → bits_in (gtid_read p) ≡ 0
     go (refuse r) e = refl
     go (parsed x used) e = seen-parsed type s e (λ _ _ v plain is. rw is) (λ _ is _. absurd (other is))
 

@@ -1,15 +1,16 @@
 -- The statements of `specs/Exact.antt` for the reader of Previous-GTIDs bodies.
 use Prim.Native.Nat.{ℕ, zero, suc, ◌+◌, ◌-◌, ◌≤◌, ◌<◌}
 use mathlib.Core.Path.{◌≡◌, refl, sym, ap, subst, ◌∙◌}
-use mathlib.Core.Bool.{Bool, false}
+use mathlib.Core.Bool.{Bool}
 use mathlib.Core.List.{List, [], ◌∷◌, ◌++◌}
 use native.Mathlib.Omega.{arith}
 use lib.Dec.{eqb, leb}
 use lib.ListN.{length, drop}
 use borrow.Author.Tests.{le-leb, lt-leb, ne_eqb}
 use Rattle.misc.specs.Pick.{pick}
-use Rattle.misc.specs.Refusal.{Refusal, number}
-use Rattle.misc.specs.Parse.{Bytes, Parse, refuse, parsed, and_then, many, part, refusal_of}
+use Rattle.misc.specs.declared.refusal.Refusal.{Refusal}
+use Rattle.misc.specs.Refusal.{number}
+use Rattle.misc.specs.Parse.{Bytes, Parse, refuse, parsed, and_then, many, part, refusal_of, refusal_in}
 use Rattle.misc.specs.Body.{body_limit, of_body}
 use Rattle.misc.specs.Le.{le_of, le_at}
 use Rattle.misc.proofs.ParseLaws.{split, never, no_zero}
@@ -23,42 +24,43 @@ use Rattle.previous_gtids_event.specs.Previous.{entry_at, says_tagged, says_coun
 use Rattle.previous_gtids_event.proofs.Laying.{header-reads, entries-read}
 use Rattle.previous_gtids_event.proofs.Accepting.{header-found, entries-found}
 use Rattle.previous_gtids_reader.specs.declared.Cursor.{Cursor}
-use Rattle.previous_gtids_reader.specs.declared.Step.{Step}
-use Rattle.previous_gtids_reader.specs.Steps.{cursor_at, cursor_of, start_of, refused_step, end_step, entry_step, stepped, headed_step, step_of, cursor_after, step_after}
+use Rattle.previous_gtids_reader.specs.Steps.{cursor_at, start_of, entry_step, stepped, headed_step, onwards, step_of, cursor_after, step_after}
 use Rattle.previous_gtids_reader.proofs.StepLaws.{after_none, after_next, after-still, step_after_lem}
+use Rattle.std.specs.Prelude.{Some, None, Ok, Err}
 use Rattle.promises.specs.PlainFaults.{FixedFault, OfBody, HeadedFault, NumberFault}
 use Rattle.promises.specs.Exact.{RefusesExactly, ReaderExact}
 use Rattle.promises.proofs.Forces.{many-stops}
 use Rattle.promises.proofs.IntegersExact.{fixed-given, fixed-forced}
 use Rattle.promises.proofs.BodyForced.{entry-forced}
+use Rattle.promises.proofs.Exactly.{answers-exactly}
 use Rattle.promises.proofs.BodiesExact.{of-body-exact, entry-given, headed, headed-exact}
 
 -- ---- the start
 
-start-exact : (s : List ℕ) → RefusesExactly (start_of s).refusal (OfBody s (FixedFault 8 s))
+start-exact : (s : List ℕ) → RefusesExactly (refusal_in (start_of s)) (OfBody s (FixedFault 8 s))
 unfolding start_of
-start-exact s = of-body-exact s (le_at 8 s 0) (FixedFault 8 s) (λ p. (cursor_of p).refusal) (λ r. refl) (λ h next. refl)
-    (fixed-given 8 (omega arith) s 0) (fixed-forced 8 (omega arith) s 0)
+start-exact s = answers-exactly _ _ _
+    (of-body-exact s (le_at 8 s 0) (FixedFault 8 s) (fixed-given 8 (omega arith) s 0) (fixed-forced 8 (omega arith) s 0))
 
 -- ---- one step
 
 module _ (s : List ℕ) (c : Cursor) where
-  step-says : (step_of s c).entry.refusal ≡ refusal_of (of_body s (headed c.left s c.at))
+  step-says : refusal_in (step_of s c) ≡ refusal_of (of_body s (headed c.left s c.at))
   unfolding step_of
   step-says = tests.split (leb (length s) body_limit) (λ short. rw short (header-says (le_at 8 s 0))) (λ long. rw long)
     where
-      entry-says : (p : Parse Entry) → (stepped c.left p).entry.refusal ≡ refusal_of p
+      entry-says : (p : Parse Entry) → refusal_in (stepped c.left p) ≡ refusal_of p
       entry-says (refuse r) = refl
-      entry-says (parsed (entry k is) next) = refl
+      entry-says (parsed e next) = refl
 
-      header-says : (p : Parse ℕ) → (headed_step s c p).entry.refusal
+      header-says : (p : Parse ℕ) → refusal_in (headed_step s c p)
           ≡ refusal_of (and_then p (λ header next. pick (eqb c.left 0) (parsed (entry [] []) 0) (entry_at (says_tagged header) s c.at)))
       header-says (refuse r) = refl
       header-says (parsed h next) =
           tests.split (eqb c.left 0) (λ none. rw none) (λ some. rw some (entry-says (entry_at (says_tagged h) s c.at)))
 
-  step-exact : Bytes s → RefusesExactly (step_of s c).entry.refusal (OfBody s (HeadedFault c.left c.at s))
-  step-exact are = rw step-says (headed-exact c.left s c.at are (λ p. refusal_of p) (λ r. refl) (λ e next. refl))
+  step-exact : Bytes s → RefusesExactly (refusal_in (step_of s c)) (OfBody s (HeadedFault c.left c.at s))
+  step-exact are = rw step-says (headed-exact c.left s c.at are)
 
 -- ---- steps one after another
 
@@ -88,13 +90,13 @@ ahead-parsed (parsed rest last) e f fs to h = cc
 
 module _ (s : List ℕ) (short : length s ≤ body_limit) (h : ℕ) (read : le_at 8 s 0 ≡ parsed h 8) where
   -- a step, where the header is read
-  step_is : (left at : ℕ) → step_of s (cursor_at left at) ≡ pick (eqb left 0) (end_step at) (stepped left (entry_at (says_tagged h) s at))
+  step_is : (left at : ℕ) → step_of s (cursor_at left at) ≡ pick (eqb left 0) (Ok None) (stepped left (entry_at (says_tagged h) s at))
   unfolding step_of
   step_is left at = rw (le-leb (length s) body_limit short, read)
 
   -- the step behind k others says this
   abbrev said : ℕ → Cursor → ℕ
-  said k c = (step_of s (cursor_after s k c)).entry.refusal
+  said k c = refusal_in (step_of s (cursor_after s k c))
 
   -- of the next entries one is refused, with this number, after k others at most
   record Hits (k left at n : ℕ) : Type 0 where
@@ -107,16 +109,16 @@ module _ (s : List ℕ) (short : length s ≤ body_limit) (h : ℕ) (read : le_a
     stops : entry_at (says_tagged h) s to ≡ refuse r
     is : number r ≡ n
 
-  still : (k : ℕ) (c : Cursor) → (step_of s c).more ≡ false → said k c ≡ (step_of s c).entry.refusal
-  still k c none = ap (λ (d : Cursor). (step_of s d).entry.refusal) (after-still s c none k)
+  still : (k : ℕ) (c : Cursor) → onwards c (step_of s c) ≡ c → said k c ≡ refusal_in (step_of s c)
+  still k c none = ap (λ (d : Cursor). refusal_in (step_of s d)) (after-still s c none k)
 
   -- the entry at a place is refused: so is every step from there on
   refused-hits : (k left at : ℕ) (r : Refusal) → entry_at (says_tagged h) s at ≡ refuse r
       → RefusesExactly (said k (cursor_at (suc left) at)) (Hits k (suc left) at)
   refused-hits k left at r e =
-      let here : step_of s (cursor_at (suc left) at) ≡ refused_step (number r) = step_is (suc left) at ∙ rw (ne_eqb (suc left) 0 (λ none. omega arith), e) in
+      let here : step_of s (cursor_at (suc left) at) ≡ Err r = step_is (suc left) at ∙ rw (ne_eqb (suc left) 0 (λ none. omega arith), e) in
       known-exactly (said k (cursor_at (suc left) at)) (number r) (Hits k (suc left) at)
-      (still k (cursor_at (suc left) at) (ap (λ (x : Step). x.more) here) ∙ ap (λ (x : Step). x.entry.refusal) here)
+      (still k (cursor_at (suc left) at) (ap (onwards (cursor_at (suc left) at)) here) ∙ ap refusal_in here)
       (no_zero r)
       (record { es = []; to = at; r = r; passed = many-none (entry_at (says_tagged h) s) at; early = omega arith; counted = omega arith; stops = e; is = refl })
       (λ n hit. go n hit.es hit.to hit.passed hit.r hit.stops hit.is)
@@ -134,16 +136,16 @@ module _ (s : List ℕ) (short : length s ≤ body_limit) (h : ℕ) (read : le_a
           never (sym cut ∙ passed)
 
   -- it is handed out
-  handed : (left at : ℕ) (e : Entry) (next : ℕ) → entry_at (says_tagged h) s at ≡ parsed e next → step_of s (cursor_at (suc left) at) ≡ entry_step left e next
+  handed : (left at : ℕ) (e : Entry) (next : ℕ) → entry_at (says_tagged h) s at ≡ parsed e next
+      → step_of s (cursor_at (suc left) at) ≡ Ok (Some (entry_step left e next))
   handed left at e next p = step_is (suc left) at
-      ∙ rw (ne_eqb (suc left) 0 (λ none. omega arith), p) (ap (λ (n : ℕ). entry_step n e next) (let one : suc left - 1 ≡ left = omega arith in one))
+      ∙ rw (ne_eqb (suc left) 0 (λ none. omega arith), p) (ap (λ (n : ℕ). Ok (Some (entry_step n e next))) (let one : suc left - 1 ≡ left = omega arith in one))
 
   first-hands : (left at : ℕ) (e : Entry) (next : ℕ) → entry_at (says_tagged h) s at ≡ parsed e next
       → RefusesExactly (said 0 (cursor_at (suc left) at)) (Hits 0 (suc left) at)
-  first-hands left at (entry j is) next p =
+  first-hands left at e next p =
       accepts-exactly (said 0 (cursor_at (suc left) at)) (Hits 0 (suc left) at)
-      (ap (λ (d : Cursor). (step_of s d).entry.refusal) (after_none s (cursor_at (suc left) at))
-      ∙ ap (λ (x : Step). x.entry.refusal) (handed left at (entry j is) next p))
+      (ap (λ (d : Cursor). refusal_in (step_of s d)) (after_none s (cursor_at (suc left) at)) ∙ ap refusal_in (handed left at e next p))
       (λ n hit. go hit.es hit.to hit.passed hit.early hit.r hit.stops)
     where
       go : (es : List Entry) (to : ℕ) → many (entry_at (says_tagged h) s) (length es) at ≡ parsed es to → length es ≤ 0 → (x : Refusal)
@@ -159,7 +161,7 @@ module _ (s : List ℕ) (short : length s ≤ body_limit) (h : ℕ) (read : le_a
       → RefusesExactly (said k (cursor_at left next)) (Hits k left next) → RefusesExactly (said (suc k) (cursor_at (suc left) at)) (Hits (suc k) (suc left) at)
   next-hands k left at e next p rest =
       map-exactly (said (suc k) (cursor_at (suc left) at)) (said k (cursor_at left next)) (Hits (suc k) (suc left) at) (Hits k left next)
-      (ap (λ (d : Cursor). (step_of s d).entry.refusal) (after_next s k (cursor_at (suc left) at) ∙ rw (handed left at e next p)))
+      (ap (λ (d : Cursor). refusal_in (step_of s d)) (after_next s k (cursor_at (suc left) at) ∙ rw (handed left at e next p)))
       rest
       (λ n hit. record {
         es = e ∷ hit.es;
@@ -198,7 +200,7 @@ module _ (s : List ℕ) (short : length s ≤ body_limit) (h : ℕ) (read : le_a
   hits-exact : (k left at : ℕ) → RefusesExactly (said k (cursor_at left at)) (Hits k left at)
   hits-exact k zero at =
       accepts-exactly (said k (cursor_at 0 at)) (Hits k 0 at)
-      (still k (cursor_at 0 at) (ap (λ (x : Step). x.more) (step_is 0 at)) ∙ ap (λ (x : Step). x.entry.refusal) (step_is 0 at))
+      (still k (cursor_at 0 at) (ap (onwards (cursor_at 0 at)) (step_is 0 at)) ∙ ap refusal_in (step_is 0 at))
       (λ n hit. omega (arith, hit.counted))
   hits-exact zero (suc left) at = at_first left at (entry_at (says_tagged h) s at) refl
   hits-exact (suc k) (suc left) at = further k left at (hits-exact k left) (entry_at (says_tagged h) s at) refl
@@ -238,32 +240,32 @@ module _ (s : List ℕ) (short : length s ≤ body_limit) (h : ℕ) (read : le_a
           is = this;
         }
 
-    start_is : start_of s ≡ cursor_at (says_count h) 8
+    start_is : start_of s ≡ Ok (cursor_at (says_count h) 8)
     unfolding start_of
     start_is = rw (le-leb (length s) body_limit short, read)
 
-    read-exact : RefusesExactly (step_after s index).entry.refusal (OfBody s (NumberFault index s))
+    read-exact : RefusesExactly (refusal_in (step_after s index)) (OfBody s (NumberFault index s))
     read-exact =
-        map-exactly (step_after s index).entry.refusal (said index (cursor_at (says_count h) 8)) (OfBody s (NumberFault index s)) (Hits index (says_count h) 8)
-        (ap (λ (x : Step). x.entry.refusal) (step_after_lem s index) ∙ ap (λ (c : Cursor). said index c) start_is)
+        map-exactly (refusal_in (step_after s index)) (said index (cursor_at (says_count h) 8)) (OfBody s (NumberFault index s)) (Hits index (says_count h) 8)
+        (ap refusal_in (step_after_lem s index (cursor_at (says_count h) 8) start_is))
         (hits-exact index (says_count h) 8) hit-fault fault-hit
 
 module _ (s : List ℕ) (index : ℕ) where
   -- where the header isn't read, every step says so
-  long-exact : body_limit < length s → RefusesExactly (step_after s index).entry.refusal (OfBody s (NumberFault index s))
-  unfolding step_after step_of
+  long-exact : body_limit < length s → RefusesExactly (refusal_in (step_after s index)) (OfBody s (NumberFault index s))
+  unfolding step_after start_of
   long-exact long =
-      known-exactly (step_after s index).entry.refusal 11 (OfBody s (NumberFault index s)) (rw (lt-leb (length s) body_limit long)) (λ none. omega arith)
+      known-exactly (refusal_in (step_after s index)) 11 (OfBody s (NumberFault index s)) (rw (lt-leb (length s) body_limit long)) (λ none. omega arith)
       (OfBody.too_long long) only
     where
       only : (n : ℕ) → OfBody s (NumberFault index s) n → n ≡ 11
       only n (OfBody.too_long _) = refl
       only n (OfBody.in_part short _) = absurd (omega arith)
 
-  cut-exact : Bytes s → length s ≤ body_limit → length s < 8 → RefusesExactly (step_after s index).entry.refusal (OfBody s (NumberFault index s))
-  unfolding step_after step_of
+  cut-exact : Bytes s → length s ≤ body_limit → length s < 8 → RefusesExactly (refusal_in (step_after s index)) (OfBody s (NumberFault index s))
+  unfolding step_after start_of
   cut-exact are short few =
-      known-exactly (step_after s index).entry.refusal 1 (OfBody s (NumberFault index s)) (rw (le-leb (length s) body_limit short, le-gone 8 s 0 few))
+      known-exactly (refusal_in (step_after s index)) 1 (OfBody s (NumberFault index s)) (rw (le-leb (length s) body_limit short, le-gone 8 s 0 few))
       (λ none. omega arith) (OfBody.in_part short (NumberFault.cut_header few)) only
     where
       only : (n : ℕ) → OfBody s (NumberFault index s) n → n ≡ 1
@@ -275,7 +277,7 @@ module _ (s : List ℕ) (index : ℕ) where
           (record { is = whole; inside = omega arith }) in
           never (sym (le-gone 8 s 0 few) ∙ told)
 
-  number-exact : Bytes s → RefusesExactly (step_after s index).entry.refusal (OfBody s (NumberFault index s))
+  number-exact : Bytes s → RefusesExactly (refusal_in (step_after s index)) (OfBody s (NumberFault index s))
   number-exact are = split (length s) body_limit
       (λ short. split 8 (length s) (λ there. read-exact s short (le_of (part s 0 8)) (le-here 8 s 0 there) are index) (λ few. cut-exact are short few))
       long-exact

@@ -8,7 +8,8 @@ use lib.ListN.{length, take, length-replicate}
 use lib.Seq.{take_all, take-append_seam}
 use lib.Dec.{eqb}
 use borrow.Author.Tests.{ne_eqb, eqb-true, eqb-false}
-use Rattle.misc.specs.Refusal.{Refusal, number, not_writable}
+use Rattle.misc.specs.declared.refusal.Refusal.{Refusal}
+use Rattle.misc.specs.Refusal.{number, not_writable}
 use Rattle.misc.specs.Output.{refused, bytes}
 use Rattle.misc.proofs.ParseLaws as parse-laws
 use Rattle.gtid_sets.specs.Limits.{intervals}
@@ -212,13 +213,13 @@ archive-refuses : (bs set : List ℕ) → Exactly (flat_adds bs set ≡ no_numbe
 archive-refuses bs set = (λ e. found (ap (λ (l : Line). l.refusal) e), forced)
   where
     forced : NoReport bs 12 → flat_adds bs set ≡ no_numbers 12
-    forced (NoReport.other_size none) = (adds_none bs set 12 (no-report bs none) (λ h. omega arith)).0
+    forced (NoReport.other_size none) = (adds_none bs set (no-report bs none)).0
 
     found : (flat_adds bs set).refusal ≡ 12 → NoReport bs 12
     found e = place-cases bs
         NoReport.other_size
         (λ long full.
-        let told = ap (λ (l : Line). l.refusal) (adds_none bs set 11 (no_place bs long full) (λ h. omega arith)).0 in
+        let told = ap (λ (l : Line). l.refusal) (adds_none bs set (no_place bs long full)).0 in
         absurd (omega arith))
         (λ long free. absurd (line-not-12 (lent_set set) (sym (ap (λ (l : Line). l.refusal) (adds-here bs set long free).0) ∙ e)))
 
@@ -270,8 +271,8 @@ module _ (bs : List ℕ) where
 
 archive-keeps : (bs set : List ℕ) → ((flat_adds bs set).refusal ≡ 0 → ⊥) → ((flat_adds bs set).refusal ≡ 14 → ⊥) → flat_leaves bs set ≡ bs
 archive-keeps bs set some other = place-cases bs
-    (λ none. (adds_none bs set 12 (no-report bs none) (λ h. omega arith)).1)
-    (λ long full. (adds_none bs set 11 (no_place bs long full) (λ h. omega arith)).1)
+    (λ none. (adds_none bs set (no-report bs none)).1)
+    (λ long full. (adds_none bs set (no_place bs long full)).1)
     (λ long free. read (lent_set set) (ap (λ (l : Line). l.refusal) (adds-here bs set long free).0))
   where
     read : (x : Lent) → (flat_adds bs set).refusal ≡ (line_of x).refusal → flat_leaves bs set ≡ bs

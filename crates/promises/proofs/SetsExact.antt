@@ -5,10 +5,13 @@ use mathlib.Core.Bool.{true, false, ◌&&◌, and-false}
 use mathlib.Core.List.{List, ◌++◌}
 use native.Mathlib.Omega.{arith}
 use lib.Dec.{eqb, leb}
-use lib.ListN.{length, drop}
+use lib.ListN.{length, drop, replicate, length-replicate}
 use borrow.Author.Tests.{leb-true, leb-false, le-leb, lt-leb, eqb-true, eqb-false, ne_eqb}
-use Rattle.misc.specs.Refusal.{Refusal, number, too_long, not_a_set, bad_gno, full, crowded}
-use Rattle.misc.specs.Parse.{Bytes, Parse, refuse, parsed}
+use Rattle.misc.specs.declared.refusal.Refusal.{Refusal}
+use Rattle.misc.specs.declared.refusal.WriteError.{WriteError}
+use Rattle.misc.specs.declared.refusal.WriteError.TheVariants.{Refused, NoRoom}
+use Rattle.misc.specs.Refusal.{number, too_long, not_a_set, bad_gno, full, crowded, error_number, error_needed}
+use Rattle.misc.specs.Parse.{Bytes, Parse, refuse, parsed, refusal_in}
 use Rattle.misc.specs.Body.{body_limit}
 use Rattle.misc.specs.Output.{refused, bytes, output_of}
 use Rattle.misc.proofs.ParseLaws.{pick-either, pick-parsed}
@@ -34,15 +37,16 @@ use Rattle.set_join.specs.Answers.{contained, saved_if, taken_in, output_for, ou
 use Rattle.resume_set.specs.Answers.{set_read, says, event_of, fitting, offered_of, offered}
 use Rattle.resume_set.specs.declared.Offered.{Offered}
 use Rattle.listing.specs.SetText.{set_text, listed_set}
-use Rattle.resume_set.specs.declared.Offered.TheVariants.{Refused}
 use Rattle.resume_set_laws.specs.History.{lent_has, member}
 use Rattle.resume_set_laws.specs.Ours.{ours}
 use Rattle.resume_set_laws.proofs.OneOffer.{out-refused}
+use Rattle.std.specs.Prelude.{Result, Err}
 use Rattle.promises.specs.PlainFaults.{ShortFault}
 use Rattle.promises.specs.SetFaults.{SetFault, BodyIs, TakeInFault, TakenInAs, key_of, Names, Accepts, OfferFault, OfferAnswer}
-use Rattle.promises.specs.Exact.{RefusesExactly, SetsExact, OffersExactly, AsksExactly, asks}
+use Rattle.promises.specs.Exact.{RefusesExactly, SetsExact, OffersExactly, OfferFaultsAnswered, AsksExactly, says_yes, asks}
 use Rattle.promises.proofs.Forces.{WriterRefuses}
 use Rattle.promises.proofs.LimitsExact.{entry_limit, limits-refuse}
+use Rattle.promises.proofs.Numbers.{same_error}
 use Rattle.promises.proofs.Exactly.{writes-exactly}
 use Rattle.promises.proofs.Naming.{naming-refused, naming-faulty, named-laid, event-named, event-anonymous}
 use Rattle.promises.proofs.BodyFaults.{body-faults}
@@ -164,9 +168,9 @@ module _ (word set : List ℕ) where
 
 pub sets-exact : SetsExact
 sets-exact = record {
-  check = λ set. set-exact (λ l. (checked_of l).refusal) set refl (λ s. refl);
-  check_set = λ set. set-exact (λ l. (set_read l).refusal) set refl (λ s. refl);
-  contains = λ set uuid tag gno. set-exact (λ l. (contained l uuid tag gno).refusal) set refl (λ s. refl);
+  check = λ set. set-exact (λ l. refusal_in (checked_of l)) set refl (λ s. refl);
+  check_set = λ set. set-exact (λ l. refusal_in (set_read l)) set refl (λ s. refl);
+  contains = λ set uuid tag gno. set-exact (λ l. refusal_in (contained l uuid tag gno)) set refl (λ s. refl);
   take_in = λ body out are. writes-exactly (taken_in (previous body)) out (TakeInFault body) (TakenInAs body) (take-in-given body are)
       (take-in-forced body are) (take-in-writes body are) (take-in-written body are);
   list_set = λ word set out. writes-exactly (listed_set word (lent_set set)) out (SetFault set) _ (text-given word set) (text-forced word set)
@@ -183,10 +187,10 @@ out-short : (bs out : List ℕ) → leb (length bs) (length out) ≡ false → o
 unfolding output_of
 out-short bs out over = rw over
 
-module _ (set : List ℕ) (type : ℕ) (body : List ℕ) (out : List ℕ) (are : Bytes body) where
+module _ (set : List ℕ) (type : ℕ) (body : List ℕ) (out : List ℕ) where
   -- ---- a case forces its answer, and what is left in the output
 
-  abbrev Ours : Offered → List ℕ → Type 0
+  abbrev pub Ours : Result Offered WriteError → List ℕ → Type 0
   Ours a l = (offered (lent_set set) (event_of type body) (length out) ≡ a) × (output_of out (output (lent_set set) (event_of type body)) ≡ l)
 
   module _ {s : List Entry} (laid : SetLaid set s) where
@@ -197,40 +201,58 @@ module _ (set : List ℕ) (type : ℕ) (body : List ℕ) (out : List ℕ) (are :
     accepts (Accepts.already n good there) = rw (is-lent set s laid, event-named type body n, good, there) (refl, refl)
     accepts (Accepts.taken n good new within) = rw (is-lent set s laid, event-named type body n, good, new, within) (refl, refl)
 
+  -- the error with these numbers is answered
+  pub record Answered (n len : ℕ) : Type 0 where
+    pub error : WriteError
+    pub number_is : error_number error ≡ n
+    pub needed_is : error_needed error ≡ len
+    pub answers : Ours (Err error) out
+
+  refused-as : (r : Refusal) {n : ℕ} → number r ≡ n → Ours (Err (Refused r)) out → Answered n 0
+  refused-as r is ours = record { error = Refused r; number_is = is; needed_is = refl; answers = ours }
+
   short-forced : (case : ℕ → Offered) (after : List Entry) (n len : ℕ) → ShortFault (body_bytes after) (length out) n len
       → offered (lent_set set) (event_of type body) (length out) ≡ fitting case (length (body_bytes after)) (length out)
-      → output (lent_set set) (event_of type body) ≡ bytes (body_bytes after) → Ours (Refused n len) out
+      → output (lent_set set) (event_of type body) ≡ bytes (body_bytes after) → Answered n len
   short-forced case after n len (ShortFault.short over) answered left =
       let no : leb (length (body_bytes after)) (length out) ≡ false = lt-leb _ _ over in
-      (answered ∙ rw no, ap (output_of out) left ∙ out-short (body_bytes after) out no)
+      record {
+        error = NoRoom (length (body_bytes after));
+        number_is = refl;
+        needed_is = refl;
+        answers = (answered ∙ rw no, ap (output_of out) left ∙ out-short (body_bytes after) out no);
+      }
 
-  fault-forced : (n len : ℕ) → OfferFault set type body (length out) n len → Ours (Refused n len) out
+  pub fault-forced : (n len : ℕ) → OfferFault set type body (length out) n len → Answered n len
   fault-forced n len (OfferFault.bad_set fault) =
       let (this, lent) = fault-unfit set n fault in
-      rw (lent, this) (refl, out-refused out not_a_set)
+      refused-as not_a_set (sym this) (rw lent (refl, out-refused out not_a_set))
   fault-forced n len (OfferFault.bad_event {s = s} laid fault) =
       let (r, e, is) = naming-refused type body n fault in
       let said : event_of type body ≡ broken r = unfold event_of in rw e in
-      rw (is-lent set s laid, said, is) (refl, out-refused out r)
-  fault-forced n len (OfferFault.gno_rule {s = s} laid named bad) = rw (is-lent set s laid, event-named type body named, bad) (refl, out-refused out bad_gno)
+      refused-as r is (rw (is-lent set s laid, said) (refl, out-refused out r))
+  fault-forced n len (OfferFault.gno_rule {s = s} laid named bad) =
+      refused-as bad_gno refl (rw (is-lent set s laid, event-named type body named, bad) (refl, out-refused out bad_gno))
   fault-forced n len (OfferFault.crowded_entry {s = s} {e = e} laid named good new over) =
       let judged = (entry_limit (add (key_of e) e.gno s)).1 over in
-      rw (is-lent set s laid, event-named type body named, good, new, judged) (refl, out-refused out crowded)
+      refused-as crowded refl (rw (is-lent set s laid, event-named type body named, good, new, judged) (refl, out-refused out crowded))
   fault-forced n len (OfferFault.over_limits {s = s} laid named good new over) =
-      rw (is-lent set s laid, event-named type body named, good, new, over) (refl, out-refused out full)
+      refused-as full refl (rw (is-lent set s laid, event-named type body named, good, new, over) (refl, out-refused out full))
   fault-forced n len (OfferFault.no_room {after = after} {case = case} laid ok lacks) =
       let (answered, left) = accepts laid ok in
       short-forced case after n len lacks answered left
 
-  answer-forced : (a : Offered) (l : List ℕ) → OfferAnswer set type body out a l → Ours a l
-  answer-forced a l (OfferAnswer.refused fault) = fault-forced _ _ fault
+  answer-forced : (a : Result Offered WriteError) (l : List ℕ) → OfferAnswer set type body out a l → Ours a l
+  answer-forced a l (OfferAnswer.refused {x = x} fault) =
+      let told = fault-forced _ _ fault in
+      rw (same_error told.error x told.number_is told.needed_is) at told.answers
   answer-forced a l (OfferAnswer.accepted {after = after} laid ok room) =
       let (answered, left) = accepts laid ok in
       (answered ∙ rw (le-leb (length (body_bytes after)) (length out) room), ap (output_of out) left ∙ out-fits (body_bytes after) out room)
 
   -- ---- and an answer has its case
 
-  module _ {s : List Entry} (laid : SetLaid set s) where
+  module _ (are : Bytes body) {s : List Entry} (laid : SetLaid set s) where
     fits-or-not : {after : List Entry} {case : ℕ → Offered} → Accepts s type body case after
         → OfferAnswer set type body out (fitting case (length (body_bytes after)) (length out)) (output_of out (bytes (body_bytes after)))
     fits-or-not {after} ok = split (leb (length (body_bytes after)) (length out))
@@ -257,17 +279,22 @@ module _ (set : List ℕ) (type : ℕ) (body : List ℕ) (out : List ℕ) (are :
         (λ other. rw other
         (named-found {e = x.event} (record { present = x.present; used = used; laid = laid_out; named = eqb-false type 34 other; sent = sent })))
 
-  answer-found : (l : Lent) → lent_set set ≡ l
+  answer-found : Bytes body → (l : Lent) → lent_set set ≡ l
       → OfferAnswer set type body out (offered l (event_of type body) (length out)) (output_of out (output l (event_of type body)))
   unfolding event_of
-  answer-found unfit lent = rw (out-refused out not_a_set) (OfferAnswer.refused (OfferFault.bad_set (unfit-fault set lent)))
-  answer-found (form s) lent = event-found (lent_is set s lent) (named type body) refl
+  answer-found are unfit lent = rw (out-refused out not_a_set) (OfferAnswer.refused (OfferFault.bad_set (unfit-fault set lent)))
+  answer-found are (form s) lent = event-found are (lent_is set s lent) (named type body) refl
 
 pub offers-exactly : OffersExactly ours
 offers-exactly set t a l are = (
   λ (is, left). rw (is, left) at (answer-found set t.type t.body t.out are (lent_set set) refl),
-  answer-forced set t.type t.body t.out are a l,
+  answer-forced set t.type t.body t.out a l,
 )
+
+pub offer-faults-answered : OfferFaultsAnswered
+offer-faults-answered set type body room n len fault =
+    let told = fault-forced set type body (replicate room 0) n len (rw (length-replicate {A = ℕ} room 0) fault) in
+    (told.error, told.number_is, told.needed_is)
 
 -- ---- `contains`
 
@@ -280,21 +307,21 @@ module _ (set uuid tag : List ℕ) (gno : ℕ) where
           (λ there. rw (has-gno s (uuid ++ tag) gno f there))
           (λ none. rw none (and-false (is_gno gno)))
 
-      go : (l : Lent) → lent_set set ≡ l → (contained l uuid tag gno).present ≡ lent_has l (uuid ++ tag) gno
+      go : (l : Lent) → lent_set set ≡ l → says_yes (contained l uuid tag gno) ≡ lent_has l (uuid ++ tag) gno
       go unfit lent = refl
       go (form s) lent = rw (sixteen, rule) (judged s (lent_is set s lent).formed)
 
   asks-no-uuid : (length uuid ≡ 16 → ⊥) → asks set uuid tag gno ≡ false
   asks-no-uuid other = go (lent_set set)
     where
-      go : (l : Lent) → (contained l uuid tag gno).present ≡ false
+      go : (l : Lent) → says_yes (contained l uuid tag gno) ≡ false
       go unfit = refl
       go (form s) = rw (ne_eqb (length uuid) 16 other)
 
   asks-no-tag : none_or_tag tag ≡ false → asks set uuid tag gno ≡ false
   asks-no-tag bad = go (lent_set set)
     where
-      go : (l : Lent) → (contained l uuid tag gno).present ≡ false
+      go : (l : Lent) → says_yes (contained l uuid tag gno) ≡ false
       go unfit = refl
       go (form s) = rw bad (and-false (eqb (length uuid) 16))
 

@@ -7,12 +7,13 @@ use native.Mathlib.Nat.{add-zero}
 use native.Mathlib.Omega.{arith}
 use lib.ListN.{length, get_or, length-append, get_or-eq_default}
 use borrow.Author.Tests.{le-leb, lt-leb}
-use Rattle.misc.specs.Refusal.{Refusal, ended, too_large, negative, unknown_field, bad_tag, wrong_version, no_tag, small_payload}
+use Rattle.misc.specs.declared.refusal.Refusal.{Refusal}
+use Rattle.misc.specs.Refusal.{ended, too_large, negative, unknown_field, bad_tag, wrong_version, no_tag, small_payload}
 use Rattle.misc.specs.Parse.{refuse, parsed, part}
 use Rattle.misc.specs.Varlen.{trailing_ones, varlen_at}
 use Rattle.misc.specs.Signed.{signed_at, natural_at}
 use Rattle.misc.specs.Forms.{Form}
-use Rattle.misc.proofs.ParseLaws.{no_zero, bytes-here, bytes-gone}
+use Rattle.misc.proofs.ParseLaws.{bytes-here, bytes-gone}
 use Rattle.misc.proofs.SignedLaws.{natural-odd}
 use Rattle.misc.proofs.VarlenLaws.{varlen-past, varlen-cut}
 use Rattle.misc.proofs.Places.{From, from_start, from-size, from-room, from_next, from-part, from_first}
@@ -20,7 +21,6 @@ use Rattle.misc.proofs.FormsRead.{ones-are, form-some, form-reads}
 use Rattle.gtid_event_read.specs.declared.Fields.{Fields}
 use Rattle.gtid_event_read.specs.Fields.{unknown, field_table, kind_of, no_fields, limited_at, uuid_at, tag_at, value_at, field_at, fields_of}
 use Rattle.gtid_event_read.specs.Tagged.{payload_at, tagged}
-use Rattle.gtid_event_read.proofs.Telling.{stopped, refused-by}
 use Rattle.gtid_event_read.proofs.FieldLaws.{FieldsSoFar, fields-start, fields-next, fields-stop}
 use Rattle.gtid_event_read.proofs.TaggedLaws.{tagged-gone, tagged-other, tagged-here, version-here, payload-small, payload_cut}
 use Rattle.promises.proofs.Stops.{Reached, AtValue}
@@ -39,10 +39,7 @@ module _ (last : ℕ) (s : List ℕ) where
   so_far (Reached.next {f = f} {at = at} before more read) = fields-next last s f at (so_far before) more read
 
   field-stops : {f : Fields} {at n : ℕ} → Reached last s f at → at < length s → Refuses (field_at last s f at) n → Refuses (fields_of last s) n
-  field-stops {f} {at} here more (r, e, is) =
-      let told = fields-stop last s f at (so_far here) more (stopped {a = f} {next = 0} r refl e) (no_zero r) in
-      let (x, is_x, same) = refused-by told (no_zero r) in
-      (x, is_x, sym same ∙ is)
+  field-stops {f} {at} here more refused = same-refused refused (λ r e. fields-stop last s f at (so_far here) more e)
 
   -- a value that is refused, whatever was read before it
   value-stops : {id from n : ℕ} → AtValue last s id from → ((f : Fields) → Refuses (value_at (kind_of id) last id s f from) n) → Refuses (fields_of last s) n
@@ -203,11 +200,11 @@ unfolding tagged
 tagged-refused s n TaggedFault.cut_version = is-refused ended (tagged-gone [] (omega arith))
 tagged-refused s n (TaggedFault.cut_size {rest = rest} cut) =
     let first : From s 1 rest = from_next s 0 (2 ∷ []) rest (from_start s) in
-    is-refused ended (rw ((version-here s (omega arith) refl).found refl, cut-ends s 1 rest cut first))
+    is-refused ended (rw (version-here s (omega arith) refl, cut-ends s 1 rest cut first))
 tagged-refused s n (TaggedFault.cut_last {size = size} {a = a} {rest = rest} form cut) =
     let first : From s 1 (a ++ rest) = from_next s 0 (2 ∷ []) (a ++ rest) (from_start s) in
     is-refused ended (rw
-    ((version-here s (omega arith) refl).found refl, form-reads s 1 size a rest form first, cut-ends s (1 + length a) rest cut (from_next s 1 a rest first)))
+    (version-here s (omega arith) refl, form-reads s 1 size a rest form first, cut-ends s (1 + length a) rest cut (from_next s 1 a rest first)))
 tagged-refused s n (TaggedFault.cut_payload {size = size} {last = last} {a = a} {b = b} rest size_is last_is large over) =
     let r = read-envelope s size last a b rest refl size_is last_is in
     is-refused ended (payload s r ∙ payload_cut s size last (1 + length a + length b) (omega (arith, length-append a b)) over)

@@ -8,10 +8,11 @@ use lib.Dec.{leb}
 use lib.ListN.{length, take, drop}
 use lib.Seq.{take_at}
 use borrow.Author.Tests.{leb-true, leb-false, le-leb, lt-leb, lt-ltb}
-use Rattle.misc.specs.Refusal.{Refusal, number, not_a_set, full, crowded}
+use Rattle.misc.specs.declared.refusal.Refusal.{Refusal}
+use Rattle.misc.specs.declared.refusal.WriteError.{WriteError}
+use Rattle.misc.specs.declared.refusal.WriteError.TheVariants.{Refused, NoRoom}
+use Rattle.misc.specs.Refusal.{number, not_a_set, full, crowded, error_number, error_needed}
 use Rattle.misc.specs.Output.{Output, refused, bytes, output_of, answer_of}
-use Rattle.misc.specs.declared.Wrote.{Wrote}
-use Rattle.misc.proofs.ParseLaws.{no_zero}
 use Rattle.packets.specs.Gno.{gno_top, Interval, interval}
 use Rattle.packets.specs.Key.{Key}
 use Rattle.packets.proofs.Tests.{split, clash}
@@ -31,12 +32,13 @@ use Rattle.gtid_sets.proofs.CombineLaws.{combined-good, combined-form, combined-
 use Rattle.gtid_sets.proofs.CombineLaws.{join-is-either}
 use Rattle.set_join.specs.Answers.{saved_if, saved}
 use Rattle.two_sets.specs.Answers.{combined_output, combine_answers, combine_leaves, within_read, within_answers}
-use Rattle.two_sets.specs.declared.AllWithin.{AllWithin}
 use Rattle.resume_set_laws.specs.History.{member}
+use Rattle.std.specs.Prelude.{Result, Ok, Err}
 use Rattle.promises.specs.PlainFaults.{ShortFault, WriteFault}
-use Rattle.promises.specs.Exact.{Exactly}
+use Rattle.promises.specs.Exact.{Exactly, IsRefusal}
 use Rattle.promises.specs.TwoSets.{Keeps, Lacks, PairFault, CombineFault, ResultAs, CombineAnswer, CombinesExactly, our_calls, WithinAnswer}
 use Rattle.promises.specs.TwoSets.{ComparesExactly, Exceeding, TwoSets}
+use Rattle.promises.proofs.Numbers.{same_number, same_error, write-error}
 use Rattle.promises.proofs.LimitsExact.{entry_limit, limits-refuse}
 use Rattle.promises.proofs.AtLimits.{spread, uuids, uuids-laid, fours, one_and_four, threes, other_threes}
 use Rattle.promises.proofs.SetsExact.{apart, unfit-fault, fault-unfit}
@@ -50,6 +52,15 @@ module _ (first second : List ℕ) where
   pair-unfit n (PairFault.bad_first fault) one two = let (this, lent) = fault-unfit first n fault in one this lent
   pair-unfit n (PairFault.bad_second {s = s} laid fault) one two = let (this, lent) = fault-unfit second n fault in two this s (is-lent first s laid) lent
 
+  -- its number
+  pub pair-number : (n : ℕ) → PairFault first second n → IsRefusal n
+  pair-number n fault = pair-unfit n fault (λ this p. (not_a_set, sym this)) (λ this s p q. (not_a_set, sym this))
+
+  combine-number : (op : Bool → Bool → Bool) (n : ℕ) → CombineFault op first second n → IsRefusal n
+  combine-number op n (CombineFault.bad_set fault) = pair-number n fault
+  combine-number op n (CombineFault.crowded_entry i j k over) = (crowded, refl)
+  combine-number op n (CombineFault.over_limits i j k over) = (full, refl)
+
 -- ---- results
 
 module _ (op : Bool → Bool → Bool) (none : op false false ≡ false) where
@@ -61,7 +72,7 @@ module _ (op : Bool → Bool → Bool) (none : op false false ≡ false) where
   keeps-one s t u f g k = is-combined op none s t u f g k.formed k.members
 
   module _ (first second out : List ℕ) where
-    abbrev Ours : Wrote → List ℕ → Type 0
+    abbrev Ours : Result ℕ WriteError → List ℕ → Type 0
     Ours w l = (combine_answers op first second out ≡ w) × (combine_leaves op first second out ≡ l)
 
     abbrev Found : Output → Type 0
@@ -118,12 +129,18 @@ module _ (op : Bool → Bool → Bool) (none : op false false ≡ false) where
         let judged : limits (combined op s t) ≡ fine = rw same_set at within in
         rw (is-lent first s i, is-lent second t j, judged, same_set)
 
-    forced : (w : Wrote) (l : List ℕ) → CombineAnswer op first second out w l → Ours w l
+    refused-told : (x : WriteError) {n len : ℕ} → error_number x ≡ n → error_needed x ≡ len
+        → WriteFault (CombineFault op first second) (ResultAs op first second) (length out) n len → Ours (Err x) out
     unfolding answer_of output_of
-    forced w l (CombineAnswer.refused (WriteFault.itself {n = n} fault)) =
+    refused-told x number_is needed_is (WriteFault.itself {n = n} fault) =
         let (r, e, this) = fault-told n fault in
-        (ap (answer_of out) e ∙ ap (λ (m : ℕ). record { refusal = m; len = 0 }) this, ap (output_of out) e)
-    forced w l (CombineAnswer.refused (WriteFault.no_room {bs = bs} is (ShortFault.short over))) = rw (kept-told bs is, lt-leb _ _ over) (refl, refl)
+        rw (same_error x (Refused r) (number_is ∙ sym this) needed_is) (ap (answer_of out) e, ap (output_of out) e)
+    refused-told x number_is needed_is (WriteFault.no_room {bs = bs} is (ShortFault.short over)) =
+        rw (same_error x (NoRoom (length bs)) number_is needed_is, kept-told bs is, lt-leb _ _ over) (refl, refl)
+
+    forced : (w : Result ℕ WriteError) (l : List ℕ) → CombineAnswer op first second out w l → Ours w l
+    unfolding answer_of output_of
+    forced w l (CombineAnswer.refused {x = x} fault) = refused-told x refl refl fault
     forced w l (CombineAnswer.written {bs = bs} is room) = rw (kept-told bs is, le-leb _ _ room) (refl, refl)
 
   pub results-exactly : CombinesExactly op (our_calls op)
@@ -158,7 +175,7 @@ module _ (s t : List Entry) (f : SetForm s) (g : SetForm t) where
   not_within l = split (subset s t) (λ all. clash (subset-says s t f g all l.key l.gno l.there) l.lacked) (λ h. h)
 
 module _ (first second : List ℕ) where
-  told-as : (s t : List Entry) → SetLaid first s → SetLaid second t → WithinAnswer first second (record { refusal = 0; all = subset s t })
+  told-as : (s t : List Entry) → SetLaid first s → SetLaid second t → WithinAnswer first second (Ok (subset s t))
   told-as s t i j = split (subset s t)
       (λ all. rw all (WithinAnswer.inside i j (subset-says s t i.formed j.formed all)))
       (λ not-all. rw not-all (WithinAnswer.missing i j (lacking s t i.formed j.formed not-all)))
@@ -168,8 +185,10 @@ module _ (first second : List ℕ) where
   within-found (form s) unfit p q = WithinAnswer.refused (PairFault.bad_second (lent_is first s p) (unfit-fault second q))
   within-found (form s) (form t) p q = told-as s t (lent_is first s p) (lent_is second t q)
 
-  within-forced : (r : AllWithin) → WithinAnswer first second r → within_answers first second ≡ r
-  within-forced r (WithinAnswer.refused {n = n} fault) = pair-unfit first second n fault (λ this p. rw (p, this)) (λ this s p q. rw (p, q, this))
+  within-forced : (r : Result Bool Refusal) → WithinAnswer first second r → within_answers first second ≡ r
+  within-forced r (WithinAnswer.refused {r = x} fault) = pair-unfit first second (number x) fault
+      (λ this p. rw (p, same_number x not_a_set this))
+      (λ this s p q. rw (p, q, same_number x not_a_set this))
   within-forced r (WithinAnswer.inside {s = s} {t = t} i j all) = rw (is-lent first s i, is-lent second t j, subset-from s t i.formed j.formed all)
   within-forced r (WithinAnswer.missing {s = s} {t = t} i j lacks) = rw (is-lent first s i, is-lent second t j, not_within s t i.formed j.formed lacks)
 
@@ -182,9 +201,9 @@ compares-exactly first second r = (
 -- ---- what follows
 
 -- a result that was written
-module _ (op : Bool → Bool → Bool) (none : op false false ≡ false) (first second out : List ℕ) where
+module _ (op : Bool → Bool → Bool) (none : op false false ≡ false) (first second out : List ℕ) (len : ℕ) where
   abbrev result : List ℕ
-  result = take (combine_answers op first second out).len (combine_leaves op first second out)
+  result = take len (combine_leaves op first second out)
 
   has_result : {bs : List ℕ} → ResultAs op first second bs → result ≡ bs
       → ((s : List Entry) × SetLaid result s) × ((k : Key) (n : ℕ) → member result k n ≡ op (member first k n) (member second k n))
@@ -210,17 +229,20 @@ module _ (op : Bool → Bool → Bool) (none : op false false ≡ false) (first 
       go (form s) unfit p q e = apart cc
       go (form s) (form t) p q e = judged s t (lent_is first s p) (lent_is second t q) (limits (combined op s t)) refl e
 
-  result-of : (combine_answers op first second out).refusal ≡ 0
+  result-of : combine_answers op first second out ≡ Ok len
       → ((s : List Entry) × SetLaid result s) × ((k : Key) (n : ℕ) → member result k n ≡ op (member first k n) (member second k n))
   unfolding answer_of output_of
-  result-of zero = go (combined_output op (lent_set first) (lent_set second)) refl
+  result-of told = go (combined_output op (lent_set first) (lent_set second)) refl
     where
       go : (o : Output) → combined_output op (lent_set first) (lent_set second) ≡ o
           → ((s : List Entry) × SetLaid result s) × ((k : Key) (n : ℕ) → member result k n ≡ op (member first k n) (member second k n))
-      go (refused r) e = absurd (no_zero r (rw e at zero))
+      go (refused r) e = apart (let no : Err (Refused r) ≡ Ok len = rw e at told in cc)
       go (bytes bs) e = split (leb (length bs) (length out))
-          (λ fits. has_result (bytes-kept bs e) (rw (e, fits) (take_at bs (drop (length bs) out) (length bs) refl)))
-          (λ over. let clash : 13 ≡ 0 = rw (e, over) at zero in absurd (omega arith))
+          (λ fits.
+          let yes : Ok (length bs) ≡ Ok len = rw (e, fits) at told in
+          let all : length bs ≡ len = cc in
+          has_result (bytes-kept bs e) (rw (e, fits) (take_at bs (drop (length bs) out) len all)))
+          (λ over. apart (let no : Err (NoRoom (length bs)) ≡ Ok len = rw (e, over) at told in cc))
 
 -- the empty set
 pub none-fine : limits [] ≡ fine
@@ -233,26 +255,22 @@ only-empty u f g h e =
     let alike : form u ≡ form [] = sym this ∙ that in
     cc
 
--- the answer yes
-abbrev all_in : AllWithin
-all_in = record { refusal = 0; all = true }
-
 module _ (first second : List ℕ) where
-  empty-kept : (r : AllWithin) → WithinAnswer first second r → r ≡ all_in → ResultAs without first second (body_bytes [])
-  empty-kept r (WithinAnswer.refused fault) e = clash (ap (λ (x : AllWithin). x.all) e) refl
+  empty-kept : (r : Result Bool Refusal) → WithinAnswer first second r → r ≡ Ok true → ResultAs without first second (body_bytes [])
+  empty-kept r (WithinAnswer.refused fault) e = apart cc
   empty-kept r (WithinAnswer.inside {s = s} {t = t} i j all) e =
       ResultAs.kept {u = []} i j (record { formed = tt; members = λ k n. sym (in-second (has s k n) (has t k n) (all k n)) }) none-fine
-  empty-kept r (WithinAnswer.missing i j lacks) e = clash (ap (λ (x : AllWithin). x.all) e) refl
+  empty-kept r (WithinAnswer.missing i j lacks) e = apart cc
 
-  kept-empty : (bs : List ℕ) → ResultAs without first second bs → bs ≡ body_bytes [] → WithinAnswer first second all_in
+  kept-empty : (bs : List ℕ) → ResultAs without first second bs → bs ≡ body_bytes [] → WithinAnswer first second (Ok true)
   kept-empty bs (ResultAs.kept {s = s} {t = t} {u = u} i j k within) e =
       let same_set = keeps-one without refl s t u i.formed j.formed k in
       let none : u ≡ [] = only-empty u k.formed (rw same_set (combined-good without s t i.keyed j.keyed)) within e in
       WithinAnswer.inside i j (λ key n here. not_first (has s key n) (has t key n) here
       (sym (ap (λ (x : List Entry). has x key n) (sym none) ∙ k.members key n)))
 
-  empty-exactly : Exactly (WithinAnswer first second all_in) (ResultAs without first second (body_bytes []))
-  empty-exactly = (λ is. empty-kept all_in is refl, λ is. kept-empty (body_bytes []) is refl)
+  empty-exactly : Exactly (WithinAnswer first second (Ok true)) (ResultAs without first second (body_bytes []))
+  empty-exactly = (λ is. empty-kept _ is refl, λ is. kept-empty (body_bytes []) is refl)
 
 -- one set twice
 module _ (set : List ℕ) (s : List Entry) (i : SetLaid set s) where
@@ -309,7 +327,9 @@ pub two-sets : TwoSets
 two-sets = record {
   results = results-exactly;
   within = compares-exactly;
-  members = λ op first second out none zero. result-of op none first second out zero;
+  faults = λ op first second room n len fault. write-error (combine-number first second op) fault;
+  pair_faults = pair-number;
+  members = λ op first second out none len told. result-of op none first second out len told;
   empty = empty-exactly;
   twice = with_itself;
   crowded = crowds-entry;

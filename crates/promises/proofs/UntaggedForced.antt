@@ -7,7 +7,8 @@ use native.Mathlib.Omega.{arith}
 use lib.Dec.{eqb, leb, ltb}
 use lib.ListN.{length, get_or}
 use borrow.Author.Tests.{ltb-true, eqb-true, le-leb}
-use Rattle.misc.specs.Refusal.{Refusal, ended, bad_lead}
+use Rattle.misc.specs.declared.refusal.Refusal.{Refusal}
+use Rattle.misc.specs.Refusal.{ended, bad_lead}
 use Rattle.misc.specs.Parse.{refuse, parsed, part}
 use Rattle.misc.specs.Le.{le_of, le_at}
 use Rattle.misc.specs.Mark.{has_bit, clear_bit}
@@ -17,8 +18,7 @@ use Rattle.misc.proofs.LeLaws.{le-here, le-gone}
 use Rattle.misc.proofs.Forward.{le-forward, lenenc-forward}
 use Rattle.packets.proofs.Tests.{and-true}
 use Rattle.gtid_event.specs.declared.GtidEvent.{GtidEvent}
-use Rattle.gtid_event_read.specs.Told.{later_at}
-use Rattle.gtid_event_read.specs.Untagged.{Pair, pair, original_after, pair_at, timestamps_at, length_at, versions_at, opened, clock_at, untagged}
+use Rattle.gtid_event_read.specs.Untagged.{Pair, pair, original_after, pair_at, timestamps_at, length_at, versions_at, opened, clock_at, untagged, later_at}
 use Rattle.gtid_event_read.proofs.UntaggedLaws.{opening-here, untagged-gone, untagged-clock, clock-later}
 use Rattle.promises.proofs.Stops.{Item, Ends, Later, Untagged, UntaggedStop}
 use Rattle.promises.proofs.Forces.{Refuses, is-refused, lenenc-ends, lead-refused}

@@ -4,7 +4,9 @@ use mathlib.Core.Path.{◌≡◌, refl}
 use mathlib.Core.Bool.{true, false}
 use mathlib.Core.List.{List}
 use native.Mathlib.Omega.{arith}
-use Rattle.misc.specs.Refusal.{Refusal, number, not_writable}
+use Rattle.misc.specs.declared.refusal.Refusal.{Refusal}
+use Rattle.misc.specs.Refusal.{number, not_writable}
+use Rattle.misc.specs.Parse.{refusal_in}
 use Rattle.misc.specs.Output.{refused, bytes}
 use Rattle.packets.specs.Tag.{is_tag}
 use Rattle.packets.proofs.Tests as tests
@@ -17,21 +19,21 @@ use Rattle.promises.specs.Exact.{RefusesExactly}
 use Rattle.promises.proofs.Forces.{WriterRefuses}
 use Rattle.promises.proofs.Exactly.{judges-exactly}
 
-pub tag-exact : (tag : List ℕ) (e : GtidEvent) → RefusesExactly (with_tag tag e).refusal (TagFault tag)
+pub tag-exact : (tag : List ℕ) (e : GtidEvent) → RefusesExactly (refusal_in (with_tag tag e)) (TagFault tag)
 unfolding with_tag
 tag-exact tag e = judges-exactly _ 6 (TagFault tag) (is_tag tag) (λ good. rw good) (λ bad. rw bad) TagFault.tag_rule only (λ zero. omega arith)
   where
     only : (n : ℕ) → TagFault tag n → (n ≡ 6) × (is_tag tag ≡ false)
     only n (TagFault.tag_rule bad) = (refl, bad)
 
-pub new-exact : (sid tag : List ℕ) (gno : ℕ) → RefusesExactly (new_tagged sid tag gno).refusal (TagFault tag)
+pub new-exact : (sid tag : List ℕ) (gno : ℕ) → RefusesExactly (refusal_in (new_tagged sid tag gno)) (TagFault tag)
 unfolding new_tagged
 new-exact sid tag gno = tag-exact tag _
 
 record-only : (e : GtidEvent) (n : ℕ) → RecordFault e n → (n ≡ 12) × (writable e ≡ false)
 record-only e n (RecordFault.not_writable cannot) = (refl, cannot)
 
-pub length-exact : (e : GtidEvent) → RefusesExactly (length_of e).refusal (RecordFault e)
+pub length-exact : (e : GtidEvent) → RefusesExactly (refusal_in (length_of e)) (RecordFault e)
 unfolding length_of
 length-exact e =
     judges-exactly _ 12 (RecordFault e) (writable e) (λ can. rw can) (λ cannot. rw cannot) RecordFault.not_writable (record-only e) (λ zero. omega arith)

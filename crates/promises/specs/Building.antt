@@ -1,12 +1,12 @@
 -- Building a record: each step changes its own part alone, and a new record has the server versions that a reader gives where none were sent.
-use Rattle.std.specs.Prelude.{ℕ, ◌^◌, ◌<◌, ◌≡◌, true, false, List, [], ◌∷◌, ◌++◌, length}
+use Rattle.std.specs.Prelude.{ℕ, ◌^◌, ◌<◌, ◌≡◌, true, false, List, [], ◌∷◌, ◌++◌, length, Result, Ok}
+use Rattle.misc.specs.declared.refusal.Refusal.{Refusal}
 use Rattle.misc.specs.Parse.{Bytes, parsed}
 use Rattle.misc.specs.Le.{le_bytes}
 use Rattle.misc.specs.Output.{bytes}
 use Rattle.packets.specs.Tag.{is_tag}
 use Rattle.gtid_event.specs.Event.{new_untagged, new_tagged, with_tag, set_typecode}
 use Rattle.gtid_event.specs.Parts.{Built}
-use Rattle.gtid_event.specs.declared.EventStep.{EventStep}
 use Rattle.gtid_event.specs.declared.GtidEvent.{GtidEvent}
 use Rattle.gtid_event_read.specs.Seen.{Seen}
 use Rattle.gtid_event_read.specs.Read.{gtid}
@@ -32,16 +32,17 @@ abbrev pub NewVersions : (List ℕ → ℕ → GtidEvent) → Type 0
 NewVersions new = (s : List ℕ) (e : GtidEvent) (used : ℕ) → Unversioned s e used → (sid : List ℕ) (gno : ℕ)
     → server_versions (new sid gno) ≡ server_versions e
 
--- of any step that adds a tag: the versions stay
-abbrev pub KeepsVersions : (List ℕ → GtidEvent → EventStep) → Type 0
-KeepsVersions step = (tag : List ℕ) (e : GtidEvent) → is_tag tag ≡ true → server_versions (step tag e).event ≡ server_versions e
+-- of any step that adds a tag: it does, and the versions stay
+abbrev pub KeepsVersions : (List ℕ → GtidEvent → Result GtidEvent Refusal) → Type 0
+KeepsVersions step = (tag : List ℕ) (e : GtidEvent) → is_tag tag ≡ true → (x : GtidEvent) × (step tag e ≡ Ok x) × (server_versions x ≡ server_versions e)
 
 pub record Building : Type 0 where
   -- new records and steps, part by part
   pub built : Built
   -- tagged or not, a new record has the versions that a reader gives where none were sent
   pub untagged : NewVersions new_untagged
-  pub tagged : (tag : List ℕ) → is_tag tag ≡ true → NewVersions (λ sid gno. (new_tagged sid tag gno).event)
+  pub tagged : (tag : List ℕ) → is_tag tag ≡ true
+      → (new : List ℕ → ℕ → GtidEvent) × ((sid : List ℕ) (gno : ℕ) → new_tagged sid tag gno ≡ Ok (new sid gno)) × NewVersions new
   -- a tag keeps the versions that it finds, also those that were set to 0 (`zeros-kept` of proofs/BuildingHolds.antt)
   pub kept : KeepsVersions with_tag
   -- without its typecode a new untagged record is written, as 25 bytes, flags, uuid and gno, and comes back equal from them

@@ -1,6 +1,9 @@
 -- Both sides of each edge, and other rows computed whole: what the definitions give, beside what the rules say. One table, under one statement.
-use Rattle.std.specs.Prelude.{ℕ, ◌+◌, ◌-◌, ◌^◌, ◌≡◌, true, List, [], ◌∷◌, ◌++◌, map, pos, negsuc, length, replicate}
-use Rattle.misc.specs.Parse.{uint_read}
+use Rattle.std.specs.Prelude.{ℕ, ◌+◌, ◌-◌, ◌^◌, ◌≡◌, true, List, [], ◌∷◌, ◌++◌, map, pos, negsuc, length, replicate, Result, Ok, Err}
+use Rattle.misc.specs.declared.refusal.Refusal.{Refusal}
+use Rattle.misc.specs.Refusal.{number}
+use Rattle.misc.specs.Parse.{read_of}
+use Rattle.misc.specs.declared.Read.{Read}
 use Rattle.misc.specs.Lenenc.{lenenc_bytes}
 use Rattle.misc.specs.Varlen.{varlen_at, varlen_size, varlen_bytes}
 use Rattle.misc.specs.Signed.{sent_as}
@@ -22,12 +25,18 @@ use Rattle.report.specs.Report.{line_of}
 use Rattle.report.specs.Text.{line_text, report_text}
 use Rattle.abi.specs.Answers.{head_numbers, bit}
 use Rattle.abi.specs.Flat.{flat, flat_read}
+use Rattle.promises.specs.Presence.{bits_in}
 
 -- ---- numbers, values and sets as lists of numbers
 
+-- the refusal, 0 for none; the number that was read; and the place behind it
+abbrev read_as : Result (Read ℕ) Refusal → List ℕ
+read_as (Ok r) = 0 ∷ r.value ∷ r.next ∷ []
+read_as (Err x) = number x ∷ 0 ∷ 0 ∷ []
+
 -- which fields were there
 abbrev present : ℕ → List ℕ → ℕ
-present type body = (gtid_read (seen type body)).present
+present type body = bits_in (gtid_read (seen type body))
 
 -- 1 for a tag, and 0 for what is none
 abbrev tag_bit : List ℕ → ℕ
@@ -138,7 +147,7 @@ edges =
     -- -1 is 02; 63 is FC; 64 is 01 02; -2^63 is nine FF
     ++ of (λ v. varlen_bytes (sent_as v)) ((negsuc 0, 2 ∷ []) ∷ (pos 63, 252 ∷ []) ∷ (pos 64, 1 ∷ 2 ∷ []) ∷ (negsuc (2 ^ 63 - 1), ones 9) ∷ [])
     -- 01 00 reads as 0, two bytes used
-    ++ numbers (let r = uint_read (varlen_at (1 ∷ 0 ∷ []) 0) in r.refusal ∷ r.value ∷ r.next ∷ []) (0 ∷ 0 ∷ 2 ∷ [])
+    ++ numbers (read_as (read_of (varlen_at (1 ∷ 0 ∷ []) 0))) (0 ∷ 0 ∷ 2 ∷ [])
     -- length-encoded: 250 is FA; 251 is FC FB 00; 2^16-1 is FC FF FF; 2^16 is FD 00 00 01
     ++ of lenenc_bytes ((250, 0xFA ∷ []) ∷ (251, 0xFC ∷ 0xFB ∷ 0 ∷ []) ∷ (65535, 0xFC ∷ ones 2) ∷ (65536, 0xFD ∷ 0 ∷ 0 ∷ 1 ∷ []) ∷ [])
     -- 2^24-1 is FD FF FF FF; 2^24 is FE 00 00 00 01 00 00 00 00

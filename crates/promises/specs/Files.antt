@@ -1,7 +1,7 @@
 -- The binlog file as it arrives (CR 2): what reading one comes to, of any way of reading, by the file's layout; the table of what an event of it is
 -- refused for; demand 3 over files; the caller's loop of steps; and the archive's reader.
 use Rattle.std.specs.Prelude.{ℕ, ◌^◌, ◌<◌, ◌≤◌, min, ◌≡◌, Bool, true, false, List, [], ◌∷◌, ◌++◌, ◌⊎◌, length}
-use Rattle.misc.specs.Refusal.{Refusal, number, full}
+use Rattle.misc.specs.Refusal.{full}
 use Rattle.misc.specs.Parse.{Bytes}
 use Rattle.previous_gtids_event.specs.Entry.{Entry}
 use Rattle.previous_gtids_event.specs.Rewrite.{body_bytes}
@@ -14,6 +14,7 @@ use Rattle.resume_set.specs.declared.Offered.{Offered}
 use Rattle.resume_set.specs.declared.Offered.TheVariants as offered
 use Rattle.resume_set_laws.specs.History.{Tells}
 use Rattle.binlog.specs.Format.{trailer}
+use Rattle.binlog.specs.Stop.{Stop, stop_number}
 use Rattle.binlog.specs.Run.{did, fails, Word, chunk, end, spelled}
 use Rattle.binlog.specs.Layout.{Says, EndSays}
 use Rattle.binlog.specs.Walk.{is_whole}
@@ -66,7 +67,6 @@ abbrev pub told_as : Offered → Told
 told_as (offered.NoId len) = told.NoId
 told_as (offered.AlreadyThere len) = told.AlreadyThere
 told_as (offered.Taken len) = told.Taken
-told_as (offered.Refused n len) = told.NoId
 
 -- an event that was offered: what it is told, and the set that is kept then, as an offer has it
 pub data AcceptedAs (set : List ℕ) (type : ℕ) (body : List ℕ) (room : ℕ) : Told → List ℕ → Type 0 where
@@ -79,7 +79,7 @@ pub data ActFault (set : List ℕ) (type : ℕ) (body : List ℕ) (room : ℕ) :
   offering : {n len : ℕ} → (type ≡ 35 → ⊥) → OfferFault set type body room n len → ActFault set type body room n len
 
 pub record EventsJudged (set body : List ℕ) (room : ℕ) : Type 0 where
-  pub refused : (type : ℕ) (r : Refusal) (len : ℕ) → Exactly (acts room set type body ≡ fails r len) (ActFault set type body room (number r) len)
+  pub refused : (type : ℕ) (r : Stop) (len : ℕ) → Exactly (acts room set type body ≡ fails r len) (ActFault set type body room (stop_number r) len)
   pub joined : (after : List ℕ) → Exactly (acts room set 35 body ≡ did told.Joined after) (JoinedAs set body room after)
   pub offered : (type : ℕ) (t : Told) (after : List ℕ) → (type ≡ 35 → ⊥)
       → Exactly (acts room set type body ≡ did t after) (AcceptedAs set type body room t after)

@@ -1,5 +1,7 @@
 -- The gno rule at its top (CR 4): a number that records carry, and no set. The top is named here; `Rules` has its number.
-use Rattle.std.specs.Prelude.{ℕ, ◌≤◌, ◌<◌, ◌≡◌, true, List, [], ◌∷◌, ◌++◌, ◌⊎◌, length}
+use Rattle.std.specs.Prelude.{ℕ, ◌≤◌, ◌<◌, ◌≡◌, true, List, [], ◌∷◌, ◌++◌, ◌⊎◌, length, Err}
+use Rattle.misc.specs.declared.refusal.WriteError.TheVariants.{Refused}
+use Rattle.misc.specs.Refusal.{bad_gno}
 use Rattle.misc.specs.Parse.{Bytes, parsed}
 use Rattle.misc.specs.Output.{bytes}
 use Rattle.packets.specs.Gno.{gno_top, is_gno, Interval, interval}
@@ -14,7 +16,6 @@ use Rattle.gtid_event.specs.Fits.{Fits}
 use Rattle.gtid_sets.specs.Lent.{SetLaid}
 use Rattle.set_join.specs.Answers.{take_in_answers}
 use Rattle.resume_set.specs.Answers.{offer_answers}
-use Rattle.resume_set.specs.declared.Offered.TheVariants.{Refused}
 use Rattle.text.specs.Lines.{refused_text}
 use Rattle.listing.specs.EventText.{record_text, event_text}
 use Rattle.resume_set_laws.specs.History.{kept_all, member, Turn, comes_to}
@@ -37,13 +38,13 @@ pub record CarriedOnly (e : GtidEvent) : Type 0 where
   pub written : event_output e ≡ bytes body
   pub read : gtid (type_of e) body ≡ parsed e (length body)
   pub listed : event_text (type_of e) body ≡ record_text e
-  pub offered : (set : List ℕ) (s : List Entry) (out : List ℕ) → SetLaid set s → offer_answers set (type_of e) body out ≡ Refused 15 0
+  pub offered : (set : List ℕ) (s : List Entry) (out : List ℕ) → SetLaid set s → offer_answers set (type_of e) body out ≡ Err (Refused bad_gno)
 
 pub record Highest : Type 0 where
   -- an end behind the top: bytes that have one are no set, and a body that has one is 15, taken in or listed
   pub lent : (set : List ℕ) (es : List Entry) (end : ℕ) → Bytes set → BodyIs set es → HasEnd end es → gno_top < end → SetFault set 14
   pub taken_in : (body out : List ℕ) (es : List Entry) (end : ℕ) → Bytes body → BodyIs body es → HasEnd end es → gno_top < end
-      → (take_in_answers body out ≡ record { refusal = 15; len = 0 }) × (event_text 35 body ≡ refused_text 15)
+      → (take_in_answers body out ≡ Err (Refused bad_gno)) × (event_text 35 body ≡ refused_text 15)
   -- whatever can be written, tagged or not, can be written with the top as its gno. (What others wrote with it is read and listed as any event:
   -- `RecordsMean`, `ListingTold`; and an offer of that is 15: `gno_rule` of `OfferFault`. If it is tagged and lacks its uuid, the listing says 21, and
   -- so does the offer)

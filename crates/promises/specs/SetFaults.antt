@@ -1,7 +1,8 @@
 -- Demand 1, the table for the calls over sets, and what an offer answers otherwise: each answer, and the bytes that it leaves, by its case. No parser is
 -- named here.
-use Rattle.std.specs.Prelude.{ℕ, ◌≤◌, ◌≡◌, Bool, true, false, ◌&&◌, List, ◌++◌, length, get_or, take, drop}
-use Rattle.misc.specs.Refusal.{full}
+use Rattle.std.specs.Prelude.{ℕ, ◌≤◌, ◌≡◌, Bool, true, false, ◌&&◌, List, ◌++◌, length, get_or, take, drop, Result, Ok, Err}
+use Rattle.misc.specs.declared.refusal.WriteError.{WriteError}
+use Rattle.misc.specs.Refusal.{full, error_number, error_needed}
 use Rattle.misc.specs.Body.{body_limit}
 use Rattle.packets.specs.Gno.{is_gno}
 use Rattle.packets.specs.Key.{Key}
@@ -15,7 +16,7 @@ use Rattle.gtid_sets.specs.TakeIn.{lawful, taken_set}
 use Rattle.gtid_sets.specs.Limits.{fine, breaks, limits, EntryOver}
 use Rattle.gtid_sets.specs.Lent.{SetLaid}
 use Rattle.resume_set.specs.declared.Offered.{Offered}
-use Rattle.resume_set.specs.declared.Offered.TheVariants.{NoId, AlreadyThere, Taken, Refused}
+use Rattle.resume_set.specs.declared.Offered.TheVariants.{NoId, AlreadyThere, Taken}
 use Rattle.promises.specs.Faults.{EventFault}
 use Rattle.promises.specs.BodyFaults.{BodyFault}
 use Rattle.promises.specs.Meaning.{RecordLaid}
@@ -105,7 +106,7 @@ pub data OfferFault (set : List ℕ) (type : ℕ) (body : List ℕ) (room : ℕ)
       → OfferFault set type body room n len
 
 -- every answer, and what the output holds then: as it was after a refusal, else the set after the event at its front
-pub data OfferAnswer (set : List ℕ) (type : ℕ) (body : List ℕ) (out : List ℕ) : Offered → List ℕ → Type 0 where
-  refused : {n len : ℕ} → OfferFault set type body (length out) n len → OfferAnswer set type body out (Refused n len) out
+pub data OfferAnswer (set : List ℕ) (type : ℕ) (body : List ℕ) (out : List ℕ) : Result Offered WriteError → List ℕ → Type 0 where
+  refused : {x : WriteError} → OfferFault set type body (length out) (error_number x) (error_needed x) → OfferAnswer set type body out (Err x) out
   accepted : {s after : List Entry} {case : ℕ → Offered} → SetLaid set s → Accepts s type body case after → length (body_bytes after) ≤ length out
-      → OfferAnswer set type body out (case (length (body_bytes after))) (body_bytes after ++ drop (length (body_bytes after)) out)
+      → OfferAnswer set type body out (Ok (case (length (body_bytes after)))) (body_bytes after ++ drop (length (body_bytes after)) out)

@@ -3,17 +3,16 @@
 // last, the sums. `sum` gives the sums as numbers. What they promise is said by `added`, `sum_of` and `report_text` of specs/.
 #![tactic(auto)]
 
-ghost use Rattle.std.specs.Prelude.{◌≡◌, min};
+ghost use Rattle.std.specs.Prelude.{◌≡◌};
 ghost use Rattle.misc.specs.Output.{bytes, output_of, answer_of};
 ghost use Rattle.gtid_sets.specs.Lent.{lent_set};
 ghost use Rattle.report.specs.Report.{refused_line, line_of, new_report, added, lines_of, sum_of};
 ghost use Rattle.report.specs.Text.{report_text};
 
 use crate::ids::ids_in;
-use crate::sums::sum_of;
-use crate::text_lines::{lines_len, put_lines};
-use misc::Wrote;
-use misc::refusal::{NO_ROOM, TOO_LONG};
+use crate::sums::{high_word, low_word, sum_of};
+use crate::text_lines::{counts_len, lines_len, put_counts, put_lines};
+use misc::refusal::{Refusal, WriteError};
 use set_check::check::check;
 use set_check::walk::entries_of;
 
@@ -29,8 +28,9 @@ pub const LONGEST_REPORT: usize = MAX_SETS * 38 + 44;
 
 // A set's line: how many entries, intervals and ids it has, or the number of its refusal and zeros. The ids are `high` times 2^64, and `low`.
 // By the set limits there are at most 384 entries with fewer than 2^63 ids each, and 2,560 intervals; so these types hold every
-// set's numbers, and no sum of 64 lines overflows, whatever they hold.
-#[derive(Clone, Copy)]
+// set's numbers, and no sum of 64 lines overflows, whatever they hold. The refusal stays a number: a report comes back from C as any bytes
+// (`report_in` of abi), and its lines then have any number and any counts.
+#[derive(Clone, Copy, Default)]
 pub struct Line {
     pub refusal: u8,
     pub entries: u32,
@@ -62,25 +62,13 @@ pub struct Added {
     pub report: Report,
 }
 
-// ---- inside
-
-// A number in two words.
-#[derive(Clone, Copy)]
-pub(crate) struct Wide {
-    pub(crate) high: u64,
-    pub(crate) low: u64,
-}
-
 // The line of a refusal.
 pub fn refused_line(refusal: u8) -> Line
     ensures { result ≡ refused_line refusal }
 {
     Line {
         refusal,
-        entries: 0,
-        intervals: 0,
-        high: 0,
-        low: 0,
+        ..Line::default()
     }
 }
 
@@ -88,29 +76,18 @@ pub fn refused_line(refusal: u8) -> Line
 pub fn line_of(set: &[u8]) -> Line
     ensures { result ≡ line_of (lent_set set.now) }
 {
-    let checked = check(set);
-    let refusal = checked.refusal;
-    if refusal != 0 {
-        return refused_line(refusal);
-    }
+    let checked = match check(set) {
+        Ok(checked) => checked,
+        Err(refusal) => return refused_line(refusal.number()),
+    };
     let ids = ids_in(set, entries_of(checked));
     Line {
         refusal: 0,
         entries: checked.entries as u32,
         intervals: checked.intervals as u32,
-        high: ids.high as u32,
-        low: ids.low,
+        high: high_word(ids) as u32,
+        low: low_word(ids),
     }
-}
-
-// How many of the lines count.
-fn kept(sets: usize) -> usize
-    ensures { result ≡ min sets 64 }
-{
-    if MAX_SETS < sets {
-        return MAX_SETS;
-    }
-    sets
 }
 
 impl Report {
@@ -120,13 +97,7 @@ impl Report {
     {
         Self {
             sets: 0,
-            lines: [Line {
-                refusal: 0,
-                entries: 0,
-                intervals: 0,
-                high: 0,
-                low: 0,
-            }; MAX_SETS],
+            lines: [Line::default(); MAX_SETS],
         }
     }
 
@@ -137,7 +108,7 @@ impl Report {
         let at = self.sets;
         if MAX_SETS <= at {
             return Added {
-                line: refused_line(TOO_LONG),
+                line: refused_line(Refusal::TooLong.number()),
                 report: self,
             };
         }
@@ -147,31 +118,33 @@ impl Report {
         Added { line, report: self }
     }
 
+    // The lines that count.
+    fn kept(&self) -> &[Line]
+        ensures { result.now ≡ lines_of self.now }
+    {
+        &self.lines[..self.sets.min(MAX_SETS)]
+    }
+
     // The sums over all lines: an id in two sets counts twice.
     pub fn sum(self) -> Counts
         ensures { result ≡ sum_of (lines_of self) }
     {
-        let lines = self.lines;
-        sum_of(lines, kept(self.sets))
+        sum_of(self.kept())
     }
 
     // Writes the report's text, or answers 13 and the length that is needed.
-    pub fn write(self, out: &mut [u8]) -> Wrote
+    pub fn write(self, out: &mut [u8]) -> Result<usize, WriteError>
         ensures value { result ≡ answer_of out.old (bytes (report_text (lines_of self))) }
         ensures out_after { out.new ≡ output_of out.old (bytes (report_text (lines_of self))) }
     {
-        let lines = self.lines;
-        let count = kept(self.sets);
-        let sum = sum_of(lines, count);
-        let len = lines_len(lines, count) + text_lines::counts_len(sum);
+        let lines = self.kept();
+        let sum = sum_of(lines);
+        let len = lines_len(lines) as usize + counts_len(sum);
         if out.len() < len {
-            return Wrote {
-                refusal: NO_ROOM,
-                len,
-            };
+            return Err(WriteError::NoRoom(len));
         }
-        let at = put_lines(lines, count, out, 0);
-        text_lines::put_counts(b"sum", sum, out, at);
-        Wrote { refusal: 0, len }
+        let at = put_lines(lines, out, 0);
+        put_counts(b"sum", sum, out, at);
+        Ok(len)
     }
 }

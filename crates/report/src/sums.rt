@@ -1,64 +1,77 @@
 // The sums over lines.
-ghost use Rattle.std.specs.Prelude.{◌≡◌, ◌+◌, ◌^◌, ◌≤◌, ◌<◌, take};
-ghost use Rattle.report.specs.Report.{counts_of, sum_of};
-ghost use Rattle.report.specs.Inside.{plus_of, Small};
+ghost use Rattle.std.specs.Prelude.{◌≡◌, ◌^◌, ◌≤◌, ◌<◌, map, sum, length};
+ghost use Rattle.report.specs.Report.{high_word, low_word, ids_of, counts_of, sum_of};
 
-use crate::ids::plus;
-use crate::{Counts, Line, MAX_SETS, Wide};
+use crate::{Counts, Line};
 
-// The numbers of a line.
-pub(crate) fn counts_of(line: Line) -> Counts
-    ensures value { result ≡ counts_of line }
-    ensures entries_bound { (result.entries < 2 ^ 32) × (result.intervals < 2 ^ 32) × (result.high < 2 ^ 32) }
+// A number has two words of 64 bits: it is the high one times this, and the low one.
+const WORD: u128 = 0x1_0000_0000_0000_0000;
+
+pub(crate) fn high_word(n: u128) -> u64
+    ensures { result ≡ high_word n }
 {
-    Counts {
-        entries: line.entries as u64,
-        intervals: line.intervals as u64,
-        high: line.high as u64,
-        low: line.low,
+    (n / WORD) as u64
+}
+
+pub(crate) fn low_word(n: u128) -> u64
+    ensures { result ≡ low_word n }
+{
+    (n % WORD) as u64
+}
+
+impl Line {
+    // The ids that it says.
+    fn ids(self) -> u128
+        ensures { (result ≡ ids_of self) × (result < 2 ^ 96) }
+    {
+        u128::from(self.high) * WORD + u128::from(self.low)
+    }
+
+    // Its numbers.
+    pub(crate) fn counts(self) -> Counts
+        ensures { result ≡ counts_of self }
+    {
+        Counts {
+            entries: u64::from(self.entries),
+            intervals: u64::from(self.intervals),
+            high: u64::from(self.high),
+            low: self.low,
+        }
     }
 }
 
-// A sum and a line more.
-fn with_line(sum: Counts, line: Line) -> Counts
-    requires { Small sum }
-    ensures value { result ≡ plus_of sum line }
-    ensures entries_bound { (result.entries ≤ sum.entries + 2 ^ 32) × (result.intervals ≤ sum.intervals + 2 ^ 32) × (result.high ≤ sum.high + 2 ^ 32) }
+// The numbers of so many lines, each summed by itself.
+fn entries_of(lines: &[Line]) -> u64
+    requires { length lines.now ≤ 64 }
+    ensures { result ≡ sum (map (λ l. l.entries) lines.now) }
 {
-    let more = counts_of(line);
-    let ids = plus(
-        Wide {
-            high: sum.high,
-            low: sum.low,
-        },
-        Wide {
-            high: more.high,
-            low: more.low,
-        },
-    );
-    Counts {
-        entries: sum.entries + more.entries,
-        intervals: sum.intervals + more.intervals,
-        high: ids.high,
-        low: ids.low,
-    }
+    lines.iter().map(|line| u64::from(line.entries)).sum()
 }
 
-// The sums of the first lines.
-pub(crate) fn sum_of(lines: [Line; MAX_SETS], count: usize) -> Counts
-    requires { count ≤ 64 }
-    ensures { result ≡ sum_of (take count lines) }
+fn intervals_of(lines: &[Line]) -> u64
+    requires { length lines.now ≤ 64 }
+    ensures { result ≡ sum (map (λ l. l.intervals) lines.now) }
 {
-    let mut sum = Counts {
-        entries: 0,
-        intervals: 0,
-        high: 0,
-        low: 0,
-    };
-    let mut i: usize = 0;
-    while i < count {
-        sum = with_line(sum, lines[i]);
-        i += 1;
+    lines.iter().map(|line| u64::from(line.intervals)).sum()
+}
+
+fn all_ids(lines: &[Line]) -> u128
+    requires { length lines.now ≤ 64 }
+    ensures { result ≡ sum (map ids_of lines.now) }
+{
+    lines.iter().map(|line| line.ids()).sum()
+}
+
+// The sums of so many lines.
+pub(crate) fn sum_of(lines: &[Line]) -> Counts
+    requires { length lines.now ≤ 64 }
+    ensures { result ≡ sum_of lines.now }
+{
+    let ids = all_ids(lines);
+    Counts {
+        entries: entries_of(lines),
+        intervals: intervals_of(lines),
+        high: high_word(ids),
+        low: low_word(ids),
     }
-    sum
 }

@@ -1,12 +1,11 @@
 // The lines of a report as text.
-ghost use Rattle.std.specs.Prelude.{◌≡◌, ◌∷◌, ◌*◌, ◌≤◌, length, take};
+ghost use Rattle.std.specs.Prelude.{◌≡◌, ◌∷◌, ◌≤◌, length};
 ghost use Rattle.misc.specs.Output.{WhereFits};
 ghost use Rattle.text.specs.Digits.{decimal};
 ghost use Rattle.text.specs.Lines.{space};
 ghost use Rattle.report.specs.Text.{counts_text, set_word, line_text, lines_text};
 
-use crate::sums::counts_of;
-use crate::{Counts, Line, MAX_SETS};
+use crate::{Counts, Line};
 use misc::put::put_bytes;
 use text::digits::{decimal_len, put_decimal};
 use text::lines::{put_refused, refused_len};
@@ -44,47 +43,36 @@ pub(crate) fn put_counts(word: &[u8], counts: Counts, out: &mut [u8], at: usize)
 fn line_len(line: Line) -> usize
     ensures { (result ≡ length (line_text line)) × (result ≤ 88) }
 {
-    let refusal = line.refusal;
-    if refusal == 0 {
-        return counts_len(counts_of(line));
+    if line.refusal == 0 {
+        return counts_len(line.counts());
     }
-    refused_len(refusal)
+    refused_len(line.refusal)
 }
 
 fn put_line(line: Line, out: &mut [u8], at: usize) -> usize
     ensures { WhereFits out.old at (line_text line) out.new result }
 {
-    let refusal = line.refusal;
-    if refusal == 0 {
-        return put_counts(b"set", counts_of(line), out, at);
+    if line.refusal == 0 {
+        return put_counts(b"set", line.counts(), out, at);
     }
-    put_refused(refusal, out, at)
+    put_refused(line.refusal, out, at)
 }
 
-// How long the first lines are.
-pub(crate) fn lines_len(lines: [Line; MAX_SETS], count: usize) -> usize
-    requires { count ≤ 64 }
-    ensures { (result ≡ length (lines_text (take count lines))) × (result ≤ 88 * count) }
+// How long so many lines are.
+pub(crate) fn lines_len(lines: &[Line]) -> u32
+    requires { length lines.now ≤ 64 }
+    ensures { result ≡ length (lines_text lines.now) }
 {
-    let mut len: usize = 0;
-    let mut i: usize = 0;
-    while i < count {
-        len += line_len(lines[i]);
-        i += 1;
-    }
-    len
+    lines.iter().map(|line| line_len(*line) as u32).sum()
 }
 
-// Puts the first lines.
-pub(crate) fn put_lines(lines: [Line; MAX_SETS], count: usize, out: &mut [u8], at: usize) -> usize
-    requires { count ≤ 64 }
-    ensures { WhereFits out.old at (lines_text (take count lines)) out.new result }
+// Puts them.
+pub(crate) fn put_lines(lines: &[Line], out: &mut [u8], at: usize) -> usize
+    ensures { WhereFits out.old at (lines_text lines.now) out.new result }
 {
     let mut end = at;
-    let mut i: usize = 0;
-    while i < count {
-        end = put_line(lines[i], out, end);
-        i += 1;
+    for line in lines {
+        end = put_line(*line, out, end);
     }
     end
 }

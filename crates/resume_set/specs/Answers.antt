@@ -1,10 +1,12 @@
 -- What the calls over a set and an event answer, and what they write.
-use Rattle.std.specs.Prelude.{ℕ, List, ◌++◌, length, take, leb, eqb}
+use Rattle.std.specs.Prelude.{ℕ, List, ◌++◌, length, take, leb, eqb, Result, Ok, Err}
 use Rattle.misc.specs.Pick.{pick}
-use Rattle.misc.specs.Refusal.{number, no_room, not_a_set}
+use Rattle.misc.specs.declared.refusal.Refusal.{Refusal}
+use Rattle.misc.specs.declared.refusal.WriteError.{WriteError}
+use Rattle.misc.specs.declared.refusal.WriteError.TheVariants.{Refused, NoRoom}
+use Rattle.misc.specs.Refusal.{not_a_set}
 use Rattle.misc.specs.Parse.{Parse, refuse, parsed}
 use Rattle.misc.specs.Output.{output_of}
-use Rattle.misc.specs.declared.Wrote.{Wrote}
 use Rattle.previous_gtids_event.specs.Entry.{Entry}
 use Rattle.previous_gtids_event.specs.Rewrite.{body_bytes}
 use Rattle.gtid_event.specs.declared.GtidEvent.{GtidEvent}
@@ -16,15 +18,13 @@ use Rattle.gtid_sets.specs.Lent.{Lent, form, unfit, lent_set}
 use Rattle.set_join.specs.Answers.{output}
 use Rattle.resume_set.specs.declared.SetRead.{SetRead}
 use Rattle.resume_set.specs.declared.Offered.{Offered}
-use Rattle.resume_set.specs.declared.Offered.TheVariants as offered-as
-use Rattle.resume_set.specs.declared.Kind.{Kind}
-use Rattle.resume_set.specs.declared.Kind.TheVariants as kind
+use Rattle.resume_set.specs.declared.Offered.TheVariants.{NoId, AlreadyThere, Taken}
 
 -- ---- `check_set`
 
-abbrev pub set_read : Lent → SetRead
-set_read unfit = record { refusal = number not_a_set; entries = 0; intervals = 0 }
-set_read (form s) = record { refusal = 0; entries = length s; intervals = intervals s }
+abbrev pub set_read : Lent → Result SetRead Refusal
+set_read unfit = Err not_a_set
+set_read (form s) = Ok (record { entries = length s; intervals = intervals s })
 
 -- ---- `offer`
 
@@ -38,39 +38,28 @@ unfoldable pub event_of : ℕ → List ℕ → Event
 event_of type body = says type (record_in (named type body))
 
 -- where a set of so many bytes has room, its case; else 13 and the needed length
-abbrev pub fitting : (ℕ → Offered) → ℕ → ℕ → Offered
-fitting case size room = pick (leb size room) (case size) (offered-as.Refused (number no_room) size)
+abbrev pub fitting : (ℕ → Offered) → ℕ → ℕ → Result Offered WriteError
+fitting case size room = pick (leb size room) (Ok (case size)) (Err (NoRoom size))
 
 -- which case stands for which answer, where the set after the event has so many bytes and the output so many
-abbrev pub offered_as : Answer → ℕ → ℕ → Offered
-offered_as no_id size room = fitting offered-as.NoId size room
-offered_as already size room = fitting offered-as.AlreadyThere size room
-offered_as taken size room = fitting offered-as.Taken size room
-offered_as (run.refused r) size room = offered-as.Refused (number r) 0
+abbrev pub offered_as : Answer → ℕ → ℕ → Result Offered WriteError
+offered_as no_id size room = fitting NoId size room
+offered_as already size room = fitting AlreadyThere size room
+offered_as taken size room = fitting Taken size room
+offered_as (run.refused r) size room = Err (Refused r)
 
 -- the answer to an event; what is written is `output` of set_join
-abbrev pub offered_of : List Entry → Event → ℕ → Offered
+abbrev pub offered_of : List Entry → Event → ℕ → Result Offered WriteError
 offered_of s e room = offered_as (answer s e) (length (body_bytes (after s e))) room
 
 -- the same for bytes that may be no set
-abbrev pub offered : Lent → Event → ℕ → Offered
-offered unfit e room = offered-as.Refused (number not_a_set) 0
+abbrev pub offered : Lent → Event → ℕ → Result Offered WriteError
+offered unfit e room = Err (Refused not_a_set)
 offered (form s) e room = offered_of s e room
 
 -- what it answers, lent a set, a type with its body and an output, and what it leaves in the output
-abbrev pub offer_answers : List ℕ → ℕ → List ℕ → List ℕ → Offered
+abbrev pub offer_answers : List ℕ → ℕ → List ℕ → List ℕ → Result Offered WriteError
 offer_answers set type body out = offered (lent_set set) (event_of type body) (length out)
 
 abbrev pub offer_leaves : List ℕ → ℕ → List ℕ → List ℕ → List ℕ
 offer_leaves set type body out = output_of out (output (lent_set set) (event_of type body))
-
--- ---- inside
-
--- what was written, as an answer of this kind
-abbrev pub case_of : Kind → ℕ → Offered
-case_of kind.NoId = offered-as.NoId
-case_of kind.AlreadyThere = offered-as.AlreadyThere
-case_of kind.Taken = offered-as.Taken
-
-abbrev pub accepted_as : Kind → Wrote → Offered
-accepted_as k w = pick (eqb w.refusal 0) (case_of k w.len) (offered-as.Refused w.refusal w.len)

@@ -9,9 +9,13 @@ use native.Mathlib.Omega.{arith}
 use lib.Dec.{leb, eqb}
 use lib.ListN.{length, take}
 use lib.Seq.{take-append_seam}
-use Rattle.misc.specs.Refusal.{Refusal, not_a_set}
+use Rattle.std.specs.Prelude.{Ok, Err}
+use Rattle.misc.specs.declared.refusal.Refusal.{Refusal}
+use Rattle.misc.specs.declared.refusal.WriteError.TheVariants.{NoRoom}
+use Rattle.misc.specs.Refusal.{not_a_set}
 use Rattle.misc.specs.Parse.{Bytes, Parse, refuse, parsed}
 use Rattle.misc.specs.Output.{bytes, refused, output_of}
+use Rattle.misc.proofs.ParseLaws.{ok-err}
 use Rattle.packets.specs.Key.{Key}
 use Rattle.packets.specs.Kept.{padded}
 use Rattle.packets.proofs.Tests.{split}
@@ -36,7 +40,7 @@ use Rattle.gtid_sets.proofs.TotalLaws.{bit, after-total}
 use Rattle.set_join.specs.Answers.{output_as}
 use Rattle.resume_set.specs.Answers.{says, event_of, fitting, offered_as}
 use Rattle.resume_set.specs.declared.Offered.{Offered}
-use Rattle.resume_set.specs.declared.Offered.TheVariants.{NoId, AlreadyThere, Taken, Refused}
+use Rattle.resume_set.specs.declared.Offered.TheVariants.{NoId, AlreadyThere, Taken}
 use Rattle.resume_set_laws.specs.History.{Ids, none, among, Outcome, accepted, kept_in, ids_in, Turn, id_of, offered_in, comes_to, takes, RefusalsKeep}
 use Rattle.resume_set_laws.specs.Ours.{ours}
 use Rattle.resume_set_laws.proofs.Starts.{front}
@@ -102,12 +106,12 @@ module _ (set : List ℕ) (s : List Entry) (t : Turn) (lent : lent_set set ≡ f
   -- an answer that is no refusal: what is kept is the set after the event where that has room, and the set itself where it hasn't
   went : (case : ℕ → Offered) (ids : Ids) (a : Answer) → answer s (said t) ≡ a
       → ((size room : ℕ) → offered_as a size room ≡ fitting case size room) → ((bs : List ℕ) → output_as a bs ≡ bytes bs)
-      → ((out : List ℕ) (len : ℕ) → offered_in (said t) out (case len) ≡ accepted ids (take len out))
+      → ((out : List ℕ) (len : ℕ) → offered_in (said t) out (Ok (case len)) ≡ accepted ids (take len out))
       → ((k : Key) (n : ℕ) → is_member a && is_of (said t) k n ≡ among ids k n)
-      → ((len : ℕ) → takes (case len) ≡ bit (is_taken a)) → KeepsOne set s t
+      → ((len : ℕ) → takes (Ok (case len)) ≡ bit (is_taken a)) → KeepsOne set s t
   went case ids a e told writes comes those adds = split (leb (length grown) (length t.out))
       (λ h.
-      let o : ours.answers set t ≡ case (length grown) = rw (lent, e, told, h) in
+      let o : ours.answers set t ≡ Ok (case (length grown)) = rw (lent, e, told, h) in
       let w : ours.leaves set t ≡ output_of t.out (bytes grown) = rw (lent, e, writes) in
       let c : comes_to ours set t ≡ accepted ids grown =
       ap (offered_in (said t) (ours.leaves set t)) o ∙ comes (ours.leaves set t) (length grown)
@@ -124,7 +128,7 @@ module _ (set : List ℕ) (s : List Entry) (t : Turn) (lent : lent_set set ≡ f
       })
       (λ h.
       let o : ours.answers set t ≡ fitting case (length grown) (length t.out) = rw (lent, e, told) in
-      let k : ours.answers set t ≡ Refused 13 (length grown) = o ∙ rw h in
+      let k : ours.answers set t ≡ Err (NoRoom (length grown)) = o ∙ rw h in
       record {
         keeps = record { next = s; lent = rw k lent; members = λ i n. rw k (sym (or-false (has s i n))) };
         counted = rw k (omega arith);
@@ -145,24 +149,23 @@ module _ (set : List ℕ) (s : List Entry) (t : Turn) (lent : lent_set set ≡ f
 -- ---- a refusal changes nothing
 
 pub refusals-keep : RefusalsKeep ours
-refusals-keep set t n len h = (unchanged (lent_set set) refl, rw h)
+refusals-keep set t x h = (unchanged (lent_set set) refl, rw h)
   where
     -- a case that is no refusal is told where there is no room only
-    no_room : (case : ℕ → Offered) (bs : List ℕ) → ((m : ℕ) → case m ≡ Refused n len → ⊥) → fitting case (length bs) (length t.out) ≡ Refused n len
-        → output_of t.out (bytes bs) ≡ t.out
-    no_room case bs never e = split (leb (length bs) (length t.out))
-        (λ room. absurd (never (length bs) (rw room at e)))
+    no_room : (case : ℕ → Offered) (bs : List ℕ) → fitting case (length bs) (length t.out) ≡ Err x → output_of t.out (bytes bs) ≡ t.out
+    no_room case bs e = split (leb (length bs) (length t.out))
+        (λ room. absurd (ok-err (rw room at e)))
         (short t.out bs)
 
-    told : (s : List Entry) (a : Answer) → answer s (said t) ≡ a → offered_as a (length (body_bytes (after s (said t)))) (length t.out) ≡ Refused n len
+    told : (s : List Entry) (a : Answer) → answer s (said t) ≡ a → offered_as a (length (body_bytes (after s (said t)))) (length t.out) ≡ Err x
         → output_of t.out (output_as a (body_bytes (after s (said t)))) ≡ t.out
-    told s no_id e o = no_room NoId _ (λ m x. let z : ◌≡◌ {A = ℕ} 0 1 = cc in omega arith) o
-    told s already e o = no_room AlreadyThere _ (λ m x. let z : ◌≡◌ {A = ℕ} 0 1 = cc in omega arith) o
-    told s taken e o = no_room Taken _ (λ m x. let z : ◌≡◌ {A = ℕ} 0 1 = cc in omega arith) o
+    told s no_id e o = no_room NoId _ o
+    told s already e o = no_room AlreadyThere _ o
+    told s taken e o = no_room Taken _ o
     told s (run.refused r) e o = out-refused t.out r
 
     unchanged : (l : Lent) → lent_set set ≡ l → ours.leaves set t ≡ t.out
     unchanged unfit e = rw e (out-refused t.out not_a_set)
     unchanged (form s) e =
-        let o : offered_as (answer s (said t)) (length (body_bytes (after s (said t)))) (length t.out) ≡ Refused n len = rw e at h in
+        let o : offered_as (answer s (said t)) (length (body_bytes (after s (said t)))) (length t.out) ≡ Err x = rw e at h in
         rw e (told s (answer s (said t)) refl o)

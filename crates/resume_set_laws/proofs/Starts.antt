@@ -8,11 +8,13 @@ use lib.Dec.{leb}
 use lib.ListN.{length, take}
 use lib.Seq.{take-append_seam}
 use borrow.Author.Tests.{leb-true}
-use Rattle.misc.specs.Refusal.{Refusal, number, bad_gno, too_long}
+use Rattle.std.specs.Prelude.{Ok}
+use Rattle.misc.specs.declared.refusal.Refusal.{Refusal}
+use Rattle.misc.specs.Refusal.{bad_gno, too_long}
 use Rattle.misc.specs.Body.{body_limit}
 use Rattle.misc.specs.Parse.{Parse, refuse, parsed}
 use Rattle.misc.specs.Output.{Output, bytes, refused, output_of, answer_of}
-use Rattle.misc.proofs.ParseLaws.{no_zero}
+use Rattle.misc.proofs.ParseLaws.{ok-err}
 use Rattle.misc.proofs.BodyLaws.{body_limit-is}
 use Rattle.packets.proofs.Tests.{split}
 use Rattle.previous_gtids_event.specs.Entry.{Entry}
@@ -33,31 +35,34 @@ unfolding output_of
 front out bs h = rw h (take-append_seam bs _)
 
 -- bytes that were written stand at the output's front
-wrote : (out : List ℕ) (o : Output) (set : List ℕ) → (answer_of out o).refusal ≡ 0 → take (answer_of out o).len (output_of out o) ≡ set → o ≡ bytes set
+wrote : (out : List ℕ) (o : Output) (set : List ℕ) (len : ℕ) → answer_of out o ≡ Ok len → take len (output_of out o) ≡ set → o ≡ bytes set
 unfolding answer_of
-wrote out (refused r) set none is = absurd (no_zero r none)
-wrote out (bytes bs) set none is = split (leb (length bs) (length out))
-    (λ h. let front-is : take (length bs) (output_of out (bytes bs)) ≡ set = rw h at is in ap bytes (sym (front out bs h) ∙ front-is))
-    (λ h. let clash : 13 ≡ 0 = rw h at none in absurd (omega arith))
+wrote out (refused r) set len told is = absurd (ok-err (sym told))
+wrote out (bytes bs) set len told is = split (leb (length bs) (length out))
+    (λ h.
+    let told : Ok (length bs) ≡ Ok len = rw h at told in
+    let size : len ≡ length bs = cc in
+    let front-is : take (length bs) (output_of out (bytes bs)) ≡ set = rw size at is in
+    ap bytes (sym (front out bs h) ∙ front-is))
+    (λ h. absurd (ok-err (sym (rw h at told))))
 
 -- a body that is too long isn't accepted
 long-refused : (body : List ℕ) → leb (length body) body_limit ≡ false → previous body ≡ refuse too_long
 unfolding previous
 long-refused body h = rw h
 
-refused-told : (out : List ℕ) (r : Refusal) → (answer_of out (refused r)).refusal ≡ number r
+not-refused : (out : List ℕ) (r : Refusal) {len : ℕ} → answer_of out (refused r) ≡ Ok len → ⊥
 unfolding answer_of
-refused-told out r = refl
+not-refused out r e = ok-err (sym e)
 
 -- so one that is accepted is read as it is laid out
 reads : (body : List ℕ) (es : List Entry) (set : List ℕ) (t : TakesIn body es set) → previous body ≡ parsed es t.used
 reads body es set t = split (leb (length body) body_limit)
     (λ h. laid-read body es t.used t.are_bytes (omega (arith, leb-true (length body) body_limit h, body_limit-is)) t.laid)
-    (λ h. absurd (no_zero too_long (sym (refused-told t.out too_long)
-    ∙ sym (ap (λ (p : Parse (List Entry)). (answer_of t.out (taken_in p)).refusal) (long-refused body h)) ∙ t.accepts)))
+    (λ h. absurd (not-refused t.out too_long (sym (ap (λ (p : Parse (List Entry)). answer_of t.out (taken_in p)) (long-refused body h)) ∙ t.accepts)))
 
 becomes : (body : List ℕ) (es : List Entry) (set : List ℕ) (t : TakesIn body es set) → taken_in (parsed es t.used) ≡ bytes set
-becomes body es set t = ap taken_in (sym (reads body es set t)) ∙ wrote t.out (taken_in (previous body)) set t.accepts t.writes
+becomes body es set t = ap taken_in (sym (reads body es set t)) ∙ wrote t.out (taken_in (previous body)) set t.len t.accepts t.writes
 
 pub starts : (body : List ℕ) (es : List Entry) (set : List ℕ) → TakesIn body es set → lent_set set ≡ form (taken_set es)
 starts body es set t = split (lawful es)

@@ -1,7 +1,8 @@
 -- Demand 3 on bytes: which ids are members after a list of events, whatever gives them to the set, and replay. Then the same of any offer, and how
 -- many ids there are after offers.
-use Rattle.std.specs.Prelude.{ℕ, ◌+◌, ◌≤◌, ◌≡◌, Bool, false, ◌&&◌, ◌||◌, List, [], ◌∷◌, ◌++◌, length, take, ltb, eqb}
-use Rattle.misc.specs.Refusal.{number, no_room, full, crowded}
+use Rattle.std.specs.Prelude.{ℕ, ◌+◌, ◌≤◌, ◌≡◌, Bool, false, ◌&&◌, ◌||◌, List, [], ◌∷◌, ◌++◌, length, take, ltb, eqb, Result, Ok, Err}
+use Rattle.misc.specs.declared.refusal.WriteError.{WriteError}
+use Rattle.misc.specs.Refusal.{number, error_number, error_needed, full, crowded}
 use Rattle.misc.specs.Parse.{Bytes}
 use Rattle.packets.specs.Key.{Key, same}
 use Rattle.previous_gtids_event.specs.Entry.{Entry}
@@ -14,7 +15,7 @@ use Rattle.gtid_sets.specs.Total.{total}
 use Rattle.set_join.specs.Answers.{take_in_answers, take_in_leaves}
 use Rattle.resume_set.specs.Answers.{event_of}
 use Rattle.resume_set.specs.declared.Offered.{Offered}
-use Rattle.resume_set.specs.declared.Offered.TheVariants.{NoId, AlreadyThere, Taken, Refused}
+use Rattle.resume_set.specs.declared.Offered.TheVariants.{NoId, AlreadyThere, Taken}
 
 -- ---- what an event comes to that is given to a set, whatever gives it
 
@@ -80,9 +81,9 @@ abbrev pub for_full : Outcome → Bool
 for_full (refused n len) = eqb n (number full) || eqb n (number crowded)
 for_full (accepted ids next) = false
 
--- refused for room: with the length that is needed
+-- refused for room (13): with the length that is needed
 abbrev pub for_room : Outcome → Bool
-for_room (refused n len) = eqb n (number no_room) && ltb 0 len
+for_room (refused n len) = eqb n 13 && ltb 0 len
 for_room (accepted ids next) = false
 
 -- ---- members
@@ -101,8 +102,9 @@ pub record TakesIn (body : List ℕ) (es : List Entry) (set : List ℕ) : Type 0
   pub used : ℕ
   pub laid : BodyLaid body es used
   pub out : List ℕ
-  pub accepts : (take_in_answers body out).refusal ≡ 0
-  pub writes : take (take_in_answers body out).len (take_in_leaves body out) ≡ set
+  pub len : ℕ
+  pub accepts : take_in_answers body out ≡ Ok len
+  pub writes : take len (take_in_leaves body out) ≡ set
 
 -- from a body that was taken in, after any such events: the set's bytes are a set, and its members are the ids of the body and those that events
 -- made members; so it is after each of a list, since its beginnings are lists too
@@ -132,7 +134,7 @@ pub record Turn : Type 0 where
 
 -- an offer: from the bytes of a set, what it answers and what it leaves in the output
 pub record Offering : Type 0 where
-  pub answers : List ℕ → Turn → Offered
+  pub answers : List ℕ → Turn → Result Offered WriteError
   pub leaves : List ℕ → Turn → List ℕ
 
 -- the id of an event, the one that was sent in it (by its layout: `named` of `Answers` of promises)
@@ -142,11 +144,11 @@ id_of (broken r) = none
 id_of (names k n) = one k n
 
 -- what an answer comes to: "taken" and "already there" make the event's id a member, and the set is what was written
-abbrev pub offered_in : Event → List ℕ → Offered → Outcome
-offered_in e out (NoId len) = accepted none (take len out)
-offered_in e out (AlreadyThere len) = accepted (id_of e) (take len out)
-offered_in e out (Taken len) = accepted (id_of e) (take len out)
-offered_in e out (Refused n len) = refused n len
+abbrev pub offered_in : Event → List ℕ → Result Offered WriteError → Outcome
+offered_in e out (Ok (NoId len)) = accepted none (take len out)
+offered_in e out (Ok (AlreadyThere len)) = accepted (id_of e) (take len out)
+offered_in e out (Ok (Taken len)) = accepted (id_of e) (take len out)
+offered_in e out (Err x) = refused (error_number x) (error_needed x)
 
 abbrev pub comes_to : Offering → List ℕ → Turn → Outcome
 comes_to f set t = offered_in (event_of t.type t.body) (f.leaves set t) (f.answers set t)
@@ -169,16 +171,16 @@ Replays f = Again OfBytes Roomy SameEvent (comes_to f)
 
 -- a refusal changes nothing: neither the output nor the set that is kept
 abbrev pub RefusalsKeep : Offering → Type 0
-RefusalsKeep f = (set : List ℕ) (t : Turn) (n len : ℕ) → f.answers set t ≡ Refused n len → (f.leaves set t ≡ t.out) × (kept (comes_to f) set t ≡ set)
+RefusalsKeep f = (set : List ℕ) (t : Turn) (x : WriteError) → f.answers set t ≡ Err x → (f.leaves set t ≡ t.out) × (kept (comes_to f) set t ≡ set)
 
 -- ---- totals (CR 13)
 
 -- 1 for "taken"
-abbrev pub takes : Offered → ℕ
-takes (NoId len) = 0
-takes (AlreadyThere len) = 0
-takes (Taken len) = 1
-takes (Refused n len) = 0
+abbrev pub takes : Result Offered WriteError → ℕ
+takes (Ok (NoId len)) = 0
+takes (Ok (AlreadyThere len)) = 0
+takes (Ok (Taken len)) = 1
+takes (Err x) = 0
 
 -- how many offers of a run are answered "taken"
 abbrev pub takings : Offering → List ℕ → List Turn → ℕ

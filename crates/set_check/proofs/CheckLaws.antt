@@ -1,15 +1,16 @@
 -- Laws of the check: its loop, and what a whole set is.
 use Prim.Native.Nat.{ℕ, ◌+◌, ◌<◌, ◌≤◌}
 use mathlib.Core.Path.{◌≡◌, refl, sym, ap, ◌∙◌}
-use mathlib.Core.Bool.{Bool, true, false, not, ◌||◌, ◌&&◌}
+use mathlib.Core.Bool.{Bool, false, ◌||◌, or-false}
 use mathlib.Core.List.{List, [], ◌∷◌, ◌++◌}
 use native.Mathlib.Omega.{arith}
 use lib.Dec.{ltb}
 use lib.ListN.{length, drop, length-drop}
 use lib.Seq.{drop-length, drop_at}
+use Rattle.std.specs.Prelude.{Ok, Err}
+use Rattle.misc.specs.Refusal.{not_a_set}
 use Rattle.misc.specs.Parse.{Bytes}
 use Rattle.packets.specs.Key.{Key}
-use Rattle.packets.proofs.Tests.{clash}
 use Rattle.previous_gtids_event.specs.Entry.{Entry, entry, uuid_of}
 use Rattle.previous_gtids_event.specs.Rewrite.{entries_bytes, any_tag, header_bytes, body_bytes}
 use Rattle.gtid_sets.specs.Set.{Above}
@@ -22,9 +23,6 @@ use Rattle.set_check.specs.Check.{checked_of, HeaderIs, NoHeader, EntryIs, NoEnt
 use Rattle.set_check.specs.Cursor.{beyond_of, key_here}
 use Rattle.set_check.specs.declared.Cursor.{Cursor}
 use Rattle.set_check.specs.declared.EntryPlace.{EntryPlace}
-use Rattle.set_check.specs.declared.Header.{Header}
-use Rattle.set_check.specs.declared.Entries.{Entries}
-use Rattle.set_check.specs.declared.Checked.{Checked}
 use Rattle.set_check.proofs.HeaderLaws.{header-there, headers-same}
 use Rattle.set_check.proofs.RestLaws.{rest-before, same_total, rest-not, rest-after}
 
@@ -53,18 +51,6 @@ module _ (bs : List ℕ) (from c : Cursor) (low : Key) (used : ℕ) (any : Bool)
           total = λ q. v.total (rest-before bs c low used any left p h ok q) ∙ omega (arith, same_total bs c low used any left p h ok q);
         })
 
-agree : (a b : Bool) → (a && b) || not (a || b) ≡ true → b || false ≡ a
-agree true true e = refl
-agree true false e = clash e refl
-agree false true e = clash e refl
-agree false false e = refl
-
-agreed : (a b : Bool) → b || false ≡ a → (a && b) || not (a || b) ≡ true
-agreed true true e = refl
-agreed true false e = clash e refl
-agreed false true e = clash refl e
-agreed false false e = refl
-
 -- nothing is left: all was there just if the place is the end and the tags are as the header says
 nothing_left : (bs : List ℕ) (c : Cursor) (low : Key) (used : ℕ) (any : Bool) → c.left ≡ 0 → Rest bs c low used any
     → (drop c.at bs ≡ []) × (any || false ≡ c.tagged)
@@ -82,14 +68,13 @@ module _ (bs : List ℕ) (from c : Cursor) (low : Key) (used : ℕ) (any : Bool)
       let e = (nothing_left bs c low used any none (v.on p)).0 in
       k (omega (arith, sym (length-drop c.at bs) ∙ ap length e))
 
-  pub walked-untagged : (c.tagged && any) || not (c.tagged || any) ≡ false → Rest bs from [] 0 false → ⊥
-  walked-untagged f p = clash (agreed c.tagged any (nothing_left bs c low used any none (v.on p)).1) f
+  pub walked-untagged : (c.tagged ≡ any → ⊥) → Rest bs from [] 0 false → ⊥
+  walked-untagged f p = f (sym (nothing_left bs c low used any none (v.on p)).1 ∙ or-false any)
 
   pub walked_many : max_intervals < used → Rest bs from [] 0 false → ⊥
   walked_many m p = omega (arith, (v.on p).limit)
 
-  pub walked_whole : c.at ≡ length bs → used ≤ max_intervals → (c.tagged && any) || not (c.tagged || any) ≡ true
-      → Whole bs from (record { ok = true; intervals = used })
+  pub walked_whole : c.at ≡ length bs → used ≤ max_intervals → c.tagged ≡ any → Whole bs from used
   unfolding entries_bytes any_tag
   walked_whole e u t =
       let end : Rest bs c low used any = record {
@@ -101,9 +86,9 @@ module _ (bs : List ℕ) (from c : Cursor) (low : Key) (used : ℕ) (any : Bool)
         keyed = tt;
         fair = refl;
         limit = omega arith;
-        tags = agree c.tagged any t;
+        tags = or-false any ∙ sym t;
       } in
-      record { rest = v.back end; total = v.total end ∙ omega arith }
+      record { rest = v.back end; total-is = v.total end ∙ omega arith }
 
 -- ---- a lent set
 
@@ -137,39 +122,32 @@ lent-rest bs s l =
       },
     )
 
-abbrev unfit_answer : Checked
-unfit_answer = record { refusal = 14; tagged = false; entries = 0; intervals = 0 }
-
-pub check-headless : (bs : List ℕ) → NoHeader bs → unfit_answer ≡ checked_of (lent_set bs)
+pub check-headless : (bs : List ℕ) → NoHeader bs → Err not_a_set ≡ checked_of (lent_set bs)
 check-headless bs none =
     let u = lent_none bs (λ s l. let (a, b, c) = lent-rest bs s l in none (any_tag s) (length s) (entries_bytes (any_tag s) s) b a) in
     rw u
 
 -- all entries behind a header
-abbrev behind : Header → Cursor
-behind r = record { tagged = r.tagged; at = 8; left = r.count }
-
-module _ (bs : List ℕ) (r : Header) (h : HeaderIs bs r) where
-  pub check-broken : (Rest bs (behind r) [] 0 false → ⊥) → unfit_answer ≡ checked_of (lent_set bs)
+module _ (bs : List ℕ) (c : Cursor) (h : HeaderIs bs c) where
+  pub check-broken : (Rest bs c [] 0 false → ⊥) → Err not_a_set ≡ checked_of (lent_set bs)
   check-broken none =
       let u = lent_none bs (λ s l.
-      let (a, b, c) = lent-rest bs s l in
-      let (p, q) = headers-same r.tagged (any_tag s) r.count (length s) h.few b
-      (sym (header-there bs r.tagged r.count _ h.few h.is) ∙ header-there bs (any_tag s) (length s) _ b a) in
-      none (rw (p, q) c)) in
+      let (a, b, rest) = lent-rest bs s l in
+      let (p, q) = headers-same c.tagged (any_tag s) c.left (length s) h.few b
+      (sym (header-there bs c.tagged c.left _ h.few h.is) ∙ header-there bs (any_tag s) (length s) _ b a) in
+      none (rw (p, q, h.behind) rest)) in
       rw u
 
-  check-lent : (q : Rest bs (behind r) [] 0 false) → lent_set bs ≡ form q.set
+  check-lent : (q : Rest bs c [] 0 false) → lent_set bs ≡ form q.set
   unfolding body_bytes
   check-lent q =
-      let t : any_tag q.set ≡ r.tagged = q.tags in
+      let t : any_tag q.set ≡ c.tagged = q.tags in
       is-lent bs q.set (record {
-        written = h.is ∙ rw (t, q.count, q.is);
+        written = h.is ∙ rw (t, q.count, ← h.behind, q.is);
         formed = q.formed;
         keyed = q.keyed;
         limited = limits-from q.set q.fair (omega (arith, q.count, h.few)) (omega (arith, q.limit));
       })
 
-  pub check-whole : (x : Entries) (q : Whole bs (behind r) x)
-      → ◌≡◌ {A = Checked} (record { refusal = 0; tagged = r.tagged; entries = r.count; intervals = x.intervals }) (checked_of (lent_set bs))
-  check-whole x q = let t : any_tag q.rest.set ≡ r.tagged = q.rest.tags in rw (check-lent q.rest, t, q.rest.count, q.total)
+  pub check-whole : (total : ℕ) (q : Whole bs c total) → Ok (record { tagged = c.tagged; entries = c.left; intervals = total }) ≡ checked_of (lent_set bs)
+  check-whole total q = let t : any_tag q.rest.set ≡ c.tagged = q.rest.tags in rw (check-lent q.rest, t, q.rest.count, q.total-is)

@@ -5,7 +5,7 @@ use mathlib.Core.Bool.{Bool, true, false, or-false}
 use mathlib.Core.List.{List, [], ◌∷◌, ◌++◌, append_assoc}
 use native.Mathlib.Omega.{arith}
 use lib.Dec.{ltb, leb}
-use borrow.Author.Tests.{ltb-false, leb-true, le-leb, lt-leb}
+use borrow.Author.Tests.{ltb-false, leb-true, le-leb}
 use lib.ListN.{length, drop, get_or, length-append, length-drop}
 use Rattle.misc.specs.Parse.{part}
 use Rattle.misc.specs.Le.{le_bytes, number_at}
@@ -24,7 +24,7 @@ use Rattle.gtid_sets.proofs.Bools.{or-false-parts}
 use Rattle.gtid_sets.proofs.ByteLaws.{entries-least}
 use Rattle.gtid_sets.proofs.LentLaws.{gapped-wide}
 use Rattle.set_intervals.specs.Intervals.{intervals_at, intervals_in}
-use Rattle.set_check.specs.Places.{place_from, place_at, nowhere, or_nowhere, place_in, key_there, entries_at, EntriesIn}
+use Rattle.set_check.specs.Places.{place_from, place_at, nowhere, place_in, key_there, entries_at, EntriesIn}
 use Rattle.set_check.specs.Head.{head_bytes, KeyOk}
 use Rattle.set_check.specs.declared.EntryPlace.{EntryPlace}
 use Rattle.misc.proofs.Places.{part-there, after_there, left_there, byte-there}
@@ -104,20 +104,6 @@ module _ (bs : List ℕ) (at : ℕ) (k : Key) (is : List Interval) (rest : List 
           let (twice, after) = tag-stands bs at k (length is) (intervals_bytes is ++ rest) ok d in
           from-tag (at + 17) (get_or bs (at + 16) 0 / 2) u (omega arith) (omega arith) after
 
--- ---- what the code makes of an entry
-
-module _ (bs : List ℕ) (p : EntryPlace) where
-  pub whole : p.next ≤ length bs → or_nowhere bs p ≡ p
-  whole h = rw (le-leb p.next (length bs) h)
-
-  pub cut : length bs < p.next → nowhere ≡ or_nowhere bs p
-  cut h = rw (lt-leb p.next (length bs) h)
-
-pub place-made : (bs : List ℕ) (at len n : ℕ) → n ≡ number_at bs (at + len) → at + len + 8 + 16 * n ≤ length bs
-    → ◌≡◌ {A = EntryPlace} (record { tag_at = at; tag_len = len; count = n; first = at + len + 8; next = at + len + 8 + 16 * n })
-    (or_nowhere bs (place_from bs at len))
-place-made bs at len n e h = rw e (sym (whole bs (place_from bs at len) (omega arith)))
-
 -- how an entry's parts lie
 pub record Lies (at : ℕ) (p : EntryPlace) : Type 0 where
   pub tag-after : at + 16 ≤ p.tag_at
@@ -131,7 +117,7 @@ lies false bs at = record { tag-after = omega arith; first-is = refl; next-is = 
 module _ (bs : List ℕ) (w : Bool) (at : ℕ) where
   -- all of an entry that is there
   pub place_here : (place_at w bs at).next ≤ length bs → place_in w bs at ≡ place_at w bs at
-  place_here h = whole bs (place_at w bs at) h
+  place_here h = rw (le-leb (place_at w bs at).next (length bs) h)
 
   -- an entry with intervals that was found is there
   pub place_found : (p : EntryPlace) → p ≡ place_in w bs at → 0 < p.count → (p ≡ place_at w bs at) × (p.next ≤ length bs)
@@ -139,21 +125,6 @@ module _ (bs : List ℕ) (w : Bool) (at : ℕ) where
       split (leb (place_at w bs at).next (length bs))
       (λ h. let same : p ≡ place_at w bs at = told ∙ rw h in (same, rw same (leb-true _ _ h)))
       (λ h. let none : p ≡ nowhere = told ∙ rw h in absurd (omega (arith, ap (λ (x : EntryPlace). x.count) none)))
-
-  -- an entry has 24 bytes at least
-  pub place-gone : length bs < at + 24 → nowhere ≡ place_in w bs at
-  place-gone h = go w
-    where
-      go : (v : Bool) → nowhere ≡ place_in v bs at
-      go true = cut bs (place_at true bs at) (omega arith)
-      go false = cut bs (place_at false bs at) (omega arith)
-
-  pub place-tagged : (p : EntryPlace) (b : ℕ) → w ≡ true → b ≡ get_or bs (at + 16) 0 → p ≡ or_nowhere bs (place_from bs (at + 17) (b / 2))
-      → p ≡ place_in w bs at
-  place-tagged p b e d h = h ∙ rw (e, d)
-
-  pub place-plain : (p : EntryPlace) → w ≡ false → p ≡ or_nowhere bs (place_from bs (at + 16) 0) → p ≡ place_in w bs at
-  place-plain p e h = h ∙ rw e
 
 -- ---- entries one after another
 

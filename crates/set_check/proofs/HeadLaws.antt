@@ -1,13 +1,11 @@
 -- Laws of an entry's head: what the tests of `right_head` say.
 use Prim.Native.Nat.{ℕ, suc, ◌+◌, ◌*◌, ◌/◌, ◌%◌, ◌<◌, ◌≤◌}
 use mathlib.Core.Path.{◌≡◌, refl, sym, ap, ◌∙◌}
-use mathlib.Core.Bool.{Bool, true, false, ◌&&◌}
+use mathlib.Core.Bool.{Bool, true, false}
 use mathlib.Core.List.{List, [], ◌∷◌, ◌++◌}
 use native.Mathlib.Omega.{arith}
-use lib.Dec.{eqb}
 use lib.ListN.{length, drop, get_or}
 use lib.Seq.{drop-cons}
-use borrow.Author.Tests.{eqb-true, eqb-false}
 use Rattle.misc.specs.Parse.{part, Bytes}
 use Rattle.misc.specs.Le.{le_bytes, number_at}
 use Rattle.misc.proofs.ParseLaws.{part_length}
@@ -17,7 +15,7 @@ use Rattle.misc.proofs.VarlenLaws.{one_byte}
 use Rattle.packets.specs.Gno.{Interval}
 use Rattle.packets.specs.Key.{Key}
 use Rattle.packets.specs.Tag.{none_or_tag}
-use Rattle.packets.proofs.Tests.{clash, and-true}
+use Rattle.packets.proofs.Tests.{clash}
 use Rattle.packets.proofs.TagLaws.{none-or-tag-short}
 use Rattle.previous_gtids_event.specs.Rewrite.{intervals_bytes, tag_bytes}
 use Rattle.previous_gtids_event.proofs.Reading.{uuid-of, tag-of}
@@ -73,7 +71,7 @@ module _ (bs : List ℕ) (at : ℕ) where
 
 module _ (bs : List ℕ) (c : Cursor) (p : EntryPlace) (told : p ≡ place_in c.tagged bs c.at) where
   -- an entry that is written there is the one that was found
-  pub written-found : (k : Key) (is : List Interval) (rest : List ℕ) → KeyOk c.tagged k → length is ≤ max_of_entry
+  written-found : (k : Key) (is : List Interval) (rest : List ℕ) → KeyOk c.tagged k → length is ≤ max_of_entry
       → drop c.at bs ≡ head_bytes c.tagged k (length is) (intervals_bytes is ++ rest) → EntryHere bs c.at k is rest p
   written-found k is rest ok few e =
       let here = entry_here bs c.at k is rest (omega (arith, max_of_entry-is)) c.tagged ok e in
@@ -91,18 +89,17 @@ module _ (bs : List ℕ) (c : Cursor) (p : EntryPlace) (told : p ≡ place_in c.
   pub head-many : 1024 < p.count → NoHead bs c
   head-many h k is x o s f e = omega (arith, (written-found k is x o f e).count, max_of_entry-is)
 
-  pub head-odd : (b : ℕ) → b ≡ get_or bs (c.at + 16) 0 → c.tagged && eqb (b % 2) 1 ≡ true → NoHead bs c
-  head-odd b byte odd k is x o s f e =
-      let (t, one) = and-true c.tagged (eqb (b % 2) 1) odd in
+  pub head-odd : c.tagged ≡ true → get_or bs (c.at + 16) 0 % 2 ≡ 1 → NoHead bs c
+  head-odd t odd k is x o s f e =
       let (twice, after) = tag-stands bs c.at k (length is) (intervals_bytes is ++ x) (rw t at o) (rw t at e) in
-      omega (arith, eqb-true (b % 2) 1 one)
+      omega arith
 
   pub head-bad : none_or_tag (part bs p.tag_at p.tag_len) ≡ false → NoHead bs c
   head-bad h k is x o s f e = clash o.good.rule (rw (written-found k is x o f e).tag_there at h)
 
-  pub head-is : Bytes bs → 0 < p.count → p.count ≤ 1024 → (b : ℕ) → b ≡ get_or bs (c.at + 16) 0 → c.tagged && eqb (b % 2) 1 ≡ false
+  pub head-is : Bytes bs → 0 < p.count → p.count ≤ 1024 → (c.tagged ≡ true → get_or bs (c.at + 16) 0 % 2 ≡ 0)
       → none_or_tag (part bs p.tag_at p.tag_len) ≡ true → HeadIs bs c p
-  head-is ok some few b byte odd rule =
+  head-is ok some few even rule =
       let w : Bool = c.tagged in
       let (same, inside) = place_found bs w c.at p told some in
       let tag : drop (c.at + 16) bs ≡ tag_bytes w (part bs p.tag_at p.tag_len) ++ drop (p.tag_at + p.tag_len) bs =
@@ -110,9 +107,6 @@ module _ (bs : List ℕ) (c : Cursor) (p : EntryPlace) (told : p ≡ place_in c.
       let count : p.count ≡ number_at bs (p.tag_at + p.tag_len) = rw same (counted bs c.at w) in
       go same inside (found-lies some).0 tag count (λ f. rw same (untagged bs c.at w f))
     where
-      even : c.tagged ≡ true → get_or bs (c.at + 16) 0 % 2 ≡ 0
-      even t = let other : eqb (b % 2) 1 ≡ false = rw t at odd in omega (arith, eqb-false (b % 2) 1 other)
-
       go : p ≡ place_at c.tagged bs c.at → p.next ≤ length bs → Lies c.at p
           → drop (c.at + 16) bs ≡ tag_bytes c.tagged (part bs p.tag_at p.tag_len) ++ drop (p.tag_at + p.tag_len) bs
           → p.count ≡ number_at bs (p.tag_at + p.tag_len) → (c.tagged ≡ false → p.tag_len ≡ 0) → HeadIs bs c p

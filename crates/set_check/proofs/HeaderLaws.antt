@@ -41,11 +41,12 @@ module _ (bs : List ℕ) where
       omega (arith, length-header w n)
 
   pub header_is : Bytes bs → 8 ≤ length bs → (w : Bool) (n : ℕ) → n ≤ 384 → number_at bs 0 ≡ header_number w n
-      → HeaderIs bs (record { ok = true; tagged = w; count = n })
+      → HeaderIs bs (record { tagged = w; at = 8; left = n })
   header_is ok h w n k e = record {
     is = rw (header-number w n (omega arith), ← e, number-stands bs ok 0 (omega arith)) (part-from bs 0 8);
     few = omega (arith, max_entries-is);
     there = h;
+    behind = refl;
   }
 
   module _ (v : ℕ) (is : v ≡ number_at bs 0) (many : 384 < v) where

@@ -1,5 +1,4 @@
 -- Laws of what stands in the bytes of a set, which any walk over them cites, and those of the check.
-pub mod PlaceLaws
 pub mod EntryPlaces
 pub mod HeaderLaws
 pub mod HeadLaws

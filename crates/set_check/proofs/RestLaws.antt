@@ -1,45 +1,45 @@
 -- The entries of a set, one after another: what the check of an entry says of those from it on.
-use Prim.Native.Nat.{ℕ, ◌+◌, ◌*◌, ◌^◌, ◌<◌, ◌≤◌}
-use mathlib.Core.Path.{◌≡◌, sym, ap, ◌∙◌}
-use mathlib.Core.Logic.{◌⊎◌, inl, inr}
+use Prim.Native.Nat.{ℕ, Ordering, ◌+◌, ◌*◌, ◌^◌, ◌<◌, ◌≤◌}
+use mathlib.Core.Path.{◌≡◌, refl, sym, ap, ◌∙◌}
 use mathlib.Core.Bool.{Bool, true, false, ◌||◌, or_assoc}
 use mathlib.Core.List.{List, [], ◌∷◌, ◌++◌}
 use native.Mathlib.Omega.{arith}
 use lib.Dec.{ltb, leb}
 use borrow.Author.Tests.{ltb-false, leb-true}
 use lib.ListN.{length, drop}
+use Rattle.std.specs.Prelude.{Option, Some, None, MatchBool}
+use Rattle.std.specs.Ordering.{is_lt}
 use Rattle.misc.specs.Parse.{part, Bytes}
 use Rattle.misc.proofs.ParseLaws.{part_length}
 use Rattle.packets.specs.Gno.{Interval}
 use Rattle.packets.specs.Key.{Key, order, or_else, order_read, ◌≺◌}
-use Rattle.packets.specs.declared.KeyOrder.{KeyOrder}
+use Rattle.std.specs.declared.cmp.Ordering as cmp
 use Rattle.packets.proofs.Tests.{split, clash}
 use Rattle.packets.proofs.Keys.{order-append}
 use Rattle.previous_gtids_event.specs.Entry.{Entry, entry, tag_of}
 use Rattle.previous_gtids_event.specs.Previous.{GoodKey}
 use Rattle.previous_gtids_event.specs.Rewrite.{intervals_bytes, entries_bytes, any_tag}
-use Rattle.gtid_sets.specs.Interval.{Gapped, gapped, Some}
+use Rattle.gtid_sets.specs.Interval as interval
+use Rattle.gtid_sets.specs.Interval.{Gapped, gapped}
 use Rattle.gtid_sets.specs.Set.{Above, SetForm}
 use Rattle.gtid_sets.specs.Limits.{max_intervals, max_of_entry, intervals, crowds}
 use Rattle.gtid_sets.specs.Lent.{GoodKeys}
 use Rattle.gtid_sets.proofs.Bools.{or-false-parts}
 use Rattle.gtid_sets.proofs.FormLaws.{gapped-holds, gapped-tests}
-use Rattle.gtid_sets.proofs.LimitLaws.{max_intervals-is, over_none}
+use Rattle.gtid_sets.proofs.LimitLaws.{max_intervals-is, max_of_entry-is, over_none}
 use Rattle.previous_gtids_event.proofs.Reading.{tag-of, key-whole}
 use Rattle.previous_gtids_event.proofs.Writing.{length-intervals-bytes}
 use Rattle.gtid_sets.proofs.LentLaws.{gapped-wide}
 use Rattle.misc.proofs.Places.{after_there}
 use Rattle.set_intervals.specs.Intervals.{intervals_at}
-use Rattle.set_check.specs.Places.{place_in}
 use Rattle.set_check.specs.Cursor.{beyond_of, key_here}
-use Rattle.set_check.specs.Head.{head_bytes, KeyOk, HeadIs, NoHead}
-use Rattle.set_check.specs.Check.{key_in, LowKey, EntryIs, NoEntry, Rest}
+use Rattle.set_check.specs.Head.{head_bytes, KeyOk, HeadIs}
+use Rattle.set_check.specs.Check.{key_in, KeyThere, low_key, LowThere, EntryIs, NoEntry, Rest}
 use Rattle.set_check.specs.declared.Cursor.{Cursor}
 use Rattle.set_check.specs.declared.EntryPlace.{EntryPlace}
 use Rattle.set_check.specs.declared.KeyPlace.{KeyPlace}
 use Rattle.set_intervals.proofs.Standing.{intervals-there, intervals-count, intervals-stand}
 use Rattle.set_check.proofs.EntryPlaces.{entries-head, EntryHere, entry_here, Lies, lies}
-use Rattle.set_check.proofs.HeadLaws.{written-found}
 
 -- a key of a set without tags has none
 key-ok : (w any : Bool) (k : Key) (is : List Interval) (s : List Entry) → GoodKey k → (any || any_tag (entry k is ∷ s)) ≡ w → KeyOk w k
@@ -54,25 +54,34 @@ key-ok w any k is s g t = record {
 
 -- ---- keys in parts
 
-low-order : (bs : List ℕ) (low : KeyPlace) → LowKey bs low → (v x : List ℕ) → length v ≡ 16
-    → order (key_in bs low) (v ++ x) ≡ or_else (order (part bs low.at low.len) v) (order (part bs low.tag_at low.tag_len) x)
-low-order bs low l v x h = go v l.shape h
-  where
-    go : (v : List ℕ) → (low.len ≡ 16) ⊎ ((low.len ≡ 0) × (low.tag_len ≡ 0)) → length v ≡ 16
-        → order (key_in bs low) (v ++ x) ≡ or_else (order (part bs low.at low.len) v) (order (part bs low.tag_at low.tag_len) x)
-    go v (inl e) h =
-        order-append (part bs low.at low.len) v (part bs low.tag_at low.tag_len) x
-        (part_length low.len bs low.at l.there ∙ e ∙ sym h)
-    go [] (inr e) h = absurd (omega arith)
-    go (y ∷ v) (inr e) h = rw (e.0, e.1)
+-- two keys are in the order of their uuids, or else of their tags
+keys-ordered : (bs : List ℕ) (k j : KeyPlace) → KeyThere bs k → KeyThere bs j
+    → order (key_in bs k) (key_in bs j)
+    ≡ or_else (order (part bs k.at 16) (part bs j.at 16)) (order (part bs k.tag_at k.tag_len) (part bs j.tag_at j.tag_len))
+keys-ordered bs k j h g =
+    order-append (part bs k.at 16) (part bs j.at 16) (part bs k.tag_at k.tag_len) (part bs j.tag_at j.tag_len)
+    (part_length 16 bs k.at h.uuid ∙ sym (part_length 16 bs j.at g.uuid))
 
--- the order that the code found
-pub order-found : (bs : List ℕ) (c : Cursor) (p : EntryPlace) → c.at + 16 ≤ length bs → (low : KeyPlace) → LowKey bs low → (told : KeyOrder)
-    → told ≡ order_read (or_else (order (part bs low.at low.len) (part bs c.at 16))
-    (order (part bs low.tag_at low.tag_len) (part bs p.tag_at p.tag_len)))
-    → order_read (order (key_in bs low) (key_here bs c p)) ≡ told
-order-found bs c p there low l told is =
-    ap order_read (low-order bs low l (part bs c.at 16) (part bs p.tag_at p.tag_len) (part_length 16 bs c.at there)) ∙ sym is
+-- and so the code tells the order of a key and the one before it
+pub low-told : (bs : List ℕ) (low : Option KeyPlace) (k j : KeyPlace) → low ≡ Some k → LowThere bs low → KeyThere bs j → {told : cmp.Ordering}
+    → told ≡ order_read (or_else (order (part bs k.at 16) (part bs j.at 16)) (order (part bs k.tag_at k.tag_len) (part bs j.tag_at j.tag_len)))
+    → order_read (order (low_key bs low) (key_in bs j)) ≡ told
+low-told bs low k j e h g is = rw e (ap order_read (keys-ordered bs k j (rw e at h) g) ∙ sym is)
+
+-- by which it is higher or not
+pub told-above : (o : Ordering) (told : cmp.Ordering) (b : Bool) → order_read o ≡ told → b ≡ is_lt told
+    → MatchBool b (o ≡ Ordering.lt) (o ≡ Ordering.lt → ⊥)
+told-above Ordering.lt told b e h = rw (h, ← e) refl
+told-above Ordering.eq told b e h = rw (h, ← e) (λ p. cc)
+told-above Ordering.gt told b e h = rw (h, ← e) (λ p. cc)
+
+-- where there is none, it is higher
+pub low_none : (bs : List ℕ) (low : Option KeyPlace) (j : KeyPlace) → low ≡ None → KeyThere bs j → low_key bs low ≺ key_in bs j
+low_none bs low j e g = rw e (lowest (part bs j.at 16) (part bs j.tag_at j.tag_len) (part_length 16 bs j.at g.uuid))
+  where
+    lowest : (u t : List ℕ) → length u ≡ 16 → [] ≺ (u ++ t)
+    lowest [] t h = absurd (omega arith)
+    lowest (x ∷ u) t h = refl
 
 -- ---- the tests of `entry_above`
 
@@ -85,23 +94,24 @@ here-intervals : (bs : List ℕ) (at : ℕ) (p : EntryPlace) (k : Key) (is : Lis
 here-intervals bs at p k is rest h g =
     ap (λ (n : ℕ). intervals_at n bs p.first) h.count ∙ intervals-there bs p.first is rest h.after (gapped-wide 0 is g)
 
-module _ (bs : List ℕ) (c : Cursor) (low : Key) where
-  pub entry-headless : NoHead bs c → NoEntry bs c low
-  entry-headless h k is x o s g f r e = h k is x o s f e
+module _ (bs : List ℕ) (c : Cursor) (low : Key) (p : EntryPlace) (h : HeadIs bs c p) where
+  -- an entry that is written there is the one that was found
+  found : (k : Key) (is : List Interval) (rest : List ℕ) → KeyOk c.tagged k → length is ≤ max_of_entry
+      → drop c.at bs ≡ head_bytes c.tagged k (length is) (intervals_bytes is ++ rest) → EntryHere bs c.at k is rest p
+  found k is rest ok few e = rw h.stands (entry_here bs c.at k is rest (omega (arith, max_of_entry-is)) c.tagged ok e)
 
-  module _ (p : EntryPlace) (told : p ≡ place_in c.tagged bs c.at) where
-    pub entry-ungapped : gapped 0 (intervals_at p.count bs p.first) ≡ false → NoEntry bs c low
-    entry-ungapped u k is x o s g f r e =
-        let same = here-intervals bs c.at p k is x (written-found bs c p told k is x o f e) g in
-        clash (gapped-tests 0 is g) (sym (ap (gapped 0) same) ∙ u)
+  pub entry-ungapped : gapped 0 (intervals_at p.count bs p.first) ≡ false → NoEntry bs c low
+  entry-ungapped u k is x o s g f r e =
+      let same = here-intervals bs c.at p k is x (found k is x o f e) g in
+      clash (gapped-tests 0 is g) (sym (ap (gapped 0) same) ∙ u)
 
-    pub entry-low : (low ≺ key_here bs c p → ⊥) → NoEntry bs c low
-    entry-low u k is x o s g f r e =
-        let same = here-key bs c p k is x (written-found bs c p told k is x o f e) in
-        u (ap (order low) same ∙ r)
+  pub entry-low : (low ≺ key_here bs c p → ⊥) → NoEntry bs c low
+  entry-low u k is x o s g f r e =
+      let same = here-key bs c p k is x (found k is x o f e) in
+      u (ap (order low) same ∙ r)
 
-  pub entry-is : (p : EntryPlace) → HeadIs bs c p → gapped 0 (intervals_at p.count bs p.first) ≡ true → low ≺ key_here bs c p → EntryIs bs c low p
-  entry-is p h g r = record { head = h; gapped = gapped-holds 0 (intervals_at p.count bs p.first) g; rises = r }
+  pub entry-is : gapped 0 (intervals_at p.count bs p.first) ≡ true → low ≺ key_here bs c p → EntryIs bs c low p
+  entry-is g r = record { head = h; gapped = gapped-holds 0 (intervals_at p.count bs p.first) g; rises = r }
 
 -- how the parts of an entry that is there lie
 pub head-lies : (bs : List ℕ) (c : Cursor) (p : EntryPlace) → HeadIs bs c p → Lies c.at p
@@ -115,7 +125,7 @@ first-fair k is s none = split (leb (length is) max_of_entry)
     (λ h. let rest : 0 + crowds s ≡ 0 = rw h at none in (leb-true _ _ h, omega arith))
     (λ h. let more : 1 + crowds s ≡ 0 = rw h at none in absurd (omega arith))
 
-more-some : (is : List Interval) → 0 < length is → Some is
+more-some : (is : List Interval) → 0 < length is → interval.Some is
 more-some [] h = absurd (omega arith)
 more-some (i ∷ is) h = tt
 

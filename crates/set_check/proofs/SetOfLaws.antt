@@ -6,6 +6,11 @@ use mathlib.Core.List.{List, ◌++◌}
 use native.Mathlib.Omega.{arith}
 use lib.ListN.{length, drop, length-append}
 use lib.Seq.{drop_at}
+use Rattle.std.specs.Prelude.{Result, Ok, Err, IsOk}
+use Rattle.packets.proofs.Tests.{clash}
+use Rattle.misc.specs.declared.refusal.Refusal.{Refusal}
+use Rattle.misc.specs.Refusal.{not_a_set}
+use Rattle.misc.proofs.ParseLaws.{ok-err}
 use Rattle.previous_gtids_event.specs.Entry.{Entry}
 use Rattle.previous_gtids_event.specs.Rewrite.{entries_bytes, any_tag, header_bytes, body_bytes}
 use Rattle.previous_gtids_event.proofs.Writing.{length-header}
@@ -64,13 +69,14 @@ set-stands bs w n h =
 
 -- ---- what the check told
 
-pub check-told : (bs : List ℕ) (c : Checked) → c ≡ checked_of (lent_set bs) → c.refusal ≡ 0 → Fits bs c
-check-told bs c e z = go (lent_set bs) refl
+pub check-told : (bs : List ℕ) {c : Checked} → Ok c ≡ checked_of (lent_set bs) → Fits bs c
+check-told bs {c} e = go (lent_set bs) refl
   where
     go : (x : Lent) → lent_set bs ≡ x → Fits bs c
-    go unfit p = absurd (omega (arith, sym (ap (λ (y : Checked). y.refusal) (e ∙ ap checked_of p)) ∙ z))
+    go unfit p = absurd (ok-err (e ∙ ap checked_of p))
     go (form s) p =
-        let t = e ∙ ap checked_of p in
+        let told : ◌≡◌ {A = Result Checked Refusal} (Ok c) (checked_of (form s)) = e ∙ ap checked_of p in
+        let t : c ≡ record { tagged = any_tag s; entries = length s; intervals = intervals s } = cc in
         let (is, same) = lent-set bs s p in
         record {
           set = rw (ap (λ (y : Checked). y.tagged) t, ap (λ (y : Checked). y.entries) t) is;
@@ -78,13 +84,19 @@ check-told bs c e z = go (lent_set bs) refl
           lent = p ∙ ap form (sym same);
         }
 
+pub check-passed : (bs : List ℕ) (r : Result Checked Refusal) → r ≡ checked_of (lent_set bs) → IsOk r → lent_set bs ≡ form (set_of bs)
+check-passed bs (Ok c) e ok = (check-told bs e).lent
+check-passed bs (Err x) e ok = clash ok refl
+
 -- no entry of a set that was checked has too many intervals
 pub fits-fair : (bs : List ℕ) (c : Checked) → Fits bs c → crowds (set_of bs) ≡ 0
 fits-fair bs c f = limits-fair (set_of bs) (lent_is bs (set_of bs) f.lent).limited
 
-pub check-unfit : (bs : List ℕ) (c : Checked) → c ≡ checked_of (lent_set bs) → (c.refusal ≡ 0 → ⊥) → (lent_set bs ≡ unfit) × (c.refusal ≡ 14)
-check-unfit bs c e h = go (lent_set bs) refl
+pub check-unfit : (bs : List ℕ) {x : Refusal} → Err x ≡ checked_of (lent_set bs) → (lent_set bs ≡ unfit) × (x ≡ not_a_set)
+check-unfit bs {x} e = go (lent_set bs) refl
   where
-    go : (x : Lent) → lent_set bs ≡ x → (lent_set bs ≡ unfit) × (c.refusal ≡ 14)
-    go unfit p = (p, ap (λ (y : Checked). y.refusal) (e ∙ ap checked_of p))
-    go (form s) p = absurd (h (ap (λ (y : Checked). y.refusal) (e ∙ ap checked_of p)))
+    go : (l : Lent) → lent_set bs ≡ l → (lent_set bs ≡ unfit) × (x ≡ not_a_set)
+    go unfit p =
+        let told : ◌≡◌ {A = Result Checked Refusal} (Err x) (Err not_a_set) = e ∙ ap checked_of p in
+        (p, cc)
+    go (form s) p = absurd (ok-err (sym (e ∙ ap checked_of p)))

@@ -1,12 +1,14 @@
 -- What checking a lent set finds.
-use Rattle.std.specs.Prelude.{ℕ, ◌+◌, ◌≤◌, ◌≡◌, ◌⊎◌, Bool, false, ◌||◌, List, [], ◌++◌, length, drop}
-use Rattle.misc.specs.Refusal.{number, not_a_set}
+use Rattle.std.specs.Prelude.{ℕ, ◌+◌, ◌≤◌, ◌≡◌, ⊤, Bool, false, ◌||◌, List, [], ◌++◌, length, drop, Option, Some, None, MatchOption, Result, Ok, Err}
+use Rattle.misc.specs.declared.refusal.Refusal.{Refusal}
+use Rattle.misc.specs.Refusal.{not_a_set}
 use Rattle.misc.specs.Parse.{part}
 use Rattle.packets.specs.Gno.{Interval}
 use Rattle.packets.specs.Key.{Key, ◌≺◌}
 use Rattle.previous_gtids_event.specs.Entry.{Entry}
 use Rattle.previous_gtids_event.specs.Rewrite.{intervals_bytes, entries_bytes, any_tag, header_bytes}
-use Rattle.gtid_sets.specs.Interval.{Gapped, Some}
+use Rattle.gtid_sets.specs.Interval as interval
+use Rattle.gtid_sets.specs.Interval.{Gapped}
 use Rattle.gtid_sets.specs.Set.{Above, SetForm}
 use Rattle.gtid_sets.specs.Limits.{max_entries, max_intervals, max_of_entry, intervals, crowds}
 use Rattle.gtid_sets.specs.Lent.{Lent, form, unfit, GoodKeys}
@@ -16,21 +18,21 @@ use Rattle.set_check.specs.Cursor.{key_here}
 use Rattle.set_check.specs.declared.Cursor.{Cursor}
 use Rattle.set_check.specs.declared.EntryPlace.{EntryPlace}
 use Rattle.set_check.specs.declared.KeyPlace.{KeyPlace}
-use Rattle.set_check.specs.declared.Header.{Header}
-use Rattle.set_check.specs.declared.Entries.{Entries}
 use Rattle.set_check.specs.declared.Checked.{Checked}
 
 -- the answer of `check`: refusal 14, or whether the set has tags, and its counts
-abbrev pub checked_of : Lent → Checked
-checked_of unfit = record { refusal = number not_a_set; tagged = false; entries = 0; intervals = 0 }
-checked_of (form s) = record { refusal = 0; tagged = any_tag s; entries = length s; intervals = intervals s }
+abbrev pub checked_of : Lent → Result Checked Refusal
+checked_of unfit = Err not_a_set
+checked_of (form s) = Ok (record { tagged = any_tag s; entries = length s; intervals = intervals s })
 
 -- ---- inside: the header
 
-pub record HeaderIs (bs : List ℕ) (r : Header) : Type 0 where
-  pub is : bs ≡ header_bytes r.tagged r.count ++ drop 8 bs
-  pub few : r.count ≤ max_entries
+-- the entries behind the header
+pub record HeaderIs (bs : List ℕ) (c : Cursor) : Type 0 where
+  pub is : bs ≡ header_bytes c.tagged c.left ++ drop 8 bs
+  pub few : c.left ≤ max_entries
   pub there : 8 ≤ length bs
+  pub behind : c.at ≡ 8
 
 abbrev pub NoHeader : List ℕ → Type 0
 NoHeader bs = (w : Bool) (n : ℕ) (rest : List ℕ) → n ≤ max_entries → bs ≡ header_bytes w n ++ rest → ⊥
@@ -39,13 +41,20 @@ NoHeader bs = (w : Bool) (n : ℕ) (rest : List ℕ) → n ≤ max_entries → b
 
 -- the key in two parts of the bytes
 abbrev pub key_in : List ℕ → KeyPlace → Key
-key_in bs k = part bs k.at k.len ++ part bs k.tag_at k.tag_len
+key_in bs k = part bs k.at 16 ++ part bs k.tag_at k.tag_len
 
--- the parts lie inside; they are a key's, or empty
-pub record LowKey (bs : List ℕ) (k : KeyPlace) : Type 0 where
-  pub there : k.at + k.len ≤ length bs
-  pub tag_there : k.tag_at + k.tag_len ≤ length bs
-  pub shape : (k.len ≡ 16) ⊎ ((k.len ≡ 0) × (k.tag_len ≡ 0))
+-- they lie inside
+pub record KeyThere (bs : List ℕ) (k : KeyPlace) : Type 0 where
+  pub uuid : k.at + 16 ≤ length bs
+  pub tag : k.tag_at + k.tag_len ≤ length bs
+
+-- the key before an entry; the empty one, which is below all others, before the first
+abbrev pub low_key : List ℕ → Option KeyPlace → Key
+low_key bs None = []
+low_key bs (Some k) = key_in bs k
+
+abbrev pub LowThere : List ℕ → Option KeyPlace → Type 0
+LowThere bs low = MatchOption low ⊤ (λ k. KeyThere bs k)
 
 pub record EntryIs (bs : List ℕ) (c : Cursor) (low : Key) (p : EntryPlace) : Type 0 where
   pub head : HeadIs bs c p
@@ -54,7 +63,7 @@ pub record EntryIs (bs : List ℕ) (c : Cursor) (low : Key) (p : EntryPlace) : T
 
 abbrev pub NoEntry : List ℕ → Cursor → Key → Type 0
 NoEntry bs c low =
-    (k : Key) (is : List Interval) (rest : List ℕ) → KeyOk c.tagged k → Some is → Gapped 0 is → length is ≤ max_of_entry → low ≺ k
+    (k : Key) (is : List Interval) (rest : List ℕ) → KeyOk c.tagged k → interval.Some is → Gapped 0 is → length is ≤ max_of_entry → low ≺ k
     → drop c.at bs ≡ head_bytes c.tagged k (length is) (intervals_bytes is ++ rest) → ⊥
 
 -- ---- inside: the entries from a cursor on
@@ -72,6 +81,7 @@ pub record Rest (bs : List ℕ) (c : Cursor) (low : Key) (used : ℕ) (any : Boo
   pub limit : used + intervals set ≤ max_intervals
   pub tags : (any || any_tag set) ≡ c.tagged
 
-pub record Whole (bs : List ℕ) (c : Cursor) (r : Entries) : Type 0 where
+-- all of them, with so many intervals together
+pub record Whole (bs : List ℕ) (c : Cursor) (total : ℕ) : Type 0 where
   pub rest : Rest bs c [] 0 false
-  pub total : intervals rest.set ≡ r.intervals
+  pub total-is : intervals rest.set ≡ total

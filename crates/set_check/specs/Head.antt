@@ -1,5 +1,5 @@
 -- The head of an entry of a set's bytes: its uuid, its tag and the number of its intervals.
-use Rattle.std.specs.Prelude.{ℕ, ◌<◌, ◌≤◌, ◌≡◌, Bool, true, false, List, ◌++◌, length, drop}
+use Rattle.std.specs.Prelude.{ℕ, ◌<◌, ◌≤◌, ◌≡◌, Bool, false, List, ◌++◌, length, drop}
 use Rattle.misc.specs.Le.{le_bytes}
 use Rattle.packets.specs.Gno.{Interval}
 use Rattle.packets.specs.Key.{Key}
@@ -12,11 +12,6 @@ use Rattle.set_check.specs.Places.{place_at}
 use Rattle.set_check.specs.Cursor.{key_here}
 use Rattle.set_check.specs.declared.Cursor.{Cursor}
 use Rattle.set_check.specs.declared.EntryPlace.{EntryPlace}
-
--- what a test tells by the way it comes out
-pub record Told (b : Bool) (A B : Type 0) : Type 0 where
-  pub yes : b ≡ true → A
-  pub no : b ≡ false → B
 
 -- the head of an entry, as it is written, before other bytes
 abbrev pub head_bytes : Bool → Key → ℕ → List ℕ → List ℕ

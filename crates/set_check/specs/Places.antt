@@ -1,5 +1,5 @@
 -- Entries at a place of a set's bytes.
-use Rattle.std.specs.Prelude.{ℕ, zero, suc, ◌+◌, ◌*◌, ◌/◌, ◌≤◌, Bool, true, false, List, [], ◌∷◌, ◌++◌, length, get_or, leb}
+use Rattle.std.specs.Prelude.{ℕ, zero, suc, ◌+◌, ◌*◌, ◌/◌, ◌≤◌, Bool, true, false, List, [], ◌∷◌, ◌++◌, length, get_or, leb, Option, Some, None}
 use Rattle.misc.specs.Pick.{pick}
 use Rattle.misc.specs.Parse.{part}
 use Rattle.misc.specs.Le.{number_at}
@@ -28,6 +28,10 @@ place_at false bs at = place_from bs (at + 16) 0
 
 abbrev pub nowhere : EntryPlace
 nowhere = record { tag_at = 0; tag_len = 0; count = 0; first = 0; next = 0 }
+
+-- if all of it is there
+abbrev pub if_there : List ℕ → EntryPlace → Option EntryPlace
+if_there bs p = pick (leb p.next (length bs)) (Some p) None
 
 -- all of it there, or all zero
 abbrev pub or_nowhere : List ℕ → EntryPlace → EntryPlace

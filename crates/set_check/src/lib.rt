@@ -9,6 +9,7 @@ use previous_gtids_event::TAGGED_HEAD;
 
 pub mod check;
 mod heads;
+mod keys;
 pub mod limits;
 pub mod walk;
 
@@ -29,10 +30,9 @@ pub const LONGEST_SET: usize = SET_HEADER
     + MAX_ENTRIES * (TAGGED_HEAD + MAX_TAG)
     + MAX_INTERVALS * INTERVAL_LEN;
 
-// What a lent set is: refused with 14, or in set form and within the limits.
+// What a lent set is that is in set form and within the limits: whether its entries have tags, and its counts.
 #[derive(Clone, Copy)]
 pub struct Checked {
-    pub refusal: u8,
     pub tagged: bool,
     pub entries: usize,
     pub intervals: usize,
@@ -47,7 +47,7 @@ pub struct Cursor {
 }
 
 // Where an entry stands: where its tag begins and how long it is, how many intervals it has, where they begin and where they end.
-#[derive(Clone, Copy)]
+#[derive(Clone, Copy, Default)]
 pub struct EntryPlace {
     pub tag_at: usize,
     pub tag_len: usize,
@@ -58,26 +58,10 @@ pub struct EntryPlace {
 
 // ---- inside
 
-// The two parts of a key in a set: its uuid, and its tag.
+// Where an entry's key stands: its uuid, and its tag.
 #[derive(Clone, Copy)]
 pub(crate) struct KeyPlace {
     pub(crate) at: usize,
-    pub(crate) len: usize,
     pub(crate) tag_at: usize,
     pub(crate) tag_len: usize,
-}
-
-// The header of a set: whether its entries have tags, and how many there are.
-#[derive(Clone, Copy)]
-pub(crate) struct Header {
-    pub(crate) ok: bool,
-    pub(crate) tagged: bool,
-    pub(crate) count: usize,
-}
-
-// The entries of a set: whether they are in set form, and how many intervals they have together.
-#[derive(Clone, Copy)]
-pub(crate) struct Entries {
-    pub(crate) ok: bool,
-    pub(crate) intervals: usize,
 }

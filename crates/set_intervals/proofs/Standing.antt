@@ -6,6 +6,7 @@ use native.Mathlib.Nat.{suc-sub-suc}
 use native.Mathlib.Omega.{arith}
 use lib.ListN.{length, take, drop}
 use lib.Seq.{take-take, drop-drop}
+use Rattle.std.specs.Simd.{first_chunks}
 use Rattle.misc.specs.Parse.{part, Bytes}
 use Rattle.misc.specs.Le.{le_bytes, le_of, number_at}
 use Rattle.misc.proofs.ParseLaws.{part_length}
@@ -16,7 +17,7 @@ use Rattle.packets.specs.Gno.{Interval, interval}
 use Rattle.previous_gtids_event.specs.Rewrite.{intervals_bytes}
 use Rattle.previous_gtids_event.proofs.Laying.{GoodIntervals}
 use Rattle.previous_gtids_event.proofs.Writing.{length-intervals-bytes}
-use Rattle.set_intervals.specs.Intervals.{intervals_at, intervals_from, intervals_in}
+use Rattle.set_intervals.specs.Intervals.{intervals_at, intervals_from, intervals_in, told}
 
 after_two : (bs : List ℕ) (at u v : ℕ) (rest : List ℕ) → drop at bs ≡ le_bytes 8 u ++ (le_bytes 8 v ++ rest)
     → (drop (at + 8) bs ≡ le_bytes 8 v ++ rest) × (drop (at + 16) bs ≡ rest)
@@ -128,23 +129,11 @@ intervals-lent n bs first inside =
     ∙ intervals-in n bs first (16 * n) 0 inside (omega arith)
     ∙ ap (intervals_at n bs) z
 
--- ---- a step of a walk over all of them
+-- ---- those from a place on
 
 pub left-count : (bs : List ℕ) (at : ℕ) → length (intervals_from bs at) ≡ (length bs - at) / 16
 unfolding intervals_from
 left-count bs at = intervals-count ((length bs - at) / 16) bs at
-
-pub left-none : (bs : List ℕ) (at : ℕ) → length bs - at < 16 → intervals_from bs at ≡ []
-unfolding intervals_from
-left-none bs at h = let none : (length bs - at) / 16 ≡ 0 = omega arith in rw none
-
--- the first, and the others
-pub left-more : (bs : List ℕ) (at : ℕ) → 16 ≤ length bs - at
-    → intervals_from bs at ≡ interval (number_at bs at) (number_at bs (at + 8)) ∷ intervals_from bs (at + 16)
-unfolding intervals_from
-left-more bs at h =
-    let more : (length bs - at) / 16 ≡ suc ((length bs - (at + 16)) / 16) = omega arith in
-    ap (λ (n : ℕ). intervals_at n bs at) more
 
 pub left_behind : (bs : List ℕ) (k : ℕ) → 16 * k ≤ length bs → drop k (intervals_in bs) ≡ intervals_from bs (16 * k)
 unfolding intervals_from
@@ -152,3 +141,16 @@ left_behind bs k h =
     let count : (length bs - 0) / 16 - k ≡ (length bs - 16 * k) / 16 = omega arith in
     let place : 0 + 16 * k ≡ 16 * k = omega arith in
     drop-intervals k ((length bs - 0) / 16) 0 bs (omega arith) ∙ rw (count, place)
+
+-- ---- intervals as chunks of sixteen bytes
+
+chunks-told : (n : ℕ) (bs : List ℕ) (at : ℕ) → at + 16 * n ≤ length bs → told (first_chunks 16 n (drop at bs)) ≡ intervals_at n bs at
+chunks-told zero bs at h = refl
+chunks-told (suc n) bs at h =
+    let z : at + 0 ≡ at = omega arith in
+    rw (number_in bs at 16 0 (omega arith) (omega arith), number_in bs at 16 8 (omega arith) (omega arith), z, drop-drop, chunks-told n bs (at + 16) (omega arith))
+
+-- all of them
+pub chunks-all : (bs : List ℕ) → told (first_chunks 16 (length bs / 16) bs) ≡ intervals_in bs
+unfolding intervals_from
+chunks-all bs = let all : length bs - 0 ≡ length bs = omega arith in rw all (chunks-told (length bs / 16) bs 0 (omega arith))

@@ -1,67 +1,30 @@
 -- What the walks over intervals need.
-use Prim.Native.Nat.{ℕ, ◌+◌, ◌-◌, ◌*◌, ◌/◌, ◌<◌, ◌≤◌, min, max}
+use Prim.Native.Nat.{ℕ, ◌-◌, ◌<◌, ◌≤◌}
 use mathlib.Core.Path.{◌≡◌, refl, sym, ap, ◌∙◌}
-use mathlib.Core.Bool.{Bool, true, false, ◌&&◌, or-false}
+use mathlib.Core.Bool.{Bool, ◌&&◌, or-false}
 use mathlib.Core.List.{List, [], ◌∷◌}
 use native.Mathlib.Omega.{arith}
-use borrow.Author.Tests.{lt-ltb, le-ltb}
 use lib.Dec.{ltb, leb}
-use lib.ListN.{length, drop, drop_of_length-le}
+use lib.ListN.{length, get_or, take, drop, length-map, length-drop}
+use lib.Seq.{take_all, drop-cons}
+use Rattle.std.proofs.lemmas.List.{drop-map}
+use Rattle.std.specs.List.{list_all, prefix_len}
 use Rattle.misc.specs.Le.{number_at}
 use Rattle.packets.specs.Gno.{Interval, interval, is_interval}
 use Rattle.packets.proofs.Tests.{split, tests}
-use Rattle.gtid_sets.specs.Interval.{within, covers, Gapped, gapped}
-use Rattle.gtid_sets.specs.Splice.{earlier, taken_up, reach, from}
+use Rattle.gtid_sets.specs.Interval.{within, covers, Gapped}
+use Rattle.gtid_sets.specs.Splice.{earlier, from}
 use Rattle.gtid_sets.specs.TakeIn.{proper}
 use Rattle.gtid_sets.proofs.IntervalLaws.{outside, gapped-misses}
-use Rattle.set_intervals.specs.Intervals.{intervals_from, intervals_in, first_holds, held_in, splice_of, reach_of}
+use Rattle.set_intervals.specs.Intervals.{first_holds, held_in, interval_of, told, splice_of, reach_of}
 use Rattle.set_intervals.specs.declared.Splice.{Splice}
 use Rattle.set_intervals.specs.declared.Reach.{Reach}
-use Rattle.set_intervals.proofs.Standing.{left-count, left-none, left-more, left_behind}
 
 -- ---- their form
 
--- the intervals obey the gno rule just if those from a place on do
-pub record StillProper (bs : List ℕ) (at : ℕ) : Type 0 where
-  pub same : proper (intervals_in bs) ≡ proper (intervals_from bs at)
-
-module _ (bs : List ℕ) (at : ℕ) (g : StillProper bs at) where
-  pub proper-all : length bs - at < 16 → true ≡ proper (intervals_in bs)
-  proper-all h = sym (g.same ∙ ap proper (left-none bs at h))
-
-  module _ (some : 16 ≤ length bs - at) (start end : ℕ) (p : start ≡ number_at bs at) (q : end ≡ number_at bs (at + 8))
-      (fine : Bool) (judged : fine ≡ is_interval (interval start end)) where
-    next-proper : proper (intervals_in bs) ≡ fine && proper (intervals_from bs (at + 16))
-    next-proper = g.same ∙ ap proper (left-more bs at some) ∙ rw (judged, p, q)
-
-    pub proper-turn : fine ≡ true → StillProper bs (at + 16)
-    proper-turn h = record { same = next-proper ∙ rw h }
-
-    pub proper-stops : fine ≡ false → false ≡ proper (intervals_in bs)
-    proper-stops h = sym (next-proper ∙ rw h)
-
--- they are gapped just if those from a place on are, above the last end
-pub record StillGapped (bs : List ℕ) (low at : ℕ) : Type 0 where
-  pub same : gapped 0 (intervals_in bs) ≡ gapped low (intervals_from bs at)
-
-module _ (bs : List ℕ) (low at : ℕ) (g : StillGapped bs low at) where
-  pub gapped-all : length bs - at < 16 → true ≡ gapped 0 (intervals_in bs)
-  gapped-all h = sym (g.same ∙ ap (gapped low) (left-none bs at h))
-
-  module _ (some : 16 ≤ length bs - at) (start end : ℕ) (p : start ≡ number_at bs at) (q : end ≡ number_at bs (at + 8))
-      (fine : Bool) (judged : fine ≡ is_interval (interval start end)) where
-    next-gapped : gapped 0 (intervals_in bs) ≡ (ltb low start && fine) && gapped end (intervals_from bs (at + 16))
-    next-gapped = g.same ∙ ap (gapped low) (left-more bs at some) ∙ rw (judged, p, q) (nested (ltb low (number_at bs at)) _ _)
-      where
-        nested : (x y z : Bool) → x && (y && z) ≡ (x && y) && z
-        nested true y z = refl
-        nested false y z = refl
-
-    pub gapped-turn : ltb low start && fine ≡ true → StillGapped bs end (at + 16)
-    gapped-turn h = record { same = next-gapped ∙ rw h }
-
-    pub gapped-stops : ltb low start && fine ≡ false → false ≡ gapped 0 (intervals_in bs)
-    gapped-stops h = sym (next-gapped ∙ rw h)
+pub all_proper : (is : List Interval) → list_all is_interval is ≡ proper is
+all_proper [] = refl
+all_proper (i ∷ is) = rw (all_proper is)
 
 -- ---- how many end before a number
 
@@ -69,33 +32,22 @@ pub earlier-few : (a : ℕ) (is : List Interval) → earlier a is ≤ length is
 earlier-few a [] = omega arith
 earlier-few a (interval s e ∷ is) = split (ltb e a) (λ h. rw h (omega (arith, earlier-few a is))) (λ h. rw h (omega arith))
 
--- they are inside
-pub earlier-inside : (bs : List ℕ) (a : ℕ) → 16 * earlier a (intervals_in bs) ≤ length bs
-earlier-inside bs a = omega (arith, earlier-few a (intervals_in bs), left-count bs 0)
+abbrev pub ends-before : ℕ → Interval → Bool
+ends-before a (interval start end) = ltb end a
 
-pub record Earlier (bs : List ℕ) (a at : ℕ) : Type 0 where
-  pub left : earlier a (intervals_in bs) ≡ at / 16 + earlier a (intervals_from bs at)
+pub earlier-is : (a : ℕ) (is : List Interval) → prefix_len (ends-before a) is ≡ earlier a is
+earlier-is a [] = refl
+earlier-is a (interval s e ∷ is) = split (ltb e a) (λ h. rw (h, earlier-is a is) (omega arith)) (λ h. rw h)
 
-module _ (bs : List ℕ) (a at : ℕ) (g : Earlier bs a at) where
-  pub earlier-all : length bs - at < 16 → at / 16 ≡ earlier a (intervals_in bs)
-  earlier-all h = sym (g.left ∙ rw (left-none bs at h) (omega arith))
-
-  module _ (some : 16 ≤ length bs - at) (end : ℕ) (q : end ≡ number_at bs (at + 8)) where
-    pub earlier-stops : a ≤ end → at / 16 ≡ earlier a (intervals_in bs)
-    earlier-stops h = sym (g.left ∙ rw (left-more bs at some, le-ltb (number_at bs (at + 8)) a (omega arith)) (omega arith))
-
-    pub earlier-turn : end < a → Earlier bs a (at + 16)
-    earlier-turn h = record { left = g.left ∙ rw (left-more bs at some, lt-ltb (number_at bs (at + 8)) a (omega arith)) (omega arith) }
+-- so many is a place among the chunks
+pub before-inside : (cs : List (List ℕ)) (is : List Interval) (a before : ℕ) → told cs ≡ is → before ≡ earlier a is → before ≤ length cs
+before-inside cs is a before all counted = omega (arith, counted, earlier-few a is, ap length (sym all), length-map cs interval_of)
 
 -- ---- whether a number is held
 
-module _ (bs : List ℕ) (before n : ℕ) where
-  pub held_none : length bs / 16 ≤ before → false ≡ first_holds n (drop before (intervals_in bs))
-  held_none h = ap (first_holds n) (sym (drop_of_length-le (intervals_in bs) {i = before} (omega (arith, left-count bs 0))))
-
-  pub held_one : before < length bs / 16 → (start end : ℕ) → start ≡ number_at bs (16 * before) → end ≡ number_at bs (16 * before + 8)
-      → (leb start n && ltb n end) ≡ first_holds n (drop before (intervals_in bs))
-  held_one h start end p q = sym (ap (first_holds n) (left_behind bs before (omega arith) ∙ left-more bs (16 * before) (omega arith)) ∙ rw (p, q))
+pub held-one : (cs : List (List ℕ)) (before n : ℕ) → before < length cs → (chunk : List ℕ) → chunk ≡ get_or cs before []
+    → (leb (number_at chunk 0) n && ltb n (number_at chunk 8)) ≡ first_holds n (drop before (told cs))
+held-one cs before n h chunk e = rw (drop-map, drop-cons cs before [] h, e)
 
 -- those that end before n don't hold it, and those after the next one begin above it
 pub held-covers : (low n : ℕ) (is : List Interval) → Gapped low is → held_in n is ≡ covers is n
@@ -104,55 +56,13 @@ held-covers low n (interval s e ∷ is) g = split (ltb e n)
     (λ k. rw (k, outside s e n (omega tests)) (held-covers e n is g.3))
     (λ k. rw (k, gapped-misses e is n g.3 (omega tests)) (sym (or-false (within s e n))))
 
--- ---- the start
-
-module _ (bs : List ℕ) (at a b : ℕ) where
-  pub from-none : length bs - at < 16 → a ≡ from a b (intervals_from bs at)
-  from-none h = rw (left-none bs at h)
-
-  module _ (some : 16 ≤ length bs - at) (start : ℕ) (p : start ≡ number_at bs at) where
-    pub from-apart : b < start → a ≡ from a b (intervals_from bs at)
-    from-apart h = rw (left-more bs at some, lt-ltb b (number_at bs at) (omega arith))
-
-    pub from_start : start ≤ b → (r : ℕ) → r ≡ min a start → r ≡ from a b (intervals_from bs at)
-    from_start h r e = e ∙ rw (left-more bs at some, le-ltb b (number_at bs at) (omega arith), p)
-
--- ---- what is taken up, and the end
-
-pub record Taking (bs : List ℕ) (first b at end : ℕ) : Type 0 where
-  pub left : taken_up b (intervals_from bs first) ≡ (at - first) / 16 + taken_up end (intervals_from bs at)
-  pub same : reach b (intervals_from bs first) ≡ reach end (intervals_from bs at)
-
-pub taking-none : (bs : List ℕ) (first b : ℕ) → Taking bs first b first b
-taking-none bs first b = record { left = omega arith; same = refl }
-
-module _ (bs : List ℕ) (first b at end : ℕ) (g : Taking bs first b at end) where
-  made : taken_up end (intervals_from bs at) ≡ 0 → reach end (intervals_from bs at) ≡ end
-      → ◌≡◌ {A = Reach} (record { taken = (at - first) / 16; end = end }) (reach_of b (intervals_from bs first))
-  made p q =
-      let x : (at - first) / 16 ≡ taken_up b (intervals_from bs first) = omega (arith, g.left, p) in
-      let y : end ≡ reach b (intervals_from bs first) = sym (g.same ∙ q) in
-      rw (← x) (ap (λ (e : ℕ). record { taken = (at - first) / 16; end = e }) y)
-
-  pub taking-all : length bs - at < 16 → ◌≡◌ {A = Reach} (record { taken = (at - first) / 16; end = end }) (reach_of b (intervals_from bs first))
-  taking-all h = made (rw (left-none bs at h)) (rw (left-none bs at h))
-
-  module _ (some : 16 ≤ length bs - at) (start : ℕ) (p : start ≡ number_at bs at) where
-    pub taking-stops : end < start → ◌≡◌ {A = Reach} (record { taken = (at - first) / 16; end = end }) (reach_of b (intervals_from bs first))
-    taking-stops h =
-        made (rw (left-more bs at some, lt-ltb end (number_at bs at) (omega arith))) (rw (left-more bs at some, lt-ltb end (number_at bs at) (omega arith)))
-
-    pub taking-turn : start ≤ end → first ≤ at → (stop next : ℕ) → stop ≡ number_at bs (at + 8) → next ≡ max end stop → Taking bs first b (at + 16) next
-    taking-turn h behind stop next q e = record {
-      left = g.left ∙ rw (left-more bs at some, le-ltb end (number_at bs at) (omega arith), e, q) (omega arith);
-      same = g.same ∙ rw (left-more bs at some, le-ltb end (number_at bs at) (omega arith), e, q);
-    }
-
 -- ---- a splice
 
-pub splice-made : (bs : List ℕ) (a b before start : ℕ) (r : Reach) → before ≡ earlier a (intervals_in bs)
-    → start ≡ from a b (intervals_from bs (16 * before)) → r ≡ reach_of b (intervals_from bs (16 * before))
-    → ◌≡◌ {A = Splice} (record { before = before; taken = r.taken; start = start; end = r.end }) (splice_of a b (intervals_in bs))
-splice-made bs a b before start r p x y =
-    let behind = left_behind bs before (omega (arith, p, earlier-inside bs a)) in
-    rw (← p, behind, x, y)
+pub splice-made : (cs : List (List ℕ)) (is : List Interval) (a b before start : ℕ) (r : Reach) → told cs ≡ is → before ≡ earlier a is
+    → start ≡ from a b (told (take (length cs - before) (drop before cs))) → r ≡ reach_of b (told (take (length cs - before) (drop before cs)))
+    → ◌≡◌ {A = Splice} (record { before = before; taken = r.taken; start = start; end = r.end }) (splice_of a b is)
+splice-made cs is a b before start r all p x y =
+    let whole : take (length cs - before) (drop before cs) ≡ drop before cs = take_all _ _ (rw length-drop (omega arith)) in
+    let rest : told (take (length cs - before) (drop before cs)) ≡ drop (earlier a is) is =
+    ap told whole ∙ sym (drop-map interval_of before cs) ∙ rw (all, p) in
+    rw (p, x, y, rest)

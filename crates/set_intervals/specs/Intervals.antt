@@ -1,5 +1,5 @@
 -- The intervals that some bytes are.
-use Rattle.std.specs.Prelude.{ℕ, zero, suc, ◌+◌, ◌-◌, ◌*◌, ◌/◌, Bool, false, List, [], ◌∷◌, ◌++◌, length, take, drop}
+use Rattle.std.specs.Prelude.{ℕ, zero, suc, ◌+◌, ◌-◌, ◌*◌, ◌/◌, Bool, false, List, [], ◌∷◌, ◌++◌, length, map, take, drop}
 use Rattle.misc.specs.Le.{le_bytes, number_at}
 use Rattle.packets.specs.Gno.{Interval, interval}
 use Rattle.gtid_sets.specs.Interval.{within}
@@ -44,6 +44,13 @@ abbrev pub spliced_run : List ℕ → Splice → List ℕ
 spliced_run bs s = take (16 * s.before) bs ++ le_bytes 8 s.start ++ le_bytes 8 s.end ++ drop (16 * (s.before + s.taken)) bs
 
 -- ---- inside
+
+-- the interval that sixteen bytes are, and those of many such chunks
+abbrev pub interval_of : List ℕ → Interval
+interval_of chunk = interval (number_at chunk 0) (number_at chunk 8)
+
+abbrev pub told : List (List ℕ) → List Interval
+told chunks = map interval_of chunks
 
 abbrev pub reach_of : ℕ → List Interval → Reach
 reach_of b is = record { taken = taken_up b is; end = reach b is }

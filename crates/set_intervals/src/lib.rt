@@ -2,11 +2,12 @@
 // whether they hold a number, and where a new one goes. The functions take any bytes; fewer than sixteen at the end are no interval.
 #![tactic(auto)]
 
-ghost use Rattle.std.specs.Prelude.{◌≡◌, ◌≤◌, max, length, drop};
+ghost use Rattle.std.specs.Prelude.{◌≡◌, drop};
+ghost use Rattle.misc.specs.Le.{number_at};
 ghost use Rattle.gtid_sets.specs.Interval.{gapped};
 ghost use Rattle.gtid_sets.specs.Splice.{earlier, from};
 ghost use Rattle.gtid_sets.specs.TakeIn.{proper};
-ghost use Rattle.set_intervals.specs.Intervals.{intervals_from, intervals_in, first_holds, held_in, splice_of, reach_of};
+ghost use Rattle.set_intervals.specs.Intervals.{intervals_in, first_holds, held_in, splice_of, told, reach_of};
 
 use misc::INTERVAL_LEN;
 use misc::le::number_at;
@@ -28,40 +29,58 @@ struct Reach {
     end: u64,
 }
 
+// The numbers from a start up to, and without, an end.
+#[derive(Clone, Copy)]
+struct Interval {
+    start: u64,
+    end: u64,
+}
+
+// An interval as its bytes.
+type Chunk = [u8; INTERVAL_LEN];
+
+impl Interval {
+    fn read(chunk: &Chunk) -> Self
+        ensures { (result.start ≡ number_at chunk.now 0) × (result.end ≡ number_at chunk.now 8) }
+    {
+        Interval {
+            start: number_at(chunk, 0),
+            end: number_at(chunk, 8),
+        }
+    }
+}
+
+fn chunks(intervals: &[u8]) -> &[Chunk]
+    ensures { told result.now ≡ intervals_in intervals.now }
+{
+    let (chunks, _) = intervals.as_chunks();
+    chunks
+}
+
 // ---- their form
 
 // Whether the intervals obey the gno rule.
 pub fn proper_in(intervals: &[u8]) -> bool
     ensures { result ≡ proper (intervals_in intervals.now) }
 {
-    let mut at: usize = 0;
-    while INTERVAL_LEN <= intervals.len() - at {
-        let start = number_at(intervals, at);
-        let end = number_at(intervals, at + 8);
-        let fine = is_interval(start, end);
-        if !fine {
-            return false;
-        }
-        at += INTERVAL_LEN;
-    }
-    true
+    chunks(intervals)
+        .iter()
+        .map(Interval::read)
+        .all(|next| is_interval(next.start, next.end))
 }
 
 // Whether the intervals obey the gno rule and rise with gaps.
 pub fn gapped_in(intervals: &[u8]) -> bool
     ensures { result ≡ gapped 0 (intervals_in intervals.now) }
 {
-    let mut low: u64 = 0;
-    let mut at: usize = 0;
-    while INTERVAL_LEN <= intervals.len() - at {
-        let start = number_at(intervals, at);
-        let end = number_at(intervals, at + 8);
-        let fine = (low < start) & is_interval(start, end);
+    let mut low = 0;
+    for chunk in chunks(intervals) {
+        let next = Interval::read(chunk);
+        let fine = (low < next.start) & is_interval(next.start, next.end);
         if !fine {
             return false;
         }
-        low = end;
-        at += INTERVAL_LEN;
+        low = next.end;
     }
     true
 }
@@ -72,28 +91,24 @@ pub fn gapped_in(intervals: &[u8]) -> bool
 pub fn earlier_in(intervals: &[u8], a: u64) -> usize
     ensures { result ≡ earlier a (intervals_in intervals.now) }
 {
-    let mut at: usize = 0;
-    while INTERVAL_LEN <= intervals.len() - at {
-        let end = number_at(intervals, at + 8);
-        if a <= end {
-            return at / INTERVAL_LEN;
-        }
-        at += INTERVAL_LEN;
-    }
-    at / INTERVAL_LEN
+    chunks(intervals)
+        .iter()
+        .map(Interval::read)
+        .take_while(|next| next.end < a)
+        .count()
 }
 
 // Whether the interval behind so many first ones holds a number.
 pub fn held_behind(intervals: &[u8], before: usize, n: u64) -> bool
     ensures { result ≡ first_holds n (drop before (intervals_in intervals.now)) }
 {
-    if intervals.len() / INTERVAL_LEN <= before {
-        return false;
+    match chunks(intervals).get(before) {
+        Some(chunk) => {
+            let next = Interval::read(chunk);
+            (next.start <= n) & (n < next.end)
+        }
+        None => false,
     }
-    let at = INTERVAL_LEN * before;
-    let start = number_at(intervals, at);
-    let end = number_at(intervals, at + 8);
-    (start <= n) & (n < end)
 }
 
 // Whether gapped intervals hold a number: only the first that doesn't end before it can.
@@ -106,50 +121,33 @@ pub fn held_in(intervals: &[u8], n: u64) -> bool
 
 // ---- where a new one goes
 
-// The start of an interval that takes up those from a place on.
-fn start_from(intervals: &[u8], at: usize, a: u64, b: u64) -> u64
-    requires { at ≤ length intervals.now }
-    ensures { result ≡ from a b (intervals_from intervals.now at) }
+// The start of an interval that takes up the first of those that follow.
+fn start_from(chunks: &[Chunk], a: u64, b: u64) -> u64
+    ensures { result ≡ from a b (told chunks.now) }
 {
-    if intervals.len() - at < INTERVAL_LEN {
-        return a;
-    }
-    let start = number_at(intervals, at);
-    if b < start {
-        return a;
-    }
-    if start < a { start } else { a }
-}
-
-fn greater(a: u64, b: u64) -> u64
-    ensures { result ≡ max a b }
-{
-    if a < b {
-        return b;
-    }
-    a
-}
-
-// How many intervals from a place on one that ends at b takes up, and the end that it comes to.
-fn reach_from(intervals: &[u8], first: usize, b: u64) -> Reach
-    requires { first ≤ length intervals.now }
-    ensures { result ≡ reach_of b (intervals_from intervals.now first) }
-{
-    let mut at = first;
-    let mut end = b;
-    while INTERVAL_LEN <= intervals.len() - at {
-        let start = number_at(intervals, at);
-        if end < start {
-            return Reach {
-                taken: (at - first) / INTERVAL_LEN,
-                end,
-            };
+    match chunks {
+        [] => a,
+        [first, ..] => {
+            let next = Interval::read(first);
+            if b < next.start { a } else { a.min(next.start) }
         }
-        end = greater(end, number_at(intervals, at + 8));
-        at += INTERVAL_LEN;
+    }
+}
+
+// How many of those that follow one that ends at b takes up, and the end that it comes to.
+fn reach_from(chunks: &[Chunk], b: u64) -> Reach
+    ensures { result ≡ reach_of b (told chunks.now) }
+{
+    let mut end = b;
+    for (taken, chunk) in chunks.iter().enumerate() {
+        let next = Interval::read(chunk);
+        if end < next.start {
+            return Reach { taken, end };
+        }
+        end = end.max(next.end);
     }
     Reach {
-        taken: (at - first) / INTERVAL_LEN,
+        taken: chunks.len(),
         end,
     }
 }
@@ -159,13 +157,12 @@ pub fn splice_in(intervals: &[u8], a: u64, b: u64) -> Splice
     ensures { result ≡ splice_of a b (intervals_in intervals.now) }
 {
     let before = earlier_in(intervals, a);
-    let rest = INTERVAL_LEN * before;
-    let start = start_from(intervals, rest, a, b);
-    let reach = reach_from(intervals, rest, b);
+    let rest = &chunks(intervals)[before..];
+    let reach = reach_from(rest, b);
     Splice {
         before,
         taken: reach.taken,
-        start,
+        start: start_from(rest, a, b),
         end: reach.end,
     }
 }

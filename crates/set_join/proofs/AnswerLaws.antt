@@ -1,21 +1,25 @@
 -- Laws of answers and outputs.
 use Prim.Native.Nat.{ℕ, ◌<◌, ◌≤◌}
 use mathlib.Core.Path.{◌≡◌, refl, sym, ap, ◌∙◌}
-use mathlib.Core.Bool.{Bool, true, false, ◌&&◌}
+use mathlib.Core.Bool.{Bool, true, false}
 use mathlib.Core.List.{List, ◌++◌}
 use native.Mathlib.Omega.{arith}
-use borrow.Author.Tests.{eq-eqb, ne_eqb}
+use borrow.Author.Tests.{eq-eqb}
 use lib.ListN.{length, take}
+use Rattle.std.specs.Prelude.{⊤, Result, Ok, Err}
+use Rattle.misc.specs.declared.refusal.Refusal.{Refusal}
+use Rattle.misc.specs.declared.refusal.WriteError.{WriteError}
+use Rattle.misc.specs.declared.refusal.WriteError.TheVariants.{Refused, NoRoom}
+use Rattle.misc.specs.Refusal.{not_a_set, bad_gno}
 use Rattle.misc.specs.Output.{bytes, output_of, answer_of, Placed, WhereFits}
-use Rattle.misc.specs.declared.Wrote.{Wrote}
-use Rattle.misc.proofs.ParseLaws.{no_zero}
+use Rattle.misc.proofs.ParseLaws.{ok-err}
 use Rattle.misc.proofs.OutputLaws.{output-fits, output-short, output-refused}
 use Rattle.packets.specs.Gno.{is_gno}
 use Rattle.packets.specs.Key.{Key}
 use Rattle.previous_gtids_event.specs.Entry.{Entry}
 use Rattle.packets.specs.Tag.{none_or_tag}
 use Rattle.previous_gtids_event.specs.Rewrite.{body_bytes}
-use Rattle.gtid_sets.specs.Set.{has, join, add}
+use Rattle.gtid_sets.specs.Set.{has, join}
 use Rattle.gtid_sets.specs.Limits.{Judged, fine, breaks, judged_as, judged, limits, over, crowds}
 use Rattle.gtid_sets.specs.Run.{names}
 use Rattle.gtid_sets.specs.Lent.{form, unfit, lent_set}
@@ -24,28 +28,16 @@ use Rattle.set_join.specs.Answers.{contained, saved, output, joined_id}
 use Rattle.set_check.specs.SetOf.{set_of}
 use Rattle.set_join.specs.Find.{Counted}
 use Rattle.set_join.specs.Join.{PlanIs}
-use Rattle.set_join.specs.declared.Contained.{Contained}
 use Rattle.set_join.specs.declared.Joined.{Joined}
 use Rattle.set_join.specs.declared.Held.{Held}
 use Rattle.set_join.specs.declared.Plan.{Plan}
 
 -- ---- `contains`
 
-pub contained-unfit : (bs u t : List ℕ) (n : ℕ) (r : ℕ) → lent_set bs ≡ unfit → r ≡ 14
-    → ◌≡◌ {A = Contained} (record { refusal = r; present = false }) (contained (lent_set bs) u t n)
-contained-unfit bs u t n r p e = rw (p, e)
-
 module _ (bs u t : List ℕ) (n : ℕ) (lent : lent_set bs ≡ form (set_of bs)) where
-  pub no_uuid : (length u ≡ 16 → ⊥) → ◌≡◌ {A = Contained} (record { refusal = 0; present = false }) (contained (lent_set bs) u t n)
-  no_uuid h = rw (lent, ne_eqb (length u) 16 h)
-
-  module _ (long : length u ≡ 16) (x y : Bool) (p : x ≡ none_or_tag t) (q : y ≡ is_gno n) where
-    pub no_id : x && y ≡ false → ◌≡◌ {A = Contained} (record { refusal = 0; present = false }) (contained (lent_set bs) u t n)
-    no_id h = rw (lent, eq-eqb (length u) 16 long, ← p, ← q, h)
-
-    pub is-asked : (b : Bool) → x && y ≡ true → b ≡ has (set_of bs) (u ++ t) n
-        → ◌≡◌ {A = Contained} (record { refusal = 0; present = b }) (contained (lent_set bs) u t n)
-    is-asked b h e = rw (lent, eq-eqb (length u) 16 long, ← p, ← q, h, e)
+  pub is-asked : (b : Bool) → length u ≡ 16 → true ≡ none_or_tag t → true ≡ is_gno n → b ≡ has (set_of bs) (u ++ t) n
+      → Ok b ≡ contained (lent_set bs) u t n
+  is-asked b long p q e = rw (lent, eq-eqb (length u) 16 long, ← p, ← q, e)
 
 -- ---- what the limits say of a set that was made, and of one that is planned
 
@@ -62,34 +54,37 @@ plan-judged bs u t a b p is none crowd e =
 -- ---- a set that was made, or is to be written
 
 -- within the limits it is written as it is
-pub saved-fine : (s : List Entry) (bs out d : List ℕ) (w : Wrote) → body_bytes s ≡ bs → w ≡ answer_of out (bytes bs) → d ≡ output_of out (bytes bs)
-    → limits s ≡ fine → (w ≡ answer_of out (saved s)) × (d ≡ output_of out (saved s))
+pub saved-fine : (s : List Entry) (bs out d : List ℕ) (w : Result ℕ WriteError) → body_bytes s ≡ bs
+    → w ≡ answer_of out (bytes bs) → d ≡ output_of out (bytes bs) → limits s ≡ fine → (w ≡ answer_of out (saved s)) × (d ≡ output_of out (saved s))
 saved-fine s bs out d w whole p q f = rw (f, whole) (p, q)
 
-module _ (s : List Entry) (x : ℕ) (told : x ≡ judged_as (limits s)) (out : List ℕ) where
-  -- either the set is refused, with this number
-  pub saved-refused : (x ≡ 0 → ⊥) → (record { refusal = x; len = 0 } ≡ answer_of out (saved s)) × (out ≡ output_of out (saved s))
-  saved-refused some = go (limits s) refl
+module _ (s : List Entry) (out : List ℕ) where
+  -- either the set is refused
+  pub saved-refused : {x : Refusal} → Err x ≡ judged_as (limits s) → (Err (Refused x) ≡ answer_of out (saved s)) × (out ≡ output_of out (saved s))
+  saved-refused {x} told = go (limits s) refl
     where
-      go : (j : Judged) → limits s ≡ j → (record { refusal = x; len = 0 } ≡ answer_of out (saved s)) × (out ≡ output_of out (saved s))
-      go fine e = absurd (some (told ∙ ap judged_as e))
-      go (breaks r) e = rw (told ∙ ap judged_as e, e) (output-refused out r)
+      go : (j : Judged) → limits s ≡ j → (Err (Refused x) ≡ answer_of out (saved s)) × (out ≡ output_of out (saved s))
+      go fine e = absurd (ok-err (sym (told ∙ ap judged_as e)))
+      go (breaks r) e =
+          let said : ◌≡◌ {A = Result ⊤ Refusal} (Err x) (Err r) = told ∙ ap judged_as e in
+          let same : x ≡ r = cc in
+          rw (same, e) (output-refused out r)
 
   -- or it is within the limits
-  module _ (zero : x ≡ 0) where
+  module _ {u : ⊤} (told : Ok u ≡ judged_as (limits s)) where
     pub within : limits s ≡ fine
     within = go (limits s) refl
       where
         go : (j : Judged) → limits s ≡ j → j ≡ fine
         go fine e = refl
-        go (breaks r) e = absurd (no_zero r (sym (told ∙ ap judged_as e) ∙ zero))
+        go (breaks r) e = absurd (ok-err (told ∙ ap judged_as e))
 
     module _ (len : ℕ) (size : len ≡ length (body_bytes s)) where
-      pub joined-short : length out < len → (record { refusal = 13; len = len } ≡ answer_of out (saved s)) × (out ≡ output_of out (saved s))
+      pub joined-short : length out < len → (Err (NoRoom len) ≡ answer_of out (saved s)) × (out ≡ output_of out (saved s))
       joined-short h = rw within (output-short out (body_bytes s) len size h)
 
       pub joined-fits : (runs d : List ℕ) (r : ℕ) → len ≤ length out → body_bytes s ≡ runs → WhereFits out 0 runs d r
-          → (record { refusal = 0; len = len } ≡ answer_of out (saved s)) × (d ≡ output_of out (saved s))
+          → (Ok len ≡ answer_of out (saved s)) × (d ≡ output_of out (saved s))
       joined-fits runs d r h b w =
           let w' : WhereFits out 0 (body_bytes s) d r = rw (← b) at w in
           let p : Placed out 0 (body_bytes s) d r = w'.placed (omega arith) in
@@ -99,31 +94,17 @@ module _ (s : List Entry) (x : ℕ) (told : x ≡ judged_as (limits s)) (out : L
 
 module _ (s : List Entry) (k : Key) (n : ℕ) (out : List ℕ) where
   pub id-unlawful : is_gno n ≡ false
-      → (record { already = false; wrote = record { refusal = 15; len = 0 } } ≡ joined_id (form s) k n out)
+      → (record { already = false; wrote = Err (Refused bad_gno) } ≡ joined_id (form s) k n out)
       × (out ≡ output_of out (output (form s) (names k n)))
   unfolding output_of answer_of
   id-unlawful h = rw h (refl, refl)
 
-  module _ (lawful : is_gno n ≡ true) (d : List ℕ) (w : Wrote) (b : Bool) (told : has s k n ≡ b) where
-    pub id-already : (bs : List ℕ) → b ≡ true → body_bytes s ≡ bs → w ≡ answer_of out (bytes bs) → d ≡ output_of out (bytes bs)
-        → (record { already = b; wrote = w } ≡ joined_id (form s) k n out) × (d ≡ output_of out (output (form s) (names k n)))
-    id-already bs h e p q = rw (p, q, lawful, told, h, e) (refl, refl)
-
-    pub id-new : b ≡ false → w ≡ answer_of out (saved (add k n s)) → d ≡ output_of out (saved (add k n s))
-        → (record { already = b; wrote = w } ≡ joined_id (form s) k n out) × (d ≡ output_of out (output (form s) (names k n)))
-    id-new h p q = go (limits (add k n s)) refl
-      where
-        go : (j : Judged) → limits (add k n s) ≡ j
-            → (record { already = b; wrote = w } ≡ joined_id (form s) k n out) × (d ≡ output_of out (output (form s) (names k n)))
-        go fine f = rw (p, q, lawful, told, h, f) (refl, refl)
-        go (breaks x) f = rw (p, q, lawful, told, h, f) (refl, refl)
-
 -- lent bytes that are no set
-pub id-unfit : (bs out : List ℕ) (k : Key) (n : ℕ) (r : ℕ) → lent_set bs ≡ unfit → r ≡ 14
-    → (record { already = false; wrote = record { refusal = r; len = 0 } } ≡ joined_id (lent_set bs) k n out)
+pub id-unfit : (bs out : List ℕ) (k : Key) (n : ℕ) (x : Refusal) → (lent_set bs ≡ unfit) × (x ≡ not_a_set)
+    → (record { already = false; wrote = Err (Refused x) } ≡ joined_id (lent_set bs) k n out)
     × (out ≡ output_of out (output (lent_set bs) (names k n)))
 unfolding output_of answer_of
-id-unfit bs out k n r p q = rw (p, q) (refl, refl)
+id-unfit bs out k n x (p, q) = rw (p, q) (refl, refl)
 
 -- or a set, with a tag of which so many bytes count
 pub id-lent : (bs out d u t : List ℕ) (len shown n : ℕ) (r : Joined) → lent_set bs ≡ form (set_of bs) → take shown t ≡ take len t

@@ -6,8 +6,8 @@ use mathlib.Core.List.{List, ◌∷◌}
 use native.Mathlib.Omega.{arith}
 use lib.ListN.{length, take, length-append, length-replicate}
 use lib.Seq.{take_at}
-use lib.Dec.{eqb}
-use borrow.Author.Tests.{eqb-true, eqb-false}
+use Rattle.std.specs.Prelude.{Result, Ok, Err, IsOk}
+use Rattle.misc.specs.declared.refusal.Refusal.{Refusal}
 use Rattle.misc.specs.Parse.{Parse, refuse, parsed, many, refusal_of}
 use Rattle.misc.specs.Body.{of_body}
 use Rattle.misc.specs.Le.{le_at}
@@ -17,13 +17,12 @@ use Rattle.misc.proofs.Walk.{ahead, many-next, whole-turn}
 use Rattle.packets.specs.Gno.{Interval}
 use Rattle.packets.specs.Kept.{padded}
 use Rattle.packets.specs.Key.{Key}
-use Rattle.packets.proofs.Tests.{split}
 use Rattle.previous_gtids_event.specs.Entry.{Entry, entry, uuid_of, tag_of}
 use Rattle.previous_gtids_event.specs.Previous.{GoodKey, entry_at, previous}
-use Rattle.previous_gtids_event.specs.Answers.{header_read, entry_read}
+use Rattle.previous_gtids_event.specs.Answers.{header_read, entry_told, entry_read}
 use Rattle.previous_gtids_event.specs.declared.HeaderRead.{HeaderRead}
 use Rattle.previous_gtids_event.specs.declared.EntryRead.{EntryRead}
-use Rattle.previous_gtids_event.proofs.Reading.{interval_of, intervals_of, key-whole, entry-there, headless, headed}
+use Rattle.previous_gtids_event.proofs.Reading.{interval_of, intervals_of, key-whole, entry-there, headless}
 use Rattle.gtid_sets.specs.TakeIn.{proper}
 use Rattle.set_intervals.specs.Intervals.{intervals_at}
 use Rattle.misc.proofs.NumberLaws.{number-here}
@@ -51,9 +50,12 @@ pub record ReadEntry (body : List ℕ) (at : ℕ) (e : EntryRead) (k : Key) (is 
 
 pub entry_was_read : (tagged : Bool) (body : List ℕ) (at : ℕ) (k : Key) (is : List Interval) (next : ℕ) → length body ≤ 65536
     → entry_at tagged body at ≡ parsed (entry k is) next
-    → (e : EntryRead) → e ≡ entry_read (of_body body (entry_at tagged body at)) → ReadEntry body at e k is next
+    → {e : EntryRead} → Ok e ≡ entry_read (of_body body (entry_at tagged body at)) → ReadEntry body at e k is next
 unfolding padded
-entry_was_read tagged body at k is next small p e told =
+entry_was_read tagged body at k is next small p {e} told =
+    let answer : ◌≡◌ {A = Result EntryRead Refusal} (Ok e) (Ok (entry_told (entry k is) next)) =
+    told ∙ ap entry_read (body-fits body (entry_at tagged body at) small ∙ p) in
+    let same : e ≡ entry_told (entry k is) next = cc in
     let there = entry-there tagged body at k is next p in
     let head = there.head in
     let tag = head.tag in
@@ -62,7 +64,7 @@ entry_was_read tagged body at k is next small p e told =
     rw first (intervals-at body (length is) there.first (omega (arith, there.end, there.inside)) ∙ there.intervals) in
     let uuid : length (uuid_of k) ≡ 16 = ap length head.uuid ∙ part_length 16 body at (omega (arith, tag.after, tag.inside)) in
     let short : take (length (tag_of k)) (padded 32 (tag_of k)) ≡ tag_of k = take_at (tag_of k) _ (length (tag_of k)) refl in
-    rw (told ∙ ap entry_read (body-fits body (entry_at tagged body at) small ∙ p)) (record {
+    rw same (record {
       key = rw short (sym (key-whole k));
       good = record { uuid = uuid; rule = tag.rule };
       list = list;
@@ -83,12 +85,11 @@ entry_was_read tagged body at k is next small p e told =
 
 -- ---- one after another
 
--- a body that can be read: its entries, as the header announces them
-pub body-starts : (body : List ℕ) (r : HeaderRead) → r ≡ header_read (of_body body (le_at 8 body 0)) → refusal_of (previous body) ≡ 0
-    → (previous body ≡ many (entry_at r.tagged body) r.entries 8) × (length body ≤ 65536)
-body-starts body r told z = split (eqb r.refusal 0)
-    (λ h. let (all, room, small) = headed body r told (eqb-true r.refusal 0 h) in (all, small))
-    (λ h. let (x, refused, same) = headless body r told (eqb-false r.refusal 0 h) in absurd (no_zero x (rw refused at z)))
+-- a body that can be read has a header
+pub header-there : (body : List ℕ) → refusal_of (previous body) ≡ 0 → (r : Result HeaderRead Refusal) → r ≡ header_read (of_body body (le_at 8 body 0))
+    → IsOk r
+header-there body z (Ok r) told = refl
+header-there body z (Err x) told = absurd (no_zero x (rw (headless body told) at z))
 
 -- the entries from a place on: the first, as it is read there, and the others
 pub record NextEntry (tagged : Bool) (body : List ℕ) (at left : ℕ) (e : EntryRead) : Type 0 where
@@ -98,9 +99,17 @@ pub record NextEntry (tagged : Bool) (body : List ℕ) (at left : ℕ) (e : Entr
   pub first : entries_of (many (entry_at tagged body) left at) ≡ entry key list ∷ entries_of (many (entry_at tagged body) (left - 1) e.next)
   pub rest : refusal_of (many (entry_at tagged body) (left - 1) e.next) ≡ 0
 
+-- and each of its entries is there
+pub next-there : (tagged : Bool) (body : List ℕ) (at left : ℕ) → length body ≤ 65536 → 0 < left → refusal_of (many (entry_at tagged body) left at) ≡ 0
+    → (r : Result EntryRead Refusal) → r ≡ entry_read (of_body body (entry_at tagged body at)) → IsOk r
+next-there tagged body at left small some z r told =
+    let more : left ≡ suc (left - 1) = omega arith in
+    let w = whole-turn (entry_at tagged body) (left - 1) at (ap (λ (n : ℕ). refusal_of (many (entry_at tagged body) n at)) (sym more) ∙ z) in
+    rw (told ∙ ap entry_read (body-fits body (entry_at tagged body at) small ∙ w.is)) refl
+
 pub entry_next : (tagged : Bool) (body : List ℕ) (at left : ℕ) → length body ≤ 65536 → 0 < left → refusal_of (many (entry_at tagged body) left at) ≡ 0
-    → (e : EntryRead) → e ≡ entry_read (of_body body (entry_at tagged body at)) → NextEntry tagged body at left e
-entry_next tagged body at left small some z e told =
+    → {e : EntryRead} → Ok e ≡ entry_read (of_body body (entry_at tagged body at)) → NextEntry tagged body at left e
+entry_next tagged body at left small some z {e} told =
     let more : left ≡ suc (left - 1) = omega arith in
     let w = whole-turn (entry_at tagged body) (left - 1) at (ap (λ (n : ℕ). refusal_of (many (entry_at tagged body) n at)) (sym more) ∙ z) in
     go more w.head w.next w.is w.rest
@@ -112,7 +121,7 @@ entry_next tagged body at left small some z e told =
     go : left ≡ suc (left - 1) → (x : Entry) (next : ℕ) → entry_at tagged body at ≡ parsed x next → refusal_of (many (entry_at tagged body) (left - 1) next) ≡ 0
         → NextEntry tagged body at left e
     go more (entry k is) next p rest =
-        let r = entry_was_read tagged body at k is next small p e told in
+        let r = entry_was_read tagged body at k is next small p told in
         let n : next ≡ e.next = sym r.next-is in
         record {
           key = k;

@@ -1,31 +1,30 @@
 -- Laws of `find`: entries before a key are passed, one after another.
-use Prim.Native.Nat.{ℕ, ◌+◌, ◌*◌, ◌-◌, ◌^◌, ◌≤◌}
+use Prim.Native.Nat.{ℕ, zero, suc, ◌+◌, ◌*◌, ◌-◌, ◌<◌, ◌≤◌}
 use mathlib.Core.Path.{◌≡◌, refl, sym, ap, ◌∙◌}
-use mathlib.Core.Bool.{Bool, true, false}
+use mathlib.Core.Bool.{Bool, false}
 use mathlib.Core.List.{List, [], ◌∷◌, ◌++◌}
 use native.Mathlib.Omega.{arith}
 use lib.Dec.{ltb}
 use lib.ListN.{length, drop, length-append, length-drop}
 use lib.Seq.{append_snoc}
-use borrow.Author.Tests.{ltb-false}
+use borrow.Author.Tests.{ltb-false, ne_eqb}
 use Rattle.misc.specs.Parse.{part}
 use Rattle.misc.proofs.ParseLaws.{part_length}
 use Rattle.packets.specs.Gno.{Interval}
 use Rattle.packets.specs.Key.{Key, order, or_else, order_read, ◌≺◌}
-use Rattle.packets.specs.declared.KeyOrder.{KeyOrder}
-use Rattle.packets.specs.declared.KeyOrder.TheVariants.{Before, Same, After}
-use Rattle.packets.proofs.Tests.{clash}
+use Rattle.std.specs.declared.cmp.Ordering as cmp
+use Rattle.std.specs.declared.cmp.Ordering.TheVariants.{Less, Equal, Greater}
 use Rattle.packets.proofs.Keys.{flip, order-eq, order_flip, order-append, after-not-same, same_self}
-use Rattle.packets.proofs.OrderLaws.{says-before, says_same, says-after}
+use Rattle.packets.proofs.OrderLaws.{says-less, says-equal, says-greater}
 use Rattle.previous_gtids_event.specs.Entry.{Entry, entry, tag_of}
 use Rattle.previous_gtids_event.specs.Rewrite.{entries_bytes, any_tag}
-use Rattle.gtid_sets.specs.Interval.{covers, insert}
+use Rattle.gtid_sets.specs.Interval.{Some, covers, insert}
 use Rattle.gtid_sets.specs.Set.{has, of_key, join, SetForm}
 use Rattle.gtid_sets.specs.Limits.{summed}
 use Rattle.gtid_sets.specs.Lent.{GoodKeys}
 use Rattle.gtid_sets.proofs.LimitLaws.{summed-append}
 use Rattle.gtid_sets.proofs.SetLaws.{join-before, join-into, join-after, of-key-none, of-key-has}
-use Rattle.gtid_sets.proofs.ByteLaws.{body-least, entries_bytes-append}
+use Rattle.gtid_sets.proofs.ByteLaws.{entries_bytes-append}
 use Rattle.gtid_sets.proofs.Bools.{or-false-parts}
 use Rattle.set_intervals.specs.Intervals.{intervals_at, intervals_in, held_in}
 use Rattle.set_intervals.proofs.Standing.{intervals-count, intervals-lent}
@@ -35,9 +34,9 @@ use Rattle.set_check.specs.SetOf.{set_of, IsSet}
 use Rattle.set_check.specs.Cursor.{beyond_of, entries_left, key_here, CursorIs}
 use Rattle.set_check.specs.declared.Cursor.{Cursor}
 use Rattle.set_check.proofs.SetOfLaws.{set-bytes}
-use Rattle.set_check.proofs.CursorLaws.{cursor-starts, Ahead, none_ahead}
+use Rattle.set_check.proofs.CursorLaws.{cursor-starts, Ahead, none_ahead, cursor-count}
 use Rattle.set_join.specs.declared.Found.{Found}
-use Rattle.set_join.specs.Find.{absent_at, own, old, FoundIs}
+use Rattle.set_join.specs.Find.{found_at, absent_at, own, old, FoundIs}
 
 -- ---- entries before others
 
@@ -79,6 +78,11 @@ passed_none bs k c set start =
       alike = refl;
     }
 
+-- there are as many as are counted
+counted : (n : ℕ) (bs : List ℕ) (at : ℕ) → Some (intervals_at n bs at) → 0 < n
+counted zero bs at none = absurd none
+counted (suc n) bs at some = omega arith
+
 no_tag : (k : Key) (is : List Interval) (s : List Entry) → any_tag (entry k is ∷ s) ≡ false → length (tag_of k) ≡ 0
 unfolding any_tag
 no_tag k is s h = omega (arith, ltb-false 0 (length (tag_of k)) (or-false-parts (ltb 0 (length (tag_of k))) (any_tag s) h).0)
@@ -116,9 +120,9 @@ module _ (bs : List ℕ) (w : Bool) (n : ℕ) (k : Key) (done : ℕ) (c : Cursor
   total : (f : ℕ → ℕ) → summed f (set_of bs) ≡ summed f x.front + summed f left
   total f = ap (summed f) x.all ∙ summed-append f x.front left
 
-  -- entries take up bytes
-  pub few-done : done ≤ 2 ^ 40
-  few-done = omega (arith, x.count, entries, body-least (set_of bs) x.set.keyed, ap length x.set.written, x.set.small)
+  -- those that are before it, and those that are left, are all
+  pub all-counted : done + c.left ≡ n
+  all-counted = omega (arith, x.count, entries, cursor-count bs c, x.set.count)
 
   -- the key is not there, and goes before what is left
   absent : ((a b : ℕ) → join k a b left ≡ entry k (insert a b []) ∷ left) → of_key k left ≡ []
@@ -130,6 +134,7 @@ module _ (bs : List ℕ) (w : Bool) (n : ℕ) (k : Key) (done : ℕ) (c : Cursor
     mine = x.mine ∙ misses;
     member = λ m. of-key-has k (set_of bs) m x.set.formed;
     gapped = tt;
+    start = refl;
     index = x.count;
     entries = omega (arith, entries);
     total = λ f z. omega (arith, total f, z);
@@ -141,14 +146,15 @@ module _ (bs : List ℕ) (w : Bool) (n : ℕ) (k : Key) (done : ℕ) (c : Cursor
     inside = x.left.inside;
     tags = (front-tags, λ f. x.left.tags (x.alike ∙ f));
     keyed = (front-keyed, x.left.keyed);
-    plain = λ e. clash e refl;
+    plain = λ e. omega arith;
     length_front = front_length;
   }
 
-  pub passed-all : c.left ≡ 0 → FoundIs bs w k (set_of bs) (absent_at done c.at)
+  pub passed-all : n ≤ done → FoundIs bs w k (set_of bs) (absent_at n c.at)
   passed-all e =
-      let none = none_ahead bs c e in
-      absent (λ a b. ap (join k a b) none ∙ ap (λ (y : List Entry). entry k (insert a b []) ∷ y) (sym none)) (ap (of_key k) none)
+      let none = none_ahead bs c (omega (arith, all-counted)) in
+      let same : n ≡ done = omega (arith, all-counted) in
+      rw same (absent (λ a b. ap (join k a b) none ∙ ap (λ (y : List Entry). entry k (insert a b []) ∷ y) (sym none)) (ap (of_key k) none))
 
   module _ (p : EntryPlace) (h : Ahead bs c p) where
     abbrev key : Key
@@ -163,7 +169,7 @@ module _ (bs : List ℕ) (w : Bool) (n : ℕ) (k : Key) (done : ℕ) (c : Cursor
     formed : SetForm (entry key is ∷ back)
     formed = rw h.is at x.left.formed
 
-    module _ (u t : List ℕ) (made : k ≡ u ++ t) (long : length u ≡ 16) (told : KeyOrder)
+    module _ (u t : List ℕ) (made : k ≡ u ++ t) (long : length u ≡ 16) (told : cmp.Ordering)
         (says : told ≡ order_read (or_else (order (part bs c.at 16) u) (order (part bs p.tag_at p.tag_len) t))) where
       found : order_read (order key k) ≡ told
       found = sym (
@@ -173,9 +179,9 @@ module _ (bs : List ℕ) (w : Bool) (n : ℕ) (k : Key) (done : ℕ) (c : Cursor
           )
 
       -- the entry is before the key
-      pub passed-next : told ≡ Before → Passed bs w n k (done + 1) (beyond_of c p)
+      pub passed-next : told ≡ Less → Passed bs w n k (done + 1) (beyond_of c p)
       passed-next before =
-          let lower : key ≺ k = says-before (order key k) (found ∙ before) in
+          let lower : key ≺ k = says-less (order key k) (found ∙ before) in
           record {
             set = x.set;
             front = x.front ++ (entry key is ∷ []);
@@ -191,10 +197,10 @@ module _ (bs : List ℕ) (w : Bool) (n : ℕ) (k : Key) (done : ℕ) (c : Cursor
           }
 
       -- the entry is the key's
-      pub found_here : told ≡ Same
-          → FoundIs bs w k (set_of bs) (record { index = done; at = c.at; here = true; count = p.count; first = p.first; next = p.next })
+      pub found_here : told ≡ Equal
+          → FoundIs bs w k (set_of bs) (found_at done c.at (record { from = p.first; to = p.next; count = p.count }))
       found_here same =
-          let mine : key ≡ k = order-eq key k (says_same (order key k) (found ∙ same)) in
+          let mine : key ≡ k = order-eq key k (says-equal (order key k) (found ∙ same)) in
           let all : left ≡ entry k is ∷ back = h.is ∙ ap (λ (y : Key). entry y is ∷ back) mine in
           record {
             front = x.front;
@@ -203,8 +209,9 @@ module _ (bs : List ℕ) (w : Bool) (n : ℕ) (k : Key) (done : ℕ) (c : Cursor
             mine = x.mine ∙ ap (of_key k) all ∙ rw (same_self k);
             member = λ m. of-key-has k (set_of bs) m x.set.formed;
             gapped = h.gapped;
+            start = refl;
             index = x.count;
-            entries = omega (arith, entries, ap length all);
+            entries = rw (ne_eqb p.count 0 (λ none. omega (arith, counted p.count bs p.first h.some))) (omega (arith, entries, ap length all));
             total = λ f _. omega (arith, total f, ap (summed f) all, ap f (intervals-count p.count bs p.first));
             front_bytes = front_bytes;
             back_bytes = h.next.bytes ∙ ap (λ (v : Bool). entries_bytes v back) x.alike;
@@ -219,9 +226,9 @@ module _ (bs : List ℕ) (w : Bool) (n : ℕ) (k : Key) (done : ℕ) (c : Cursor
           }
 
       -- the entry is after the key
-      pub found-absent : told ≡ After → FoundIs bs w k (set_of bs) (absent_at done c.at)
+      pub found-absent : told ≡ Greater → FoundIs bs w k (set_of bs) (absent_at done c.at)
       found-absent after =
-          let higher : k ≺ key = order_flip key k ∙ ap flip (says-after (order key k) (found ∙ after)) in
+          let higher : k ≺ key = order_flip key k ∙ ap flip (says-greater (order key k) (found ∙ after)) in
           absent
           (λ a b. ap (join k a b) h.is ∙ join-before k key a b is back higher ∙ ap (λ (y : List Entry). entry k (insert a b []) ∷ y) (sym h.is))
           (ap (of_key k) h.is ∙ of-key-none k (entry key is ∷ back) higher formed)
@@ -229,13 +236,13 @@ module _ (bs : List ℕ) (w : Bool) (n : ℕ) (k : Key) (done : ℕ) (c : Cursor
 -- ---- the key's own intervals
 
 module _ (bs : List ℕ) (w : Bool) (k : Key) (s : List Entry) (r : Found) (f : FoundIs bs w k s r) where
-  pub own-length : length (own bs r) ≡ 16 * r.count
-  own-length = part_length (r.next - r.first) bs r.first (omega (arith, f.end, f.inside)) ∙ omega (arith, f.end)
+  pub own-length : length (own bs r) ≡ 16 * r.own.count
+  own-length = part_length (r.own.to - r.own.from) bs r.own.from (omega (arith, f.end, f.inside)) ∙ omega (arith, f.end)
 
   pub own_is : intervals_in (own bs r) ≡ old bs r
   own_is =
-      let size : r.next - r.first ≡ 16 * r.count = omega (arith, f.end) in
-      ap (λ (n : ℕ). intervals_in (part bs r.first n)) size ∙ intervals-lent r.count bs r.first (omega (arith, f.end, f.inside))
+      let size : r.own.to - r.own.from ≡ 16 * r.own.count = omega (arith, f.end) in
+      ap (λ (n : ℕ). intervals_in (part bs r.own.from n)) size ∙ intervals-lent r.own.count bs r.own.from (omega (arith, f.end, f.inside))
 
   pub own_held : (n : ℕ) → held_in n (intervals_in (own bs r)) ≡ has s k n
   own_held n = ap (held_in n) own_is ∙ held-covers 0 n (old bs r) f.gapped ∙ ap (λ (is : List Interval). covers is n) (sym f.mine) ∙ sym (f.member n)

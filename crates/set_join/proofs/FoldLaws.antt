@@ -1,17 +1,17 @@
 -- Joining the intervals of a body to a set in a work buffer: what `join_interval` leaves there, and the loops above it.
 use Prim.Native.Nat.{ℕ, suc, ◌+◌, ◌-◌, ◌*◌, ◌/◌, ◌^◌, ◌≤◌, ◌<◌}
 use mathlib.Core.Path.{◌≡◌, refl, sym, ap, ◌∙◌}
-use mathlib.Core.Bool.{Bool, true, false}
-use mathlib.Core.List.{List, [], ◌∷◌, ◌++◌}
+use mathlib.Core.Bool.{Bool, true}
+use mathlib.Core.List.{List, ◌∷◌, ◌++◌}
 use native.Mathlib.Omega.{arith}
 use borrow.Author.Tests.{le-leb}
 use lib.ListN.{length, take, drop, length-take}
 use lib.Seq.{take_at}
+use Rattle.std.specs.Prelude.{Ok}
 use Rattle.misc.specs.Parse.{refusal_of, many}
 use Rattle.misc.specs.Body.{of_body}
 use Rattle.misc.specs.Le.{le_at, number_at}
 use Rattle.misc.specs.Output.{bytes, output_of, WhereFits}
-use Rattle.misc.proofs.ParseLaws.{was-parsed}
 use Rattle.misc.proofs.Walk.{many-none}
 use Rattle.misc.proofs.OutputLaws.{output-fits}
 use Rattle.packets.specs.Gno.{Interval, interval, is_interval}
@@ -25,15 +25,15 @@ use Rattle.previous_gtids_event.specs.Answers.{entry_read, header_read}
 use Rattle.previous_gtids_event.specs.Rewrite.{any_tag, body_bytes}
 use Rattle.previous_gtids_event.specs.declared.EntryRead.{EntryRead}
 use Rattle.previous_gtids_event.specs.declared.HeaderRead.{HeaderRead}
-use Rattle.previous_gtids_event.proofs.Reading.{previous-parts}
+use Rattle.previous_gtids_event.proofs.Reading.{headed}
 use Rattle.gtid_sets.specs.Set.{SetForm, join}
 use Rattle.gtid_sets.specs.Limits.{over}
-use Rattle.gtid_sets.specs.TakeIn.{proper, lawful, join_all, union, taken_set}
+use Rattle.gtid_sets.specs.TakeIn.{proper, lawful, join_all, union}
 use Rattle.gtid_sets.specs.Lent.{GoodKeys}
 use Rattle.gtid_sets.proofs.FormLaws.{proper-holds}
 use Rattle.gtid_sets.proofs.KeyLaws.{good-key}
 use Rattle.gtid_sets.proofs.SetLaws.{form-join}
-use Rattle.gtid_sets.proofs.LentLaws.{empty-bytes, good-join}
+use Rattle.gtid_sets.proofs.LentLaws.{good-join}
 use Rattle.set_intervals.specs.Intervals.{intervals_at}
 use Rattle.set_intervals.proofs.Standing.{intervals-more}
 use Rattle.set_check.specs.SetOf.{entries_of}
@@ -43,8 +43,8 @@ use Rattle.set_join.specs.TakeIn.{held_set, HeldIs, key_in, EntryIs, widest, eno
 use Rattle.set_join.specs.declared.Held.{Held}
 use Rattle.set_join.specs.declared.Plan.{Plan}
 use Rattle.set_check.proofs.SetOfLaws.{set_is}
-use Rattle.set_join.proofs.RoomLaws.{widest-empty, enough-now, enough-next, enough-all, enough-most}
-use Rattle.set_join.proofs.EntryLaws.{ReadEntry, body-starts, NextEntry, entry_next}
+use Rattle.set_join.proofs.RoomLaws.{enough-now, enough-next, enough-all, enough-most}
+use Rattle.set_join.proofs.EntryLaws.{ReadEntry, NextEntry, entry_next}
 
 -- ---- a set at the front of a buffer
 
@@ -78,7 +78,7 @@ module _ (held spare : List ℕ) (is : Held) (u t : List ℕ) (a b : ℕ) (h : H
   pub interval-joined : is_interval (interval a b) ≡ true
       → (spare' : List ℕ) (n : ℕ) → WhereFits spare 0 (plan_runs (take is.len held) u t plan) spare' n
       → (held' : List ℕ) → held' ≡ output_of held (bytes (take plan.len spare'))
-      → (was then : ℕ) → was ≡ over plan.found.count → then ≡ over plan.held
+      → (was then : ℕ) → was ≡ over plan.found.own.count → then ≡ over plan.held
       → let r : Held = record
       { tagged = plan.tags; entries = plan.entries; intervals = plan.intervals; crowded = is.crowded - was + then; len = plan.len } in
       HeldIs held' r × (held_set held' r ≡ join (u ++ t) a b (held_set held is))
@@ -118,9 +118,6 @@ unfolding enough
 enough-one k s n h = omega arith
 
 module _ (body : List ℕ) (k : Key) (wanted : List Entry) (held : List ℕ) (set : Held) (at left : ℕ) (j : Joining body k wanted held set at left) where
-  pub joining-all : left ≡ 0 → held_set held set ≡ wanted
-  joining-all h = sym (j.to-do ∙ rw h)
-
   pub joining-room : 0 < left → (spare : List ℕ) → length spare ≡ length held → length held ≤ 2 ^ 40 → Room held spare (enough k (held_set held set) 1)
   joining-room some spare alike small =
       record { wide = omega (arith, enough-one k (held_set held set) left some, j.room); alike = alike; small = small }
@@ -131,9 +128,6 @@ module _ (body : List ℕ) (k : Key) (wanted : List Entry) (held : List ℕ) (se
 
     judged : (is_interval (interval a b) ≡ true) × (proper (intervals_at (left - 1) body (at + 16)) ≡ true)
     judged = and-true (is_interval (interval a b)) _ (rw next-interval at j.lawful)
-
-    pub joining-next : is_interval (interval a b) ≡ true
-    joining-next = judged.0
 
     pub joining-turn : GoodKey k → (held' : List ℕ) (set' : Held) → length held' ≡ length held → HeldIs held' set'
         → held_set held' set' ≡ join k a b (held_set held set) → Joining body k wanted held' set' (at + 16) (left - 1)
@@ -162,12 +156,12 @@ pub record Folding (body : List ℕ) (tagged : Bool) (start : ℕ) (wanted : Lis
   pub small : length body ≤ 65536
 
 -- none yet
-pub folding-none : (body : List ℕ) (r : HeaderRead) → r ≡ header_read (of_body body (le_at 8 body 0)) → refusal_of (previous body) ≡ 0
-    → lawful (entries_of (previous body)) ≡ true → (held : List ℕ) (is : Held) → HeldIs held is
-    → Folding body r.tagged (widest (held_set held is)) (union (entries_of (previous body)) (held_set held is)) held is r.entries 8
-folding-none body r told z h held is held-is =
-    let (all, small) = body-starts body r told z in
-    record {
+pub folding-none : (body : List ℕ) {r : HeaderRead} → Ok r ≡ header_read (of_body body (le_at 8 body 0)) → refusal_of (previous body) ≡ 0
+    → lawful (entries_of (previous body)) ≡ true → (held : List ℕ) (is : Held) → HeldIs held is → (left : ℕ) → left ≡ r.entries
+    → Folding body r.tagged (widest (held_set held is)) (union (entries_of (previous body)) (held_set held is)) held is left 8
+folding-none body told z h held is held-is left same =
+    let (all, room, small) = headed body told in
+    rw same (record {
       held-is = held-is;
       whole = rw all at z;
       rule = rw all at h;
@@ -175,7 +169,7 @@ folding-none body r told z h held is held-is =
       grown = omega arith;
       place = omega arith;
       small = small;
-    }
+    })
 
 module _ (body : List ℕ) (at : ℕ) (e : EntryRead) (k : Key) (is : List Interval) (r : ReadEntry body at e k is e.next) (s : List Entry) where
   -- what is enough for an entry, as it is read
@@ -191,9 +185,9 @@ module _ (body : List ℕ) (tagged : Bool) (start : ℕ) (wanted : List Entry) (
   pub folding-all : left ≡ 0 → held_set held set ≡ wanted
   folding-all h = sym (f.to-do ∙ rw (h, many-none (entry_at tagged body) at))
 
-  module _ (some : 0 < left) (e : EntryRead) (told : e ≡ entry_read (of_body body (entry_at tagged body at))) where
+  module _ (some : 0 < left) {e : EntryRead} (told : Ok e ≡ entry_read (of_body body (entry_at tagged body at))) where
     next : NextEntry tagged body at left e
-    next = entry_next tagged body at left f.small some f.whole e told
+    next = entry_next tagged body at left f.small some f.whole told
 
     judged-next : (proper next.list ≡ true) × (lawful (entries_of (many (entry_at tagged body) (left - 1) e.next)) ≡ true)
     judged-next = and-true (proper next.list) _ (rw next.first at f.rule)
@@ -228,25 +222,3 @@ module _ (body : List ℕ) (tagged : Bool) (start : ℕ) (wanted : List Entry) (
           place = omega (arith, f.place, n.read.size);
           small = f.small;
         }
-
--- ---- all of a body, joined to the empty set
-
-abbrev pub empty : Held
-empty = record { tagged = false; entries = 0; intervals = 0; crowded = 0; len = 8 }
-
-module _ (held : List ℕ) (zeros : take 8 held ≡ 0 ∷ 0 ∷ 0 ∷ 0 ∷ 0 ∷ 0 ∷ 0 ∷ 0 ∷ []) where
-  held-empty : HeldIs held empty × (held_set held empty ≡ [])
-  unfolding any_tag
-  held-empty = held-as held [] empty (zeros ∙ sym empty-bytes) tt tt (omega arith) (sym (ap length empty-bytes)) refl
-      (record { count = refl; total = refl; crowd = refl })
-
-  pub merge-starts : (spare body : List ℕ) → length held ≡ 65536 + 65536 / 24 → length spare ≡ 65536 + 65536 / 24 → refusal_of (previous body) ≡ 0
-      → HeldIs held empty × Room held spare (widest (held_set held empty) + (length body - 8 + length body / 24))
-  merge-starts spare body size same z =
-      let (es, next, e) = was-parsed (previous body) z in
-      let (header, l, p, least, most) = previous-parts body es next e in
-      let (is, none) = held-empty in
-      (is, record { wide = omega (arith, ap widest none, widest-empty); alike = omega arith; small = omega arith })
-
-  pub merge-ends : (s r : List Entry) → s ≡ union r (held_set held empty) → s ≡ taken_set r
-  merge-ends s r e = e ∙ ap (union r) held-empty.1

@@ -1,10 +1,10 @@
 -- Laws of a plan: the runs of the set after an interval is joined.
-use Prim.Native.Nat.{ℕ, ◌+◌, ◌-◌, ◌*◌, ◌^◌, ◌<◌, ◌≤◌}
+use Prim.Native.Nat.{ℕ, zero, suc, ◌+◌, ◌-◌, ◌*◌, ◌^◌, ◌<◌, ◌≤◌}
 use mathlib.Core.Path.{◌≡◌, refl, sym, ap, ◌∙◌}
 use mathlib.Core.Bool.{Bool, true, false, not, ◌&&◌, ◌||◌, or_comm}
 use mathlib.Core.List.{List, [], ◌∷◌, ◌++◌, append_assoc, append-nil}
 use native.Mathlib.Omega.{arith}
-use lib.Dec.{ltb}
+use lib.Dec.{ltb, eqb}
 use lib.ListN.{length, drop, length-append, length-drop}
 use lib.Seq.{take_at, drop_at, drop-length}
 use borrow.Author.Tests.{le-ltb, ltb-false}
@@ -121,7 +121,7 @@ run_is bs false true es from to e l h t k i o =
 
 -- only intervals that are there are taken up
 pub taken-inside : (bs : List ℕ) (w : Bool) (k : Key) (s : List Entry) (f : Found) → FoundIs bs w k s f → (a b : ℕ) (p : Splice)
-    → p ≡ splice_of a b (intervals_in (own bs f)) → p.taken ≤ f.count
+    → p ≡ splice_of a b (intervals_in (own bs f)) → p.taken ≤ f.own.count
 taken-inside bs w k s f is a b p spliced =
     let all : List Interval = intervals_in (own bs f) in
     rw spliced
@@ -164,24 +164,22 @@ implied : (w x : Bool) → w ≡ true → (w || x) ≡ true
 implied true x e = refl
 implied false x e = clash e refl
 
-added_is : (h : Bool) → added h ≡ extra (not h) 1
-added_is true = refl
-added_is false = refl
+added_is : (n : ℕ) → added n ≡ extra (eqb n 0) 1
+added_is n = split (eqb n 0) (λ h. rw h) (λ h. rw h)
 
-added-few : (h : Bool) → added h ≤ 1
-added-few true = omega arith
-added-few false = omega arith
+added-few : (n : ℕ) → added n ≤ 1
+added-few n = split (eqb n 0) (λ h. rw h (omega arith)) (λ h. rw h (omega arith))
 
 -- only a key that is not there can widen a set
-wide-sum : (w here : Bool) (n x y m : ℕ) → (here ≡ true → w ≡ false → m ≡ 0) → n + added here ≡ x + (1 + y)
+wide-sum : (w : Bool) (count n x y m : ℕ) → (0 < count → w ≡ false → m ≡ 0) → n + added count ≡ x + (1 + y)
     → extra ((w || ltb 0 m) && not w) x + extra ((w || ltb 0 m) && not w) y ≡ extra ((w || ltb 0 m) && not w) n
-wide-sum true here n x y m h e = go (ltb 0 m)
+wide-sum true count n x y m h e = go (ltb 0 m)
   where
     go : (z : Bool) → extra ((true || z) && false) x + extra ((true || z) && false) y ≡ extra ((true || z) && false) n
     go true = refl
     go false = refl
-wide-sum false true n x y m h e = let l = h refl refl in rw (le-ltb 0 m (omega arith))
-wide-sum false false n x y m h e = split (ltb 0 m) (λ p. rw p (omega arith)) (λ p. rw p)
+wide-sum false zero n x y m h e = split (ltb 0 m) (λ p. rw p (omega arith)) (λ p. rw p)
+wide-sum false (suc count) n x y m h e = let l = h (omega arith) refl in rw (le-ltb 0 m (omega arith))
 
 module _ (bs : List ℕ) (w : Bool) (n : ℕ) (lent : IsSet bs w n) (u t : List ℕ) (long : length u ≡ 16) (short : length t ≤ 32) (a b : ℕ)
     (f : Found) (is : FoundIs bs w (u ++ t) (set_of bs) f) (p : Splice) (spliced : p ≡ splice_of a b (intervals_in (own bs f))) (rises : a < b)
@@ -190,12 +188,12 @@ module _ (bs : List ℕ) (w : Bool) (n : ℕ) (lent : IsSet bs w n) (u t : List 
   v = w || ltb 0 (length t)
 
   abbrev held : ℕ
-  held = f.count - p.taken + 1
+  held = f.own.count - p.taken + 1
 
   abbrev new : List Interval
   new = insert a b (old bs f)
 
-  size : length (own bs f) ≡ 16 * f.count
+  size : length (own bs f) ≡ 16 * f.own.count
   size = own-length bs w (u ++ t) (set_of bs) f is
 
   own_old : intervals_in (own bs f) ≡ old bs f
@@ -204,7 +202,7 @@ module _ (bs : List ℕ) (w : Bool) (n : ℕ) (lent : IsSet bs w n) (u t : List 
   splice : SpliceIs (own bs f) a b p
   splice =
       rw spliced
-      (splice-is (own bs f) (part_bytes bs f.first (f.next - f.first) ok) (omega (arith, size)) a b rises (rw own_old is.gapped))
+      (splice-is (own bs f) (part_bytes bs f.own.from (f.own.to - f.own.from) ok) (omega (arith, size)) a b rises (rw own_old is.gapped))
 
   new-bytes : intervals_bytes new ≡ spliced_run (own bs f) p
   new-bytes = ap (λ (x : List Interval). intervals_bytes (insert a b x)) (sym own_old) ∙ splice.bytes
@@ -216,7 +214,7 @@ module _ (bs : List ℕ) (w : Bool) (n : ℕ) (lent : IsSet bs w n) (u t : List 
   small = set-small bs w n lent
 
   -- the intervals are those before, of the key and after
-  all-intervals : intervals (set_of bs) ≡ intervals is.front + (f.count + intervals is.back)
+  all-intervals : intervals (set_of bs) ≡ intervals is.front + (f.own.count + intervals is.back)
   all-intervals = is.total (λ n. n) refl
 
   parts : (uuid_of (u ++ t) ≡ u) × (tag_of (u ++ t) ≡ t)
@@ -230,22 +228,22 @@ module _ (bs : List ℕ) (w : Bool) (n : ℕ) (lent : IsSet bs w n) (u t : List 
   unfolding after
   after-tags = any-join (u ++ t) a b (set_of bs) ∙ rw (parts.1, lent.tags) (or_comm (ltb 0 (length t)) w)
 
-  front-run : RunIs bs w v is.front 8 f.at
-  front-run = run_is bs w v is.front 8 f.at is.front_bytes is.length_front (omega (arith, is.order, is.end, is.inside))
+  front-run : RunIs bs w v is.front 8 f.before.to
+  front-run = run_is bs w v is.front 8 f.before.to is.front_bytes is.length_front (omega (arith, is.order, is.end, is.inside))
       is.tags.0 is.keyed.0
       (omega (arith, all-intervals, small.total, small.long)) (implied w (ltb 0 (length t)))
 
-  back-length : length (entries_bytes w is.back) ≡ length bs - f.next
-  back-length = ap length (sym is.back_bytes) ∙ length-drop f.next bs
+  back-length : length (entries_bytes w is.back) ≡ length bs - f.own.to
+  back-length = ap length (sym is.back_bytes) ∙ length-drop f.own.to bs
 
-  back-run : RunIs bs w v is.back f.next (length bs)
-  back-run = run_is bs w v is.back f.next (length bs) (is.back_bytes ∙ rw (drop-length bs) (sym (append-nil (entries_bytes w is.back))))
+  back-run : RunIs bs w v is.back f.own.to (length bs)
+  back-run = run_is bs w v is.back f.own.to (length bs) (is.back_bytes ∙ rw (drop-length bs) (sym (append-nil (entries_bytes w is.back))))
       (omega (arith, back-length, is.inside)) (omega arith) is.tags.1 is.keyed.1
       (omega (arith, all-intervals, small.total, small.long)) (implied w (ltb 0 (length t)))
 
-  after-length : length after ≡ n + extra (not f.here) 1
+  after-length : length after ≡ n + extra (eqb f.own.count 0) 1
   unfolding after
-  after-length = rw (is.joins a b, length-append is.front (entry (u ++ t) new ∷ is.back)) (omega (arith, is.entries, added_is f.here, lent.count))
+  after-length = rw (is.joins a b, length-append is.front (entry (u ++ t) new ∷ is.back)) (omega (arith, is.entries, added_is f.own.count, lent.count))
 
   -- the bytes of the set after it: its entries are those before, one, and those after
   after-bytes : body_bytes after
@@ -256,8 +254,8 @@ module _ (bs : List ℕ) (w : Bool) (n : ℕ) (lent : IsSet bs w n) (u t : List 
       (ap (entries_bytes v) (is.joins a b) ∙ entries_bytes-append v is.front (entry (u ++ t) new ∷ is.back)
       ∙ ap (λ (x : List ℕ). entries_bytes v is.front ++ x) (entries-head v (u ++ t) new is.back)))
 
-  module _ (len entries total : ℕ) (e₁ : len ≡ f.at + (24 + extra v (1 + length t) + 16 * held) + (length bs - f.next) + extra (v && not w) n)
-      (e₂ : entries ≡ n + extra (not f.here) 1) (e₃ : total ≡ intervals (set_of bs)) where
+  module _ (len entries total : ℕ) (e₁ : len ≡ f.before.to + (24 + extra v (1 + length t) + 16 * held) + (length bs - f.own.to) + extra (v && not w) n)
+      (e₂ : entries ≡ n + extra (eqb f.own.count 0) 1) (e₃ : total ≡ intervals (set_of bs)) where
     abbrev plan : Plan
     plan =
         record { tags = v; widen = v && not w; entries = entries; intervals = total - p.taken + 1; held = held; len = len; found = f; splice = p }
@@ -267,18 +265,18 @@ module _ (bs : List ℕ) (w : Bool) (n : ℕ) (lent : IsSet bs w n) (u t : List 
     unfolding after
     after-summed g = rw (is.joins a b, summed-append g is.front (entry (u ++ t) new ∷ is.back), new-count)
 
-    back_count : entries - (1 + f.index) ≡ length is.back
-    back_count = omega (arith, e₂, is.entries, added_is f.here, is.index, lent.count)
+    back_count : entries - (1 + f.before.count) ≡ length is.back
+    back_count = omega (arith, e₂, is.entries, added_is f.own.count, is.index, lent.count)
 
     plan-bytes : body_bytes after ≡ plan_runs bs u t plan
     plan-bytes =
         after-bytes
-        ∙ rw (after-length, ← e₂, parts.0, parts.1, new-count, new-bytes, front-run.run, back-run.run, ← is.index, back_count)
+        ∙ rw (after-length, ← e₂, parts.0, parts.1, new-count, new-bytes, front-run.run, back-run.run, ← is.index, ← is.start, back_count)
         (simp append_assoc)
 
     plan-size : length (body_bytes after) ≡ len
     plan-size =
-        let wide = wide-sum w f.here n (length is.front) (length is.back) (length t)
+        let wide = wide-sum w f.own.count n (length is.front) (length is.back) (length t)
         (λ x y. rw parts.1 at (is.plain x y)) (rw lent.count at is.entries) in
         ap length after-bytes
         ∙ rw (parts.0, parts.1)
@@ -302,12 +300,12 @@ module _ (bs : List ℕ) (w : Bool) (n : ℕ) (lent : IsSet bs w n) (u t : List 
     unfolding after
     plan-is = record {
       runs = record {
-        before_there = rw is.index front-run.there;
+        before_there = rw (is.index, is.start) front-run.there;
         after_there = rw back_count back-run.there;
         own_there = (omega (arith, is.end), is.inside);
         splice_inside = splice.inside;
-        index_below = omega (arith, e₂, is.entries, added_is f.here, is.index, lent.count);
-        few = omega (arith, e₂, added_is f.here, added-few f.here, small.few, small.long);
+        index_below = omega (arith, e₂, is.entries, added_is f.own.count, is.index, lent.count);
+        few = omega (arith, e₂, added_is f.own.count, added-few f.own.count, small.few, small.long);
       };
       bytes = plan-bytes;
       len_is = sym plan-size;

@@ -5,6 +5,8 @@ use mathlib.Core.Bool.{Bool, true, false, ◌&&◌}
 use mathlib.Core.List.{List}
 use native.Mathlib.Omega.{arith}
 use lib.ListN.{length}
+use Rattle.std.specs.Prelude.{Ok}
+use Rattle.previous_gtids_event.proofs.Reading.{headed}
 use Rattle.misc.specs.Parse.{Parse, many, refusal_of, part}
 use Rattle.misc.specs.Body.{of_body}
 use Rattle.misc.specs.Le.{le_at}
@@ -18,7 +20,7 @@ use Rattle.gtid_sets.specs.TakeIn.{proper, lawful}
 use Rattle.set_intervals.specs.Intervals.{intervals_in}
 use Rattle.set_intervals.proofs.Standing.{intervals-lent}
 use Rattle.set_check.specs.SetOf.{entries_of}
-use Rattle.set_join.proofs.EntryLaws.{NextEntry, body-starts, entry_next}
+use Rattle.set_join.proofs.EntryLaws.{NextEntry, entry_next}
 
 -- the body obeys the gno rule just if its entries from a place on do, and these can be read
 pub record StillLawful (body : List ℕ) (tagged : Bool) (at left : ℕ) : Type 0 where
@@ -26,19 +28,19 @@ pub record StillLawful (body : List ℕ) (tagged : Bool) (at left : ℕ) : Type 
   pub whole : refusal_of (many (entry_at tagged body) left at) ≡ 0
   pub same : lawful (entries_of (previous body)) ≡ lawful (entries_of (many (entry_at tagged body) left at))
 
-pub lawful-none : (body : List ℕ) (r : HeaderRead) → r ≡ header_read (of_body body (le_at 8 body 0)) → refusal_of (previous body) ≡ 0
-    → StillLawful body r.tagged 8 r.entries
-lawful-none body r told z =
-    let (all, small) = body-starts body r told z in
-    record { small = small; whole = rw all at z; same = ap (λ (p : Parse (List Entry)). lawful (entries_of p)) all }
+pub lawful-none : (body : List ℕ) {r : HeaderRead} → Ok r ≡ header_read (of_body body (le_at 8 body 0)) → refusal_of (previous body) ≡ 0
+    → (left : ℕ) → left ≡ r.entries → StillLawful body r.tagged 8 left
+lawful-none body told z left same =
+    let (all, room, small) = headed body told in
+    rw same (record { small = small; whole = rw all at z; same = ap (λ (p : Parse (List Entry)). lawful (entries_of p)) all })
 
 module _ (body : List ℕ) (tagged : Bool) (at left : ℕ) (g : StillLawful body tagged at left) where
   pub lawful-all : left ≡ 0 → true ≡ lawful (entries_of (previous body))
   lawful-all h = sym (g.same ∙ rw (h, many-none (entry_at tagged body) at))
 
-  module _ (some : 0 < left) (e : EntryRead) (told : e ≡ entry_read (of_body body (entry_at tagged body at))) where
+  module _ (some : 0 < left) {e : EntryRead} (told : Ok e ≡ entry_read (of_body body (entry_at tagged body at))) where
     next : NextEntry tagged body at left e
-    next = entry_next tagged body at left g.small some g.whole e told
+    next = entry_next tagged body at left g.small some g.whole told
 
     pub entry-inside : (e.first ≤ e.next) × (e.next ≤ length body)
     entry-inside = (omega (arith, next.read.end), next.read.inside)

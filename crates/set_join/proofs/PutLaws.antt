@@ -1,7 +1,7 @@
 -- Laws of runs that are written one after another.
 use Prim.Native.Nat.{ℕ, zero, suc, ◌+◌, ◌-◌, ◌<◌, ◌≤◌}
 use mathlib.Core.Path.{◌≡◌, sym, ap, ◌∙◌}
-use mathlib.Core.Bool.{Bool, true, false}
+use mathlib.Core.Bool.{Bool, false}
 use mathlib.Core.List.{List, [], ◌++◌, append-nil}
 use native.Mathlib.Omega.{arith}
 use lib.ListN.{length, take, drop, length-drop}
@@ -19,7 +19,7 @@ use Rattle.set_check.specs.declared.Cursor.{Cursor}
 use Rattle.set_check.specs.declared.EntryPlace.{EntryPlace}
 use Rattle.set_check.proofs.EntryPlaces.{lies, place_here}
 use Rattle.set_join.specs.declared.Run.{Run}
-use Rattle.set_join.specs.Put.{wider_run, widened, entries_run, EntriesThere}
+use Rattle.set_join.specs.Put.{wider_run, widened, entries_run}
 
 -- a part of some bytes, its length told in another way
 pub put-part : {l l' : List ℕ} {at r : ℕ} (s : List ℕ) (from n m : ℕ) → m ≡ n → WhereFits l at (part s from m) l' r → WhereFits l at (part s from n) l' r
@@ -28,11 +28,6 @@ put-part s from n m e p = rw e at p
 -- all from a place on
 pub put_rest : {l l' : List ℕ} {at r : ℕ} (s : List ℕ) (from : ℕ) → WhereFits l at (part s from (length s - from)) l' r → WhereFits l at (drop from s) l' r
 put_rest s from p = rw (part-there s from (length s - from) (drop from s) [] (sym (append-nil (drop from s))) (length-drop from s)) at p
-
--- a head, with all of its uuid
-pub put_whole : {l l' : List ℕ} {at r : ℕ} (u : List ℕ) (tags : Bool) (t : List ℕ) (n : ℕ) → length u ≡ 16
-    → WhereFits l at (head_run (take 16 u) tags t n) l' r → WhereFits l at (head_run u tags t n) l' r
-put_whole u tags t n e p = rw (take_all 16 u (omega arith)) at p
 
 -- a head, with a copy of its uuid
 pub put-copied : {l l' : List ℕ} {at r : ℕ} (u own : List ℕ) (tags : Bool) (t : List ℕ) (n : ℕ) → length u ≡ 16 → own ≡ kept 16 (take 16 u)
@@ -92,16 +87,6 @@ module _ (bs wanted l₀ : List ℕ) (at : ℕ) (c : Cursor) (out : List ℕ) (p
 -- ---- entries as they are or widened
 
 module _ (w : Bool) (bs : List ℕ) (run : Run) where
-  pub run-wide : {l l' : List ℕ} {at r : ℕ} → w ≡ true → WhereFits l at (widened run.count bs run.from) l' r
-      → WhereFits l at (entries_run w bs run) l' r
-  run-wide e p = rw e p
-
   pub run-plain : {l l' : List ℕ} {at r : ℕ} → w ≡ false → WhereFits l at (part bs run.from (run.to - run.from)) l' r
       → WhereFits l at (entries_run w bs run) l' r
   run-plain e p = rw e p
-
-  pub wide-there : w ≡ true → EntriesThere w bs run → EntriesIn run.count false bs run.from
-  wide-there e p = rw e at p
-
-  pub plain-there : w ≡ false → EntriesThere w bs run → (run.from ≤ run.to) × (run.to ≤ length bs)
-  plain-there e p = rw e at p

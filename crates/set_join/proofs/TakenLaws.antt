@@ -2,25 +2,28 @@
 use Prim.Native.Nat.{ℕ, ◌^◌, ◌<◌, ◌≤◌}
 use mathlib.Core.Path.{◌≡◌, sym, ap, ◌∙◌}
 use mathlib.Core.Bool.{true, false}
-use mathlib.Core.List.{List, ◌++◌}
+use mathlib.Core.List.{List, [], ◌++◌}
 use native.Mathlib.Omega.{arith}
 use lib.ListN.{length, take, drop, take-append-drop}
-use Rattle.misc.specs.Refusal.{Refusal, number, bad_gno}
+use Rattle.std.specs.Prelude.{Result, Ok, Err}
+use Rattle.misc.specs.declared.refusal.Refusal.{Refusal}
+use Rattle.misc.specs.declared.refusal.WriteError.{WriteError}
+use Rattle.misc.specs.declared.refusal.WriteError.TheVariants.{Refused}
+use Rattle.misc.specs.Refusal.{bad_gno}
 use Rattle.misc.specs.Parse.{Parse, refuse, parsed, refusal_of}
 use Rattle.misc.specs.Output.{refused, bytes, output_of, answer_of}
-use Rattle.misc.specs.declared.Wrote.{Wrote}
-use Rattle.misc.proofs.ParseLaws.{no_zero}
+use Rattle.misc.proofs.ParseLaws.{no_zero, answered-ok, answered-err}
 use Rattle.misc.proofs.OutputLaws.{output-refused}
 use Rattle.previous_gtids_event.specs.Entry.{Entry}
 use Rattle.previous_gtids_event.specs.Previous.{previous}
 use Rattle.previous_gtids_event.specs.Rewrite.{body_bytes}
 use Rattle.previous_gtids_event.specs.Answers.{previous_read}
 use Rattle.previous_gtids_event.specs.declared.PreviousRead.{PreviousRead}
-use Rattle.previous_gtids_event.proofs.Reading.{was_read, was-not-read, previous-parts, previous-inside, previous-says}
+use Rattle.previous_gtids_event.proofs.Reading.{previous-parts, previous-inside}
 use Rattle.previous_gtids_event.proofs.RoundTrip.{rewritten-read}
 use Rattle.gtid_sets.specs.Limits.{intervals}
 use Rattle.gtid_sets.specs.Lent.{form, lent_set}
-use Rattle.gtid_sets.specs.TakeIn.{lawful, taken_set}
+use Rattle.gtid_sets.specs.TakeIn.{lawful, union, taken_set}
 use Rattle.gtid_sets.proofs.FormLaws.{lawful-tests}
 use Rattle.gtid_sets.proofs.LimitLaws.{max_intervals-is, limits-says}
 use Rattle.gtid_sets.proofs.LentLaws.{well-formed, lent_is}
@@ -30,10 +33,6 @@ use Rattle.set_check.specs.SetOf.{entries_of}
 use Rattle.set_join.proofs.AnswerLaws.{saved-fine}
 
 -- ---- what was read, refused or by the gno rule
-
-taken_none : (p : Parse (List Entry)) (out : List ℕ) (x : Refusal) (r : ℕ) → p ≡ refuse x → r ≡ number x
-    → (record { refusal = r; len = 0 } ≡ answer_of out (taken_in p)) × (out ≡ output_of out (taken_in p))
-taken_none p out x r e told = rw (e, told) (output-refused out x)
 
 lawful-taken : (p : Parse (List Entry)) → refusal_of p ≡ 0 → lawful (entries_of p) ≡ true → taken_in p ≡ saved (taken_set (entries_of p))
 lawful-taken (refuse x) z h = absurd (no_zero x z)
@@ -58,27 +57,25 @@ set-read body used es s e l =
 
 -- ---- `take_in`
 
-module _ (body out : List ℕ) (said : PreviousRead) (is : said ≡ previous_read (previous body)) where
-  pub taken_refused : (said.refusal ≡ 0 → ⊥)
-      → (record { refusal = said.refusal; len = 0 } ≡ answer_of out (taken_in (previous body))) × (out ≡ output_of out (taken_in (previous body)))
-  taken_refused h =
-      let (x, e, told) = was-not-read previous_read (λ y. y.refusal) previous-says (previous body) said is h in
-      taken_none (previous body) out x said.refusal e (ap (λ (y : PreviousRead). y.refusal) told)
+module _ (body out : List ℕ) where
+  pub taken_refused : {x : Refusal} → Err x ≡ previous_read (previous body)
+      → (Err (Refused x) ≡ answer_of out (taken_in (previous body))) × (out ≡ output_of out (taken_in (previous body)))
+  taken_refused {x} told = rw (answered-err _ (previous body) told) (output-refused out x)
 
-  module _ (z : said.refusal ≡ 0) where
-    pub can-be-read : refusal_of (previous body) ≡ 0
-    can-be-read = sym (ap (λ (y : PreviousRead). y.refusal) is ∙ previous-says (previous body)) ∙ z
-
+  module _ {said : PreviousRead} (is : Ok said ≡ previous_read (previous body)) where
     pub entries-read : (es : List Entry) × (previous body ≡ parsed es said.used)
     entries-read =
-        let (es, next, e, told) = was_read previous_read (λ y. y.refusal) previous-says (previous body) said is z in
+        let (es, next, e, told) = answered-ok _ (previous body) is in
         (es, e ∙ ap (parsed es) (sym (ap (λ (y : PreviousRead). y.used) told)))
+
+    pub can-be-read : refusal_of (previous body) ≡ 0
+    can-be-read = let (es, e) = entries-read in rw e
 
     pub used-inside : said.used ≤ length body
     used-inside = let (es, e) = entries-read in previous-inside body es said.used e
 
     -- its bytes are a set: they are what is taken in
-    pub taken-copied : (s : List Entry) (d : List ℕ) (w : Wrote) → lent_set (take said.used body) ≡ form s
+    pub taken-copied : (s : List Entry) (d : List ℕ) (w : Result ℕ WriteError) → lent_set (take said.used body) ≡ form s
         → w ≡ answer_of out (bytes (take said.used body)) → d ≡ output_of out (bytes (take said.used body))
         → (w ≡ answer_of out (taken_in (previous body))) × (d ≡ output_of out (taken_in (previous body)))
     taken-copied s d w l p q =
@@ -88,10 +85,10 @@ module _ (body out : List ℕ) (said : PreviousRead) (is : said ≡ previous_rea
         (saved-fine s (take said.used body) out d w (sym lent.written) p q lent.limited)
 
     pub taken-unlawful : lawful (entries_of (previous body)) ≡ false
-        → (record { refusal = 15; len = 0 } ≡ answer_of out (taken_in (previous body))) × (out ≡ output_of out (taken_in (previous body)))
+        → (Err (Refused bad_gno) ≡ answer_of out (taken_in (previous body))) × (out ≡ output_of out (taken_in (previous body)))
     taken-unlawful h = rw (unlawful-taken (previous body) can-be-read h) (output-refused out bad_gno)
 
-    pub taken-merged : (d : List ℕ) (w : Wrote) → lawful (entries_of (previous body)) ≡ true
-        → w ≡ answer_of out (saved (taken_set (entries_of (previous body)))) → d ≡ output_of out (saved (taken_set (entries_of (previous body))))
-        → (w ≡ answer_of out (taken_in (previous body))) × (d ≡ output_of out (taken_in (previous body)))
-    taken-merged d w h p q = rw (lawful-taken (previous body) can-be-read h) (p, q)
+    -- its ids are joined to the empty set
+    pub taken-merged : lawful (entries_of (previous body)) ≡ true → {s : List Entry} → s ≡ []
+        → saved (union (entries_of (previous body)) s) ≡ taken_in (previous body)
+    taken-merged h none = rw none (sym (lawful-taken (previous body) can-be-read h))

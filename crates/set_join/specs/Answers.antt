@@ -1,10 +1,11 @@
 -- What is asked of a set and joined to it without an event: an id, or a Previous-GTIDs body.
-use Rattle.std.specs.Prelude.{ℕ, Bool, false, ◌&&◌, List, ◌++◌, length, eqb}
+use Rattle.std.specs.Prelude.{ℕ, Bool, false, ◌&&◌, List, ◌++◌, length, eqb, Result, Ok, Err}
 use Rattle.misc.specs.Pick.{pick}
-use Rattle.misc.specs.Refusal.{number, not_a_set, bad_gno}
+use Rattle.misc.specs.declared.refusal.Refusal.{Refusal}
+use Rattle.misc.specs.declared.refusal.WriteError.{WriteError}
+use Rattle.misc.specs.Refusal.{not_a_set, bad_gno}
 use Rattle.misc.specs.Parse.{Parse, refuse, parsed}
 use Rattle.misc.specs.Output.{Output, refused, bytes, output_of, answer_of}
-use Rattle.misc.specs.declared.Wrote.{Wrote}
 use Rattle.packets.specs.Gno.{is_gno}
 use Rattle.packets.specs.Key.{Key}
 use Rattle.packets.specs.Tag.{none_or_tag}
@@ -17,7 +18,6 @@ use Rattle.gtid_sets.specs.Limits.{Judged, fine, breaks, limits}
 use Rattle.gtid_sets.specs.Run as run
 use Rattle.gtid_sets.specs.Run.{Event, names, Answer, no_id, already, taken, answer, after}
 use Rattle.gtid_sets.specs.Lent.{Lent, form, unfit}
-use Rattle.set_join.specs.declared.Contained.{Contained}
 use Rattle.set_join.specs.declared.Joined.{Joined}
 
 -- ---- `contains`
@@ -26,9 +26,9 @@ use Rattle.set_join.specs.declared.Joined.{Joined}
 abbrev pub asked : List Entry → List ℕ → List ℕ → ℕ → Bool
 asked s uuid tag gno = eqb (length uuid) 16 && ((none_or_tag tag && is_gno gno) && has s (uuid ++ tag) gno)
 
-abbrev pub contained : Lent → List ℕ → List ℕ → ℕ → Contained
-contained unfit uuid tag gno = record { refusal = number not_a_set; present = false }
-contained (form s) uuid tag gno = record { refusal = 0; present = asked s uuid tag gno }
+abbrev pub contained : Lent → List ℕ → List ℕ → ℕ → Result Bool Refusal
+contained unfit uuid tag gno = Err not_a_set
+contained (form s) uuid tag gno = Ok (asked s uuid tag gno)
 
 -- ---- `take_in`
 
@@ -46,7 +46,7 @@ taken_in (refuse r) = refused r
 taken_in (parsed es next) = pick (lawful es) (saved (taken_set es)) (refused bad_gno)
 
 -- what it answers, lent a body and an output, and what it leaves in the output
-abbrev pub take_in_answers : List ℕ → List ℕ → Wrote
+abbrev pub take_in_answers : List ℕ → List ℕ → Result ℕ WriteError
 take_in_answers body out = answer_of out (taken_in (previous body))
 
 abbrev pub take_in_leaves : List ℕ → List ℕ → List ℕ

@@ -15,28 +15,25 @@ abbrev pub extra : Bool → ℕ → ℕ
 extra true n = n
 extra false n = 0
 
--- the entries before the key's, and those after it
-abbrev pub front_run : Plan → Run
-front_run r = record { from = 8; to = r.found.at; count = r.found.index }
-
+-- the entries after the key's
 abbrev pub back_run : List ℕ → Plan → Run
-back_run bs r = record { from = r.found.next; to = length bs; count = r.entries - (1 + r.found.index) }
+back_run bs r = record { from = r.found.own.to; to = length bs; count = r.entries - (1 + r.found.before.count) }
 
 -- the runs of the set after it
 abbrev pub plan_runs : List ℕ → List ℕ → List ℕ → Plan → List ℕ
 plan_runs bs u t r =
-    header_bytes r.tags r.entries ++ entries_run r.widen bs (front_run r)
+    header_bytes r.tags r.entries ++ entries_run r.widen bs r.found.before
     ++ head_run u r.tags t r.held
     ++ spliced_run (own bs r.found) r.splice
     ++ entries_run r.widen bs (back_run bs r)
 
 -- the runs lie inside, and the counts are small
 pub record Runs (bs : List ℕ) (r : Plan) : Type 0 where
-  pub before_there : EntriesThere r.widen bs (front_run r)
+  pub before_there : EntriesThere r.widen bs r.found.before
   pub after_there : EntriesThere r.widen bs (back_run bs r)
-  pub own_there : (r.found.first ≤ r.found.next) × (r.found.next ≤ length bs)
+  pub own_there : (r.found.own.from ≤ r.found.own.to) × (r.found.own.to ≤ length bs)
   pub splice_inside : 16 * (r.splice.before + r.splice.taken) ≤ length (own bs r.found)
-  pub index_below : 1 + r.found.index ≤ r.entries
+  pub index_below : 1 + r.found.before.count ≤ r.entries
   pub few : r.entries < 2 ^ 48
 
 pub record PlanIs (bs : List ℕ) (u t : List ℕ) (a b : ℕ) (r : Plan) : Type 0 where
@@ -47,6 +44,6 @@ pub record PlanIs (bs : List ℕ) (u t : List ℕ) (a b : ℕ) (r : Plan) : Type
   pub entries_is : r.entries ≡ length (join (u ++ t) a b (set_of bs))
   pub intervals_is : r.intervals ≡ intervals (join (u ++ t) a b (set_of bs))
   pub others : ℕ
-  pub crowd_was : crowds (set_of bs) ≡ others + over r.found.count
+  pub crowd_was : crowds (set_of bs) ≡ others + over r.found.own.count
   pub crowd_is : crowds (join (u ++ t) a b (set_of bs)) ≡ others + over r.held
   pub member : has (set_of bs) (u ++ t) a ≡ first_holds a (drop r.splice.before (intervals_in (own bs r.found)))

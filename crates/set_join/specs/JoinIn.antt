@@ -1,10 +1,10 @@
 -- What joining a Previous-GTIDs body to a set comes to.
-use Rattle.std.specs.Prelude.{ℕ, List}
+use Rattle.std.specs.Prelude.{ℕ, List, Result}
 use Rattle.misc.specs.Pick.{pick}
+use Rattle.misc.specs.declared.refusal.WriteError.{WriteError}
 use Rattle.misc.specs.Refusal.{not_a_set, bad_gno}
 use Rattle.misc.specs.Parse.{Parse, refuse, parsed}
 use Rattle.misc.specs.Output.{Output, refused, output_of, answer_of}
-use Rattle.misc.specs.declared.Wrote.{Wrote}
 use Rattle.previous_gtids_event.specs.Entry.{Entry}
 use Rattle.previous_gtids_event.specs.Previous.{previous}
 use Rattle.gtid_sets.specs.TakeIn.{lawful, union}
@@ -22,7 +22,7 @@ joined_in unfit p = refused not_a_set
 joined_in (form s) p = joined_read s p
 
 -- what it answers, lent a set, a body and an output, and what it leaves in the output
-abbrev pub join_answers : List ℕ → List ℕ → List ℕ → Wrote
+abbrev pub join_answers : List ℕ → List ℕ → List ℕ → Result ℕ WriteError
 join_answers set body out = answer_of out (joined_in (lent_set set) (previous body))
 
 abbrev pub join_leaves : List ℕ → List ℕ → List ℕ → List ℕ

@@ -1,13 +1,11 @@
 -- Joining the entries of a body to a set that stands at the front of a work buffer, interval after interval.
-use Rattle.std.specs.Prelude.{ℕ, ◌+◌, ◌*◌, ◌/◌, ◌^◌, ◌≤◌, ◌≡◌, Bool, true, false, ◌||◌, List, [], ◌∷◌, ◌++◌, length, take}
+use Rattle.std.specs.Prelude.{ℕ, ◌+◌, ◌*◌, ◌^◌, ◌≤◌, ◌≡◌, Bool, true, false, ◌||◌, List, [], ◌∷◌, ◌++◌, length, take}
 use Rattle.misc.specs.Pick.{pick}
-use Rattle.misc.specs.Body.{body_limit}
 use Rattle.packets.specs.Key.{Key, same}
 use Rattle.previous_gtids_event.specs.Entry.{Entry, entry, tag_of}
 use Rattle.packets.specs.Tag.{none_or_tag}
 use Rattle.previous_gtids_event.specs.Rewrite.{entries_bytes}
 use Rattle.previous_gtids_event.specs.declared.EntryRead.{EntryRead}
-use Rattle.gtid_sets.specs.Limits.{longest_set}
 use Rattle.gtid_sets.specs.TakeIn.{proper}
 use Rattle.set_intervals.specs.Intervals.{intervals_at}
 use Rattle.set_check.specs.SetOf.{set_of, IsSet}
@@ -53,10 +51,6 @@ named (entry j is ∷ s) k = same k j || named s k
 -- for n intervals of a key, joined one after another
 unfoldable pub enough : Key → List Entry → ℕ → ℕ
 enough k s n = widest s + (pick (named s k) 0 (25 + length (tag_of k)) + 16 * n)
-
--- for any set and any body: an entry of a body has 24 bytes at least, and takes one more for the length of its tag
-abbrev pub any_joined : ℕ
-any_joined = longest_set + (body_limit + body_limit / 24)
 
 -- two work buffers have room for so much
 pub record Room (held spare : List ℕ) (n : ℕ) : Type 0 where

@@ -11,10 +11,10 @@ ghost use Rattle.set_join.specs.Join.{extra, PlanIs, Runs, plan_runs};
 
 use crate::find::find;
 use crate::put::{put_entries, put_head_of, put_spliced};
-use crate::{Held, Plan, Run, Span};
+use crate::{Held, KeyParts, Plan, Run, Span};
+use misc::INTERVAL_LEN;
 use misc::bytes::write_bytes;
-use misc::refusal::NO_ROOM;
-use misc::{INTERVAL_LEN, Wrote};
+use misc::refusal::WriteError;
 use previous_gtids_event::ENTRY_HEAD;
 use previous_gtids_event::rewrite::put_header;
 use set_check::limits::{judge, over};
@@ -38,43 +38,35 @@ pub(crate) fn lent(checked: Checked, len: usize) -> Held
 fn gained(wanted: bool, count: usize) -> usize
     ensures { (result ≡ extra wanted count) × (result ≤ count) }
 {
-    if wanted {
-        return count;
-    }
-    0
+    if wanted { count } else { 0 }
 }
 
 // How a set grows by an interval of a key.
-pub(crate) fn plan_join(set: &[u8], is: Held, uuid: &[u8], tag: &[u8], span: Span) -> Plan
+pub(crate) fn plan_join(set: &[u8], is: Held, key: KeyParts, span: Span) -> Plan
     requires set { IsSet set.now is.tagged is.entries × (intervals (set_of set.now) ≡ is.intervals) }
-    requires uuid_len { (length uuid.now ≡ 16) × (length tag.now ≤ 32) }
+    requires uuid_len { (length key.uuid.now ≡ 16) × (length key.tag.now ≤ 32) }
     requires start_lt_end { span.start < span.end }
-    ensures { PlanIs set.now uuid.now tag.now span.start span.end result }
+    ensures { PlanIs set.now key.entry.uuid.now key.entry.tag.now span.start span.end result }
 {
-    let tagged = is.tagged;
-    let count = is.entries;
     let entries = Cursor {
-        tagged,
+        tagged: is.tagged,
         at: SET_HEADER,
-        left: count,
+        left: is.entries,
     };
-    let found = find(set, entries, uuid, tag);
-    let first = found.first;
-    let next = found.next;
-    let splice = splice_in(&set[first..next], span.start, span.end);
-    let tags = tagged | (0 < tag.len());
-    let widen = tags & !tagged;
-    let held = found.count - splice.taken + 1;
-    let here = found.here;
-    let len = found.at
-        + (ENTRY_HEAD + gained(tags, 1 + tag.len()) + INTERVAL_LEN * held)
-        + (set.len() - next)
-        + gained(widen, count);
-    let added = gained(!here, 1);
+    let found = find(set, entries, key);
+    let own = found.own;
+    let splice = splice_in(&set[own.from..own.to], span.start, span.end);
+    let tags = is.tagged | (0 < key.tag.len());
+    let widen = tags & !is.tagged;
+    let held = own.count - splice.taken + 1;
+    let len = found.before.to
+        + (ENTRY_HEAD + gained(tags, 1 + key.tag.len()) + INTERVAL_LEN * held)
+        + (set.len() - own.to)
+        + gained(widen, is.entries);
     Plan {
         tags,
         widen,
-        entries: count + added,
+        entries: is.entries + gained(own.count == 0, 1),
         intervals: is.intervals - splice.taken + 1,
         held,
         len,
@@ -84,68 +76,51 @@ pub(crate) fn plan_join(set: &[u8], is: Held, uuid: &[u8], tag: &[u8], span: Spa
 }
 
 // Writes the set as planned, where there is room.
-pub(crate) fn put_joined(set: &[u8], uuid: &[u8], tag: &[u8], plan: Plan, out: &mut [u8]) -> usize
-    requires { Runs set.now plan × (length uuid.now ≡ 16) }
-    ensures { WhereFits out.old 0 (plan_runs set.now uuid.now tag.now plan) out.new result }
+pub(crate) fn put_joined(set: &[u8], key: KeyParts, plan: Plan, out: &mut [u8]) -> usize
+    requires { Runs set.now plan × (length key.uuid.now ≡ 16) }
+    ensures { WhereFits out.old 0 (plan_runs set.now key.entry.uuid.now key.entry.tag.now plan) out.new result }
 {
-    let found = plan.found;
-    let splice = plan.splice;
-    let first = found.first;
-    let next = found.next;
-    let front = Run {
-        from: SET_HEADER,
-        to: found.at,
-        count: found.index,
-    };
-    let back = Run {
-        from: next,
+    let before = plan.found.before;
+    let own = plan.found.own;
+    let after = Run {
+        from: own.to,
         to: set.len(),
-        count: plan.entries - (1 + found.index),
+        count: plan.entries - (1 + before.count),
     };
     let at0 = put_header(plan.entries as u64, plan.tags, out, 0);
-    let at1 = put_entries(set, front, plan.widen, out, at0);
-    let at2 = put_head_of(uuid, tag, plan.tags, plan.held as u64, out, at1);
-    let at3 = put_spliced(&set[first..next], splice, out, at2);
-    put_entries(set, back, plan.widen, out, at3)
+    let at1 = put_entries(set, before, plan.widen, out, at0);
+    let at2 = put_head_of(key, plan.tags, plan.held as u64, out, at1);
+    let at3 = put_spliced(&set[own.from..own.to], plan.splice, out, at2);
+    put_entries(set, after, plan.widen, out, at3)
 }
 
 // Writes a set that has been made, if it is within the limits and there is room.
-pub(crate) fn write_set(set: &[u8], is: Held, out: &mut [u8]) -> Wrote
+pub(crate) fn write_set(set: &[u8], is: Held, out: &mut [u8]) -> Result<usize, WriteError>
     requires { (body_bytes (set_of set.now) ≡ set.now) × Counted (set_of set.now) is }
     ensures value { result ≡ answer_of out.old (saved (set_of set.now)) }
     ensures out_after { out.new ≡ output_of out.old (saved (set_of set.now)) }
 {
-    let refusal = judge(is.crowded, is.entries, is.intervals);
-    if refusal != 0 {
-        return Wrote { refusal, len: 0 };
-    }
+    judge(is.crowded, is.entries, is.intervals)?;
     write_bytes(set, out)
 }
 
 // Writes the set as planned, if it is within the limits and there is room; no entry of the set before it has too many intervals.
 pub(crate) fn write_joined(
     set: &[u8],
-    uuid: &[u8],
-    tag: &[u8],
+    key: KeyParts,
     span: Span,
     plan: Plan,
     out: &mut [u8],
-) -> Wrote
-    requires { PlanIs set.now uuid.now tag.now span.start span.end plan × (crowds (set_of set.now) ≡ 0) × (length uuid.now ≡ 16) }
-    ensures value { result ≡ answer_of out.old (saved (join (uuid.now ++ tag.now) span.start span.end (set_of set.now))) }
-    ensures out_after { out.new ≡ output_of out.old (saved (join (uuid.now ++ tag.now) span.start span.end (set_of set.now))) }
+) -> Result<usize, WriteError>
+    requires { PlanIs set.now key.uuid.now key.tag.now span.start span.end plan × (crowds (set_of set.now) ≡ 0)
+        × (length key.uuid.now ≡ 16) }
+    ensures value { result ≡ answer_of out.old (saved (join (key.entry.uuid.now ++ key.entry.tag.now) span.start span.end (set_of set.now))) }
+    ensures out_after { out.new ≡ output_of out.old (saved (join (key.entry.uuid.now ++ key.entry.tag.now) span.start span.end (set_of set.now))) }
 {
-    let len = plan.len;
-    let refusal = judge(over(plan.held), plan.entries, plan.intervals);
-    if refusal != 0 {
-        return Wrote { refusal, len: 0 };
+    judge(over(plan.held), plan.entries, plan.intervals)?;
+    if out.len() < plan.len {
+        return Err(WriteError::NoRoom(plan.len));
     }
-    if out.len() < len {
-        return Wrote {
-            refusal: NO_ROOM,
-            len,
-        };
-    }
-    put_joined(set, uuid, tag, plan, out);
-    Wrote { refusal: 0, len }
+    put_joined(set, key, plan, out);
+    Ok(plan.len)
 }

@@ -1,5 +1,6 @@
 // Joining an id to a set.
-ghost use Rattle.std.specs.Prelude.{◌≡◌, ◌++◌, ◌≤◌, length, take};
+ghost use Rattle.std.specs.Prelude.{◌≡◌, ◌++◌, ◌≤◌, false, length, take, Err};
+ghost use Rattle.misc.specs.declared.refusal.WriteError.TheVariants.{Refused};
 ghost use Rattle.misc.specs.Output.{output_of};
 ghost use Rattle.gtid_sets.specs.Run.{names};
 ghost use Rattle.gtid_sets.specs.Lent.{form, lent_set};
@@ -7,47 +8,42 @@ ghost use Rattle.set_check.specs.SetOf.{set_of, Fits};
 ghost use Rattle.set_join.specs.Answers.{output, joined_id};
 
 use crate::join::{lent, plan_join, write_joined};
-use crate::{Joined, Span};
+use crate::{Joined, KeyParts, Span};
+use misc::UUID_LEN;
 use misc::bytes::{smaller, write_bytes};
-use misc::refusal::BAD_GNO;
-use misc::{UUID_LEN, Wrote};
+use misc::refusal::{Refusal, WriteError};
 use packets::{MAX_TAG, is_gno};
 use set_check::Checked;
 use set_check::check::check;
 use set_intervals::held_behind;
 
-// Joins an id to a set that has been checked.
-fn join_checked(
-    set: &[u8],
-    checked: Checked,
-    uuid: &[u8],
-    tag: &[u8],
-    gno: u64,
-    out: &mut [u8],
-) -> Joined
-    requires fits { Fits set.now checked }
-    requires uuid_len { (length uuid.now ≡ 16) × (length tag.now ≤ 32) }
-    ensures value { result ≡ joined_id (form (set_of set.now)) (uuid.now ++ tag.now) gno out.old }
-    ensures out_after { out.new ≡ output_of out.old (output (form (set_of set.now)) (names (uuid.now ++ tag.now) gno)) }
+// An id that isn't joined.
+fn refused(refusal: Refusal) -> Joined
+    ensures { result ≡ record { already = false; wrote = Err (Refused refusal) } }
 {
-    let lawful = is_gno(gno);
-    if !lawful {
-        return Joined {
-            already: false,
-            wrote: Wrote {
-                refusal: BAD_GNO,
-                len: 0,
-            },
-        };
+    Joined {
+        already: false,
+        wrote: Err(WriteError::Refused(refusal)),
+    }
+}
+
+// Joins an id to a set that has been checked.
+fn join_checked(set: &[u8], checked: Checked, key: KeyParts, gno: u64, out: &mut [u8]) -> Joined
+    requires fits { Fits set.now checked }
+    requires uuid_len { (length key.uuid.now ≡ 16) × (length key.tag.now ≤ 32) }
+    ensures value { result ≡ joined_id (form (set_of set.now)) (key.entry.uuid.now ++ key.entry.tag.now) gno out.old }
+    ensures out_after { out.new ≡ output_of out.old (output (form (set_of set.now)) (names (key.entry.uuid.now ++ key.entry.tag.now) gno)) }
+{
+    if !is_gno(gno) {
+        return refused(Refusal::BadGno);
     }
     let span = Span {
         start: gno,
         end: gno + 1,
     };
-    let plan = plan_join(set, lent(checked, set.len()), uuid, tag, span);
-    let first = plan.found.first;
-    let next = plan.found.next;
-    let already = held_behind(&set[first..next], plan.splice.before, gno);
+    let plan = plan_join(set, lent(checked, set.len()), key, span);
+    let own = plan.found.own;
+    let already = held_behind(&set[own.from..own.to], plan.splice.before, gno);
     if already {
         return Joined {
             already,
@@ -56,7 +52,7 @@ fn join_checked(
     }
     Joined {
         already,
-        wrote: write_joined(set, uuid, tag, span, plan, out),
+        wrote: write_joined(set, key, span, plan, out),
     }
 }
 
@@ -75,17 +71,14 @@ pub fn join_id(
     ensures value { result ≡ joined_id (lent_set set.now) (uuid ++ take tag_len tag) gno out.old }
     ensures out_after { out.new ≡ output_of out.old (output (lent_set set.now) (names (uuid ++ take tag_len tag) gno)) }
 {
-    let checked = check(set);
-    let unfit = checked.refusal;
-    if unfit != 0 {
-        return Joined {
-            already: false,
-            wrote: Wrote {
-                refusal: unfit,
-                len: 0,
-            },
-        };
-    }
+    let checked = match check(set) {
+        Ok(checked) => checked,
+        Err(refusal) => return refused(refusal),
+    };
     let shown = smaller(tag_len, MAX_TAG);
-    join_checked(set, checked, &uuid, &tag[..shown], gno, out)
+    let key = KeyParts {
+        uuid: &uuid,
+        tag: &tag[..shown],
+    };
+    join_checked(set, checked, key, gno, out)
 }

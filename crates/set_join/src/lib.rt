@@ -8,7 +8,8 @@ ghost use Rattle.gtid_sets.specs.Lent.{lent_set};
 ghost use Rattle.set_join.specs.Answers.{contained};
 
 use find::find;
-use misc::{UUID_LEN, Wrote};
+use misc::UUID_LEN;
+use misc::refusal::{Refusal, WriteError};
 use packets::{is_gno, none_or_tag};
 use set_check::check::check;
 use set_check::walk::entries_of;
@@ -21,32 +22,36 @@ pub mod join_in;
 mod put;
 pub mod take_in;
 
-// Whether a set has an id. The set is refused (14) if it is none.
-#[derive(Clone, Copy)]
-pub struct Contained {
-    pub refusal: u8,
-    pub present: bool,
-}
-
 // An id joined to a set: whether it was there already, and what was written.
 #[derive(Clone, Copy)]
 pub struct Joined {
     pub already: bool,
-    pub wrote: Wrote,
+    pub wrote: Result<usize, WriteError>,
 }
 
 // ---- inside
 
-// Where a key stands in a set: how many entries are before it, and where they end; its intervals, none if it isn't there; and where the
-// entries after it begin.
+// A key in two parts: the uuid, and the tag (none: no bytes).
+#[derive(Clone, Copy)]
+pub(crate) struct KeyParts<'a> {
+    pub(crate) uuid: &'a [u8],
+    pub(crate) tag: &'a [u8],
+}
+
+// Entries, or the intervals of one, that stand one after another: from where to where, and how many.
+#[derive(Clone, Copy)]
+pub(crate) struct Run {
+    pub(crate) from: usize,
+    pub(crate) to: usize,
+    pub(crate) count: usize,
+}
+
+// Where a key stands in a set: the entries before it, and its intervals; where it isn't there it has none, and they stand where its entry
+// would. The entries after it begin where they end.
 #[derive(Clone, Copy)]
 pub(crate) struct Found {
-    pub(crate) index: usize,
-    pub(crate) at: usize,
-    pub(crate) here: bool,
-    pub(crate) count: usize,
-    pub(crate) first: usize,
-    pub(crate) next: usize,
+    pub(crate) before: Run,
+    pub(crate) own: Run,
 }
 
 // An interval that is to be joined: its start, and its end, which it doesn't hold.
@@ -54,14 +59,6 @@ pub(crate) struct Found {
 pub(crate) struct Span {
     pub(crate) start: u64,
     pub(crate) end: u64,
-}
-
-// Entries that stand one after another: from where to where, and how many.
-#[derive(Clone, Copy)]
-pub(crate) struct Run {
-    pub(crate) from: usize,
-    pub(crate) to: usize,
-    pub(crate) count: usize,
 }
 
 // A set in a work buffer: whether it has tags; how many entries, intervals, and entries with too many intervals it has; and its length.
@@ -89,35 +86,13 @@ pub(crate) struct Plan {
 }
 
 // Whether a set has the id of a uuid, a tag (none: no bytes) and a gno. What breaks the rules of ids is no member.
-pub fn contains(set: &[u8], uuid: &[u8], tag: &[u8], gno: u64) -> Contained
+pub fn contains(set: &[u8], uuid: &[u8], tag: &[u8], gno: u64) -> Result<bool, Refusal>
     ensures { result ≡ contained (lent_set set.now) uuid.now tag.now gno }
 {
-    let checked = check(set);
-    let refusal = checked.refusal;
-    if refusal != 0 {
-        return Contained {
-            refusal,
-            present: false,
-        };
+    let checked = check(set)?;
+    if uuid.len() != UUID_LEN || !none_or_tag(tag) || !is_gno(gno) {
+        return Ok(false);
     }
-    if uuid.len() != UUID_LEN {
-        return Contained {
-            refusal: 0,
-            present: false,
-        };
-    }
-    let lawful = none_or_tag(tag) & is_gno(gno);
-    if !lawful {
-        return Contained {
-            refusal: 0,
-            present: false,
-        };
-    }
-    let found = find(set, entries_of(checked), uuid, tag);
-    let first = found.first;
-    let next = found.next;
-    Contained {
-        refusal: 0,
-        present: held_in(&set[first..next], gno),
-    }
+    let own = find(set, entries_of(checked), KeyParts { uuid, tag }).own;
+    Ok(held_in(&set[own.from..own.to], gno))
 }

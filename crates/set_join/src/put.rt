@@ -7,7 +7,7 @@ ghost use Rattle.set_check.specs.Places.{EntriesIn};
 ghost use Rattle.set_intervals.specs.Intervals.{spliced_run};
 ghost use Rattle.set_join.specs.Put.{wider_run, widened, entries_run, EntriesThere};
 
-use crate::Run;
+use crate::{KeyParts, Run};
 use misc::put::{put_bytes, put_u64_le, put_varlen_uint};
 use misc::{INTERVAL_LEN, UUID_LEN};
 use packets::uuid_bytes;
@@ -18,19 +18,12 @@ use set_intervals::Splice;
 
 // The head of an entry. Its uuid is copied first: of one that is lent the compiler can't know that it doesn't lie in the output, and it
 // would put it byte by byte.
-pub(crate) fn put_head_of(
-    uuid: &[u8],
-    tag: &[u8],
-    tags: bool,
-    count: u64,
-    out: &mut [u8],
-    at: usize,
-) -> usize
-    requires { length uuid.now ≡ 16 }
-    ensures { WhereFits out.old at (head_run uuid.now tags tag.now count) out.new result }
+pub(crate) fn put_head_of(key: KeyParts, tags: bool, count: u64, out: &mut [u8], at: usize) -> usize
+    requires { length key.uuid.now ≡ 16 }
+    ensures { WhereFits out.old at (head_run key.entry.uuid.now tags key.entry.tag.now count) out.new result }
 {
-    let own = uuid_bytes(&uuid[..UUID_LEN]);
-    put_head(&own, tag, tags, count, out, at)
+    let own = uuid_bytes(&key.uuid[..UUID_LEN]);
+    put_head(&own, key.tag, tags, count, out, at)
 }
 
 // Intervals, with one in the place of those that it takes up.
@@ -58,17 +51,17 @@ fn put_wider(set: &[u8], from: usize, next: usize, out: &mut [u8], at: usize) ->
 }
 
 // Untagged entries, each with the length of a tag that has no bytes.
-fn put_widened(set: &[u8], from: usize, count: usize, out: &mut [u8], at: usize) -> usize
-    requires { EntriesIn count false set.now from }
-    ensures { WhereFits out.old at (widened count set.now from) out.new result }
+fn put_widened(set: &[u8], run: Run, out: &mut [u8], at: usize) -> usize
+    requires { EntriesIn run.count false set.now run.from }
+    ensures { WhereFits out.old at (widened run.count set.now run.from) out.new result }
 {
     let mut rest = Cursor {
         tagged: false,
-        at: from,
-        left: count,
+        at: run.from,
+        left: run.count,
     };
     let mut put = at;
-    while 0 < rest.left {
+    for _ in 0..run.count {
         let entry = entry_here(set, rest);
         put = put_wider(set, rest.at, entry.next, out, put);
         rest = beyond(rest, entry);
@@ -81,10 +74,8 @@ pub(crate) fn put_entries(set: &[u8], run: Run, widen: bool, out: &mut [u8], at:
     requires { EntriesThere widen set.now run }
     ensures { WhereFits out.old at (entries_run widen set.now run) out.new result }
 {
-    let from = run.from;
-    let to = run.to;
     if widen {
-        return put_widened(set, from, run.count, out, at);
+        return put_widened(set, run, out, at);
     }
-    put_bytes(&set[from..to], out, at)
+    put_bytes(&set[run.from..run.to], out, at)
 }

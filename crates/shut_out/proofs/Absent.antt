@@ -4,9 +4,11 @@ use Prim.Native.Nat.{ℕ}
 use mathlib.Core.Path.{◌≡◌, refl, sym, ap, ◌∙◌}
 use mathlib.Core.Bool.{true, false≢true}
 use mathlib.Core.List.{List, [], ◌∷◌}
-use native.Mathlib.Omega.{arith}
 use lib.ListN.{get_or, replicate}
 use borrow.Author.Tests.{eq-eqb}
+use Rattle.misc.specs.declared.refusal.Refusal.{Refusal}
+use Rattle.misc.specs.declared.refusal.WriteError.TheVariants.{Refused}
+use Rattle.misc.specs.Refusal.{number, no_tag, bad_gno, absent_id}
 use Rattle.misc.specs.Parse.{parsed, many, bytes_at, byte_at}
 use Rattle.misc.specs.Body.{body_limit}
 use Rattle.misc.specs.Le.{le_of, le_bytes, le_at}
@@ -25,10 +27,12 @@ use Rattle.gtid_event_read.specs.Read.{seen, gtid, named}
 use Rattle.gtid_sets.specs.Limits.{max_entries, max_intervals, max_of_entry, judged, limits}
 use Rattle.gtid_sets.specs.Lent.{lent_set}
 use Rattle.resume_set.specs.Answers.{event_of}
-use Rattle.resume_set.specs.declared.Offered.TheVariants.{Taken, Refused}
+use Rattle.resume_set.specs.declared.Offered.TheVariants.{Taken}
 use Rattle.resume_set_laws.specs.History.{Turn}
 use Rattle.resume_set_laws.specs.Ours.{ours}
-use Rattle.promises.specs.TaggedLayout.{number, the_uuid, the_tag, seen_in}
+use Rattle.std.specs.Prelude.{Ok, Err}
+use Rattle.promises.specs.TaggedLayout as fields
+use Rattle.promises.specs.TaggedLayout.{the_uuid, the_tag, seen_in}
 use Rattle.promises.specs.Meaning.{RecordsMean}
 use Rattle.promises.specs.Exact.{OffersExactly}
 use Rattle.shut_out.specs.WrongOnes.{
@@ -56,58 +60,59 @@ tag-offer body = record { type = 42; body = body; out = replicate 50 0 }
 -- ---- what ours answers
 
 -- no uuid and no gno: 21
-absent-21 : ours.answers none (tag-offer tag_alone) ≡ Refused 21 0
+absent-21 : ours.answers none (tag-offer tag_alone) ≡ Err (Refused absent_id)
 unfolding event_of named seen body_limit tagged byte_at bytes_at varlen_at trailing_ones item_value le_at le_of fields_from field_at tag_at is_tag all_tag_bytes padded
     lent_set previous says_tagged says_count many limits judged max_entries max_intervals max_of_entry body_bytes any_tag header_bytes entries_bytes le_bytes
 absent-21 = refl
 
 -- a uuid, and the gno as 0: 15
-zero-15 : ours.answers none (tag-offer zero_gno) ≡ Refused 15 0
+zero-15 : ours.answers none (tag-offer zero_gno) ≡ Err (Refused bad_gno)
 unfolding event_of named seen body_limit tagged byte_at bytes_at varlen_at trailing_ones item_value le_at le_of fields_from field_at limited_at uuid_at tag_at natural_at
     signed_at meant_by is_tag all_tag_bytes padded gno_top lent_set previous says_tagged says_count many limits judged max_entries max_intervals max_of_entry body_bytes
     any_tag header_bytes entries_bytes le_bytes
 zero-15 = refl
 
 -- no tag either: 7
-no-tag-7 : ours.answers none (tag-offer nothing_sent) ≡ Refused 7 0
+no-tag-7 : ours.answers none (tag-offer nothing_sent) ≡ Err (Refused no_tag)
 unfolding event_of named seen body_limit tagged byte_at bytes_at varlen_at trailing_ones item_value le_at le_of fields_from field_at lent_set previous says_tagged
     says_count many limits judged max_entries max_intervals max_of_entry body_bytes any_tag header_bytes entries_bytes le_bytes
 no-tag-7 = refl
 
 -- ---- wrong offers
 
--- one that says another number somewhere
-instead-out : (due instead : ℕ) (t : Turn) → (due ≡ instead → ⊥) → below t.body ≡ true → ours.answers none t ≡ Refused due 0
+-- one that says another refusal somewhere
+instead-out : (due instead : Refusal) (t : Turn) → (due ≡ instead → ⊥) → below t.body ≡ true → ours.answers none t ≡ Err (Refused due)
     → OffersExactly (says_instead t.type due instead) → ⊥
 instead-out due instead t other are says exactly =
     let same = (same-offers offers-exactly exactly none t (below-bytes t.body are)).0 in
-    let two : Refused due 0 ≡ Refused instead 0 = sym says ∙ same ∙ rw (eq-eqb t.type t.type refl, says, eq-eqb due due refl) in
-    other (let number : due ≡ instead = cc in number)
+    let two : Err (Refused due) ≡ Err (Refused instead) =
+    sym says ∙ same ∙ rw (eq-eqb t.type t.type refl, says, eq-eqb (number due) (number due) refl) in
+    other cc
 
 -- one that judges the gno of an event that sent none
 pub judges-absent-gno-out : OffersExactly judges_absent_gno → ⊥
-judges-absent-gno-out exactly = instead-out 21 15 (tag-offer tag_alone) (λ e. omega arith) refl absent-21 exactly
+judges-absent-gno-out exactly = instead-out absent_id bad_gno (tag-offer tag_alone) (λ e. apart cc) refl absent-21 exactly
 
 -- one that takes a gno that was sent as 0 for one that was not, of a tagged event
 pub takes-zero-for-absent-out : OffersExactly takes_zero_for_absent → ⊥
-takes-zero-for-absent-out exactly = instead-out 15 21 (tag-offer zero_gno) (λ e. omega arith) refl zero-15 exactly
+takes-zero-for-absent-out exactly = instead-out bad_gno absent_id (tag-offer zero_gno) (λ e. apart cc) refl zero-15 exactly
 
 -- one that asks an untagged event for its fields
 pub asks-untagged-out : OffersExactly asks_untagged → ⊥
-asks-untagged-out exactly = instead-out 15 21 (offer 0 48) (λ e. omega arith) refl refuses-0 exactly
+asks-untagged-out exactly = instead-out bad_gno absent_id (offer 0 48) (λ e. apart cc) refl refuses-0 exactly
 
 -- one that asks for the id before the tag
 pub asks-id-before-tag-out : OffersExactly asks_id_before_tag → ⊥
-asks-id-before-tag-out exactly = instead-out 7 21 (tag-offer nothing_sent) (λ e. omega arith) refl no-tag-7 exactly
+asks-id-before-tag-out exactly = instead-out no_tag absent_id (tag-offer nothing_sent) (λ e. apart cc) refl no-tag-7 exactly
 
 -- one that takes an absent uuid for the zero uuid, and an id with it
-no-uuid-21 : ours.answers none (tag-offer no_uuid) ≡ Refused 21 0
+no-uuid-21 : ours.answers none (tag-offer no_uuid) ≡ Err (Refused absent_id)
 unfolding event_of named seen body_limit tagged byte_at bytes_at varlen_at trailing_ones item_value le_at le_of fields_from field_at tag_at natural_at signed_at meant_by
     is_tag all_tag_bytes padded lent_set previous says_tagged says_count many limits judged max_entries max_intervals max_of_entry body_bytes any_tag header_bytes
     entries_bytes le_bytes
 no-uuid-21 = refl
 
-takes-zero-uuid : takes_absent_for_zero.answers none (tag-offer no_uuid) ≡ Taken 50
+takes-zero-uuid : takes_absent_for_zero.answers none (tag-offer no_uuid) ≡ Ok (Taken 50)
 unfolding gtid seen body_limit tagged byte_at bytes_at varlen_at trailing_ones item_value le_at le_of fields_from field_at tag_at natural_at signed_at meant_by is_tag
     all_tag_bytes padded gno_top lent_set previous says_tagged says_count many limits judged max_entries max_intervals max_of_entry body_bytes any_tag header_bytes
     entries_bytes entry_bytes intervals_bytes uuid_of tag_of varlen_bytes varlen_size size_from item_of le_bytes
@@ -116,14 +121,14 @@ takes-zero-uuid = refl
 pub takes-absent-for-zero-out : OffersExactly takes_absent_for_zero → ⊥
 takes-absent-for-zero-out exactly =
     let same = (same-offers offers-exactly exactly none (tag-offer no_uuid) (below-bytes no_uuid refl)).0 in
-    let two : Refused 21 0 ≡ Taken 50 = sym no-uuid-21 ∙ same ∙ takes-zero-uuid in
+    let two : Err (Refused absent_id) ≡ Ok (Taken 50) = sym no-uuid-21 ∙ same ∙ takes-zero-uuid in
     apart cc
 
 -- ---- a reader that tells by its value whether a gno was sent: here one was sent as 0
 
 -- the uuid is zero too
 abbrev zero_seen : Seen
-zero_seen = seen_in (the_uuid (replicate 16 0) ∷ number 2 0 ∷ the_tag (97 ∷ []) ∷ [])
+zero_seen = seen_in (the_uuid (replicate 16 0) ∷ fields.number 2 0 ∷ the_tag (97 ∷ []) ∷ [])
 
 read-zero : seen 42 zero_gno ≡ parsed zero_seen 25
 unfolding seen body_limit tagged byte_at bytes_at varlen_at trailing_ones item_value le_of many fields_from field_at limited_at uuid_at tag_at natural_at signed_at meant_by

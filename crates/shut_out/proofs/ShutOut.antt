@@ -11,7 +11,8 @@ use Rattle.misc.specs.Parse.{Bytes, Parse, refuse, parsed, many, bytes_at, byte_
 use Rattle.misc.specs.Output.{bytes, output_of, answer_of}
 use Rattle.misc.specs.Body.{body_limit}
 use Rattle.misc.specs.Le.{le_of, le_bytes, le_at}
-use Rattle.misc.specs.Refusal.{unknown_field}
+use Rattle.misc.specs.declared.refusal.WriteError.TheVariants.{Refused}
+use Rattle.misc.specs.Refusal.{unknown_field, bad_gno}
 use Rattle.misc.specs.Varlen.{trailing_ones, item_value, varlen_at, varlen_size, item_of, varlen_bytes}
 use Rattle.misc.specs.Signed.{meant_by, signed_at, natural_at}
 use Rattle.misc.proofs.ParseLaws.{never}
@@ -29,7 +30,7 @@ use Rattle.previous_gtids_event.specs.Previous as previous-specs
 use Rattle.previous_gtids_event.specs.Previous.{key_at, head_at, interval_at, entry_at, says_tagged, says_count, previous}
 use Rattle.previous_gtids_event.specs.Rewrite.{intervals_bytes, entry_bytes, entries_bytes, any_tag, header_bytes, body_bytes}
 use Rattle.gtid_event.specs.declared.GtidEvent.{GtidEvent}
-use Rattle.gtid_event.specs.Event.{fresh, new_untagged, type_of, with_tag}
+use Rattle.gtid_event.specs.Event.{fresh, new_untagged, type_of, set_tag, with_tag}
 use Rattle.gtid_event_read.specs.Untagged.{opening_at, untagged}
 use Rattle.gtid_event_read.specs.Fields.{tag_at, field_at, fields_from}
 use Rattle.gtid_event_read.specs.Tagged.{tagged}
@@ -49,14 +50,15 @@ use Rattle.gtid_event_laws.proofs.EventBack.{event-alone}
 use Rattle.gtid_sets.specs.Limits.{max_entries, max_intervals, max_of_entry, judged, limits}
 use Rattle.gtid_sets.specs.Lent.{form, unfit, lent_set}
 use Rattle.resume_set.specs.Answers.{event_of}
-use Rattle.resume_set.specs.declared.Offered.TheVariants.{NoId, Taken, Refused}
+use Rattle.resume_set.specs.declared.Offered.TheVariants.{NoId, Taken}
 use Rattle.resume_set_laws.specs.History.{Turn, Offering, member, TakesIn, TellsHistory}
 use Rattle.resume_set_laws.specs.Ours.{ours}
+use Rattle.std.specs.Prelude.{Ok, Err}
 use Rattle.promises.specs.Meaning.{EventReader, EventWriter, RecordLaid, RecordsMean, RecordsBack, LeastSize, EntriesMean}
 use Rattle.promises.specs.UntaggedLayout.{NoTypecode, ShortLaid}
 use Rattle.promises.specs.TaggedLayout.{number, the_tag, seen_in}
 use Rattle.promises.proofs.Demand2.{records-mean, one-record, entries-mean}
-use Rattle.promises.specs.Building.{Unversioned, NewVersions, KeepsVersions}
+use Rattle.promises.specs.Building.{server_versions, Unversioned, NewVersions, KeepsVersions}
 use Rattle.shut_out.specs.WrongOnes.{claims_zero, forgets_versions, refuses_bodies, top_byte_two, tags_by_one, refuses_all, constant_record, counted_up}
 use Rattle.shut_out.specs.WrongOnes.{made_up_count, swapped_clock, swaps_clock, equal_id, ignores_equal, writes_nothing, sizes_by_two, copies_its_set}
 use Rattle.shut_out.specs.WrongOnes.{adds_only_the_first, always_no_id, no_id_for_zero, takes_top, asks_tagged_only}
@@ -272,7 +274,10 @@ claims-zero-out new =
 pub forgets-versions-out : KeepsVersions forgets_versions → ⊥
 unfolding with_tag is_tag all_tag_bytes
 forgets-versions-out keeps =
-    let same : ◌≡◌ {A = List ℕ} (999999 ∷ 999999 ∷ []) (0 ∷ 0 ∷ []) = keeps (97 ∷ []) (claims_zero (replicate 16 0) 0) refl in
+    let (x, is, same) = keeps (97 ∷ []) (claims_zero (replicate 16 0) 0) refl in
+    let tagged : Ok (set_tag (97 ∷ []) (fresh (replicate 16 0) 0 2 999999)) ≡ Ok x = is in
+    let this : set_tag (97 ∷ []) (fresh (replicate 16 0) 0 2 999999) ≡ x = cc in
+    let two : ◌≡◌ {A = List ℕ} (999999 ∷ 999999 ∷ []) (0 ∷ 0 ∷ []) = ap server_versions this ∙ same in
     let clash : ◌≡◌ {A = ℕ} 999999 0 = cc in
     omega arith
 
@@ -298,6 +303,7 @@ none-taken-in = record {
     uses = refl;
   };
   out = none;
+  len = 8;
   accepts = refl;
   writes = refl;
 }
@@ -349,7 +355,7 @@ same_answer : (f : Offering) → OffersExactly f → (gno : ℕ) → Bytes (gno 
     → ours.answers none (offer gno room) ≡ f.answers none (offer gno room)
 same_answer f exactly gno small room = (same-offers offers-exactly exactly none (offer gno room) (body_of-bytes gno small)).0
 
-takes-1 : ours.answers none (offer 1 48) ≡ Taken 48
+takes-1 : ours.answers none (offer 1 48) ≡ Ok (Taken 48)
 unfolding event_of read-specs.named seen body_limit untagged opening_at byte_at bytes_at le_at le_of lent_set previous says_tagged says_count many limits judged
     max_entries max_intervals max_of_entry body_bytes any_tag header_bytes entries_bytes le_bytes entry_bytes intervals_bytes uuid_of tag_of gno_top
 takes-1 = refl
@@ -357,23 +363,23 @@ takes-1 = refl
 -- one that says "no id" to all
 pub always-no-id-out : OffersExactly always_no_id → ⊥
 always-no-id-out exactly =
-    let two : Taken 48 ≡ NoId 8 = sym takes-1 ∙ same_answer always_no_id exactly 1 small-1 48 in
+    let two : Ok (Taken 48) ≡ Ok (NoId 8) = sym takes-1 ∙ same_answer always_no_id exactly 1 small-1 48 in
     let clash : ◌≡◌ {A = ℕ} 0 1 = cc in
     omega arith
 
-pub refuses-0 : ours.answers none (offer 0 48) ≡ Refused 15 0
+pub refuses-0 : ours.answers none (offer 0 48) ≡ Err (Refused bad_gno)
 unfolding event_of read-specs.named seen body_limit untagged opening_at byte_at bytes_at le_at le_of lent_set previous says_tagged says_count many limits judged
     max_entries max_intervals max_of_entry body_bytes any_tag header_bytes entries_bytes le_bytes
 refuses-0 = refl
 
-names-zero : no_id_for_zero.answers none (offer 0 48) ≡ NoId 8
+names-zero : no_id_for_zero.answers none (offer 0 48) ≡ Ok (NoId 8)
 unfolding event_of read-specs.named seen body_limit untagged opening_at byte_at bytes_at le_at le_of
 names-zero = refl
 
 -- one that says so to gno 0 only
 pub no-id-for-zero-out : OffersExactly no_id_for_zero → ⊥
 no-id-for-zero-out exactly =
-    let two : Refused 15 0 ≡ NoId 8 = sym refuses-0 ∙ same_answer no_id_for_zero exactly 0 small-0 48 ∙ names-zero in
+    let two : Err (Refused bad_gno) ≡ Ok (NoId 8) = sym refuses-0 ∙ same_answer no_id_for_zero exactly 0 small-0 48 ∙ names-zero in
     let clash : ◌≡◌ {A = ℕ} 0 1 = cc in
     omega arith
 

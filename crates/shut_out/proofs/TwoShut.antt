@@ -1,5 +1,5 @@
 -- Wrong calls over two sets are shut out.
-use Prim.Native.Nat.{ℕ, ◌+◌, ◌<◌}
+use Prim.Native.Nat.{ℕ, ◌+◌}
 use mathlib.Core.Path.{◌≡◌, refl, sym, ap, ◌∙◌}
 use mathlib.Core.Bool.{Bool, true, false}
 use mathlib.Core.List.{List, [], ◌∷◌}
@@ -11,26 +11,29 @@ use Rattle.misc.specs.Parse.{many, bytes_at, byte_at}
 use Rattle.misc.specs.Body.{body_limit}
 use Rattle.misc.specs.Le.{le_of, le_bytes, le_at}
 use Rattle.misc.specs.Varlen.{trailing_ones, item_value, varlen_at, varlen_size, size_from, varlen_bytes, item_of}
-use Rattle.misc.specs.Output.{bytes, output_of, answer_of}
-use Rattle.misc.specs.declared.Wrote.{Wrote}
+use Rattle.misc.specs.declared.refusal.Refusal.{Refusal}
+use Rattle.misc.specs.declared.refusal.WriteError.TheVariants.{Refused}
+use Rattle.misc.specs.Refusal.{number, crowded, full}
+use Rattle.misc.specs.Output.{bytes, output_of, answer_of, written_number, written_len}
 use Rattle.packets.specs.Gno.{gno_top, interval}
 use Rattle.packets.specs.Tag.{all_tag_bytes, is_tag}
-use Rattle.packets.proofs.Tests.{clash}
 use Rattle.packets.proofs.Keys.{same_self}
 use Rattle.previous_gtids_event.specs.Entry.{entry, uuid_of, tag_of}
 use Rattle.previous_gtids_event.specs.Previous.{tag_at, key_at, head_at, interval_at, entry_at, says_tagged, says_count, previous}
 use Rattle.previous_gtids_event.specs.Rewrite.{intervals_bytes, entry_bytes, entries_bytes, any_tag, header_bytes, body_bytes}
-use Rattle.gtid_sets.specs.Limits.{max_entries, max_intervals, max_of_entry, judged, limits}
+use Rattle.gtid_sets.specs.Limits.{intervals, max_entries, max_intervals, max_of_entry, judged, limits}
 use Rattle.gtid_sets.specs.Lent.{Lent, lent_set}
 use Rattle.gtid_sets.specs.Combine.{either, both, without}
 use Rattle.gtid_sets.proofs.LentLaws.{is-lent}
-use Rattle.resume_set.specs.Answers.{set_read}
+use Rattle.resume_set_laws.specs.History.{lent_number}
 use Rattle.two_sets.specs.Answers.{combine_answers, combine_leaves, within_answers}
-use Rattle.two_sets.specs.declared.AllWithin.{AllWithin}
+use Rattle.std.specs.Prelude.{Result, Ok, Err}
 use Rattle.promises.specs.PlainFaults.{WriteFault}
 use Rattle.promises.specs.TwoSets.{CombineAnswer, Combiner, CombinesExactly, our_calls, ComparesExactly, Exceeding}
 use Rattle.shut_out.specs.WrongOnes.{alone, alone_tagged, only_of, stays_apart, keeps_empty, ignores_tag, swaps_sets, counts_inputs, unjudged, takes_no_set}
 use Rattle.shut_out.specs.WrongOnes.{compares_lengths, wants_same}
+use Rattle.misc.proofs.ParseLaws.{ok-err}
+use Rattle.promises.proofs.SetsExact.{apart}
 use Rattle.promises.proofs.TwoSetsHold.{results-exactly, compares-exactly, two-sets}
 use Rattle.promises.proofs.AtLimits.{spread, entry_full, entry-full}
 
@@ -41,7 +44,7 @@ same-calls op {f} {g} a b first second out =
     (a first second out (g.answers first second out) (g.leaves first second out)).1
     ((b first second out (g.answers first second out) (g.leaves first second out)).0 (refl, refl))
 
-same-says : {f g : List ℕ → List ℕ → AllWithin} → ComparesExactly f → ComparesExactly g → (first second : List ℕ) → f first second ≡ g first second
+same-says : {f g : List ℕ → List ℕ → Result Bool Refusal} → ComparesExactly f → ComparesExactly g → (first second : List ℕ) → f first second ≡ g first second
 same-says {f} {g} a b first second = (a first second (g first second)).1 ((b first second (g first second)).0 refl)
 
 abbrev room : List ℕ
@@ -78,13 +81,13 @@ record Computed : Type 0 where
   no-set : entries_in (combine_leaves either (alone 1) [] room) ≡ 0
   one_entry : entries_in (writes (alone 1)) ≡ 1
   -- {1} without the empty set is {1}, and the other way round nothing is left
-  none-away : (combine_answers without (alone 1) (body_bytes []) room).len ≡ 48
-  all-away : (combine_answers without (body_bytes []) (alone 1) room).len ≡ 8
+  none-away : combine_answers without (alone 1) (body_bytes []) room ≡ Ok 48
+  all-away : combine_answers without (body_bytes []) (alone 1) room ≡ Ok 8
   -- {1} isn't in {2}, which has as many bytes; and the empty set is in {1}
-  other-id : (within_answers (alone 1) (alone 2)).all ≡ false
-  as_long : (compares_lengths (alone 1) (alone 2)).all ≡ true
-  none_in : (within_answers (body_bytes []) (alone 1)).all ≡ true
-  not_same : (wants_same (body_bytes []) (alone 1)).all ≡ false
+  other-id : within_answers (alone 1) (alone 2) ≡ Ok false
+  as_long : compares_lengths (alone 1) (alone 2) ≡ Ok true
+  none_in : within_answers (body_bytes []) (alone 1) ≡ Ok true
+  not_same : wants_same (body_bytes []) (alone 1) ≡ Ok false
 
 computed : Computed
 unfolding output_of answer_of many bytes_at byte_at body_limit le_of le_bytes le_at gno_top uuid_of tag_of tag_at key_at head_at interval_at entry_at says_tagged says_count
@@ -135,7 +138,7 @@ takes-no-set-out exactly =
 pub swaps-sets-out : CombinesExactly without swaps_sets → ⊥
 swaps-sets-out exactly =
     let (e, _) = same-calls without exactly (results-exactly without refl) (alone 1) (body_bytes []) room in
-    let differs : ◌≡◌ {A = ℕ} 8 48 = sym computed.all-away ∙ ap (λ (w : Wrote). w.len) e ∙ computed.none-away in
+    let differs : ◌≡◌ {A = ℕ} 8 48 = ap written_len (sym computed.all-away ∙ e ∙ computed.none-away) in
     omega arith
 
 -- ---- limits of the sets that are lent: an entry with 1,024 intervals and itself
@@ -143,41 +146,43 @@ swaps-sets-out exactly =
 abbrev most_bytes : List ℕ
 most_bytes = body_bytes entry_full
 
-has-most : (set_read (lent_set most_bytes)).intervals ≡ 1024
+has-most : lent_number intervals (lent_set most_bytes) ≡ 1024
 unfolding spread
-has-most = ap (λ (l : Lent). (set_read l).intervals) (is-lent most_bytes entry_full entry-full)
+has-most = ap (λ (l : Lent). lent_number intervals l) (is-lent most_bytes entry_full entry-full)
 
 pub counts-inputs-out : CombinesExactly either counts_inputs → ⊥
 counts-inputs-out exactly =
     let whole = (two-sets.twice most_bytes entry_full entry-full).0 in
     let (e, _) = (exactly most_bytes most_bytes most_bytes _ _).1 (CombineAnswer.written whole (omega arith)) in
-    let more : ltb 1024 ((set_read (lent_set most_bytes)).intervals + (set_read (lent_set most_bytes)).intervals) ≡ true = rw has-most in
-    let differs : ◌≡◌ {A = ℕ} 17 0 = sym (rw more) ∙ ap (λ (w : Wrote). w.refusal) e in
+    let more : ltb 1024 (lent_number intervals (lent_set most_bytes) + lent_number intervals (lent_set most_bytes)) ≡ true = rw has-most in
+    let differs : ◌≡◌ {A = ℕ} 17 0 = sym (rw more) ∙ ap written_number e in
     omega arith
 
 -- ---- results that are not judged
 
-unjudged-says : (n : ℕ) → 0 < n → Exceeding either n → CombinesExactly either (unjudged n) → ⊥
-unjudged-says n some (first, second, refused) exactly =
-    let answer : CombineAnswer either first second [] (record { refusal = n; len = 0 }) [] = CombineAnswer.refused (WriteFault.itself refused) in
+unjudged-says : (r : Refusal) → Exceeding either (number r) → CombinesExactly either (unjudged (number r)) → ⊥
+unjudged-says r (first, second, refused) exactly =
+    let answer : CombineAnswer either first second [] (Err (Refused r)) [] = CombineAnswer.refused (WriteFault.itself refused) in
     let (ours, _) = (results-exactly either refl first second [] _ _).1 answer in
     let (says, _) = (exactly first second [] _ _).1 answer in
-    let this : eqb (combine_answers either first second []).refusal n ≡ true = rw ours (eq-eqb n n refl) in
-    let differs : ◌≡◌ {A = ℕ} 0 n = sym (rw this) ∙ ap (λ (w : Wrote). w.refusal) says in
-    omega arith
+    let this : eqb (written_number (combine_answers either first second [])) (number r) ≡ true = rw ours (eq-eqb (number r) (number r) refl) in
+    let differs : Ok 0 ≡ Err (Refused r) = sym (rw this) ∙ says in
+    absurd (ok-err differs)
 
 pub unjudged-entry-out : CombinesExactly either (unjudged 17) → ⊥
-unjudged-entry-out = unjudged-says 17 (omega arith) two-sets.crowded.0
+unjudged-entry-out = unjudged-says crowded two-sets.crowded.0
 
 pub unjudged-set-out : CombinesExactly either (unjudged 16) → ⊥
-unjudged-set-out = unjudged-says 16 (omega arith) two-sets.full.0
+unjudged-set-out = unjudged-says full two-sets.full.0
 
 -- ---- yes or no
 
 pub compares-lengths-out : ComparesExactly compares_lengths → ⊥
 compares-lengths-out exactly =
-    clash (sym (ap (λ (r : AllWithin). r.all) (same-says exactly compares-exactly (alone 1) (alone 2))) ∙ computed.as_long) computed.other-id
+    let two : Ok true ≡ Ok false = sym computed.as_long ∙ same-says exactly compares-exactly (alone 1) (alone 2) ∙ computed.other-id in
+    apart cc
 
 pub wants-same-out : ComparesExactly wants_same → ⊥
 wants-same-out exactly =
-    clash computed.none_in (sym (ap (λ (r : AllWithin). r.all) (same-says exactly compares-exactly (body_bytes []) (alone 1))) ∙ computed.not_same)
+    let two : Ok false ≡ Ok true = sym computed.not_same ∙ same-says exactly compares-exactly (body_bytes []) (alone 1) ∙ computed.none_in in
+    apart cc

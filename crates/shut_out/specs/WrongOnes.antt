@@ -1,15 +1,19 @@
 -- Wrong programs that the demands shut out: `ShutOut`, `Crowding`, `Absent`, `TwoShut`, `HeadsShut`, `ReportsShut` and `FilesShut` of proofs/.
 use Rattle.std.specs.Prelude.{ℕ, ◌+◌, ◌-◌, Bool, true, false, not, ◌&&◌, ◌||◌, List, [], ◌∷◌, ◌++◌, length, set, replicate, take, eqb, ltb, leb}
+use Rattle.std.specs.Prelude.{Result, Ok, Err}
 use Rattle.misc.specs.Pick.{pick}
-use Rattle.misc.specs.Refusal.{ended, not_writable}
+use Rattle.misc.specs.declared.refusal.Refusal.{Refusal}
+use Rattle.misc.specs.Refusal.{number, ended, no_tag, not_writable, bad_gno, full, crowded, absent_id, diverged}
+use Rattle.misc.specs.declared.refusal.WriteError.{WriteError}
+use Rattle.misc.specs.declared.refusal.WriteError.TheVariants.{Refused}
+use Rattle.misc.specs.Refusal.{error_number}
 use Rattle.misc.specs.Parse.{Parse, refuse, parsed, mapped}
-use Rattle.misc.specs.Output.{refused, bytes, output_of, answer_of}
+use Rattle.misc.specs.Output.{refused, bytes, output_of, answer_of, written_number, written_len}
 use Rattle.misc.specs.Varlen.{item_of, varlen_bytes}
 use Rattle.packets.specs.Gno.{gno_top, interval}
 use Rattle.previous_gtids_event.specs.Entry.{entry}
 use Rattle.previous_gtids_event.specs.Previous.{previous}
 use Rattle.previous_gtids_event.specs.Rewrite.{body_bytes}
-use Rattle.gtid_event.specs.declared.EventStep.{EventStep}
 use Rattle.gtid_event.specs.declared.GtidEvent.{GtidEvent}
 use Rattle.gtid_event.specs.Event.{undefined_version, fresh, new_untagged, tagged, set_number, with_tag}
 use Rattle.gtid_event_read.specs.Seen.{Seen, untagged_seen}
@@ -18,22 +22,22 @@ use Rattle.gtid_event_write.specs.Writable.{writable}
 use Rattle.gtid_event_write.specs.Layout.{field_bytes}
 use Rattle.gtid_event_write.specs.Write.{event_output}
 use Rattle.gtid_sets.specs.Run.{Event, anonymous, broken, names}
+use Rattle.gtid_sets.specs.Limits.{intervals}
 use Rattle.gtid_sets.specs.Lent.{lent_set}
 use Rattle.gtid_sets.specs.Combine.{either, both, without}
 use Rattle.set_join.specs.Answers.{taken_in, output}
-use Rattle.resume_set.specs.Answers.{set_read, says, event_of, offered}
+use Rattle.resume_set.specs.Answers.{says, event_of, offered}
 use Rattle.two_sets.specs.Answers.{combine_answers, within_answers}
-use Rattle.two_sets.specs.declared.AllWithin.{AllWithin}
 use Rattle.two_sets.specs.declared.Choice.{Choice}
 use Rattle.two_sets.specs.declared.Choice.TheVariants as chosen-as
 use Rattle.resume_set.specs.declared.Offered.{Offered}
-use Rattle.resume_set.specs.declared.Offered.TheVariants.{NoId, AlreadyThere, Taken, Refused}
-use Rattle.resume_set_laws.specs.History.{Offering}
+use Rattle.resume_set.specs.declared.Offered.TheVariants.{NoId, Taken}
+use Rattle.resume_set_laws.specs.History.{Offering, lent_number}
 use Rattle.resume_set_laws.specs.Ours.{ours}
 use Rattle.packets.specs.Key.{same}
 use Rattle.promises.specs.TaggedLayout.{the_tag, seen_in}
 use Rattle.promises.specs.Meaning.{EventReader, EventWriter, EntriesReader}
-use Rattle.promises.specs.Exact.{Asking, asks}
+use Rattle.promises.specs.Exact.{Asking, says_yes, asks}
 use Rattle.promises.specs.TwoSets.{Combiner, our_calls}
 use Rattle.report.specs.Report.{line_of, lines_of, summed}
 use Rattle.report.specs.Built.{report_over}
@@ -114,12 +118,12 @@ abbrev pub claims_zero : List ℕ → ℕ → GtidEvent
 claims_zero sid gno = fresh sid gno 2 0
 
 -- adds a tag, and takes the versions for unknown
-abbrev pub forgets_versions : List ℕ → GtidEvent → EventStep
+abbrev pub forgets_versions : List ℕ → GtidEvent → Result GtidEvent Refusal
 forgets_versions tag e = with_tag tag (set_number 9 undefined_version (set_number 10 undefined_version e))
 
 -- says "taken", and copies its set
 abbrev pub copies_its_set : Offering
-copies_its_set = record { answers = λ set t. Taken (length set); leaves = λ set t. output_of t.out (bytes set) }
+copies_its_set = record { answers = λ set t. Ok (Taken (length set)); leaves = λ set t. output_of t.out (bytes set) }
 
 -- adds an id to the empty set, which has eight bytes, and from then on merely says "taken"
 abbrev pub adds_only_the_first : Offering
@@ -131,7 +135,7 @@ adds_only_the_first =
 
 -- says "no id" to whatever comes
 abbrev pub always_no_id : Offering
-always_no_id = record { answers = λ set t. NoId (length set); leaves = λ set t. output_of t.out (bytes set) }
+always_no_id = record { answers = λ set t. Ok (NoId (length set)); leaves = λ set t. output_of t.out (bytes set) }
 
 -- an event with this gno
 abbrev pub names_gno : ℕ → Event → Bool
@@ -156,38 +160,36 @@ abbrev pub top_alone : List ℕ
 top_alone = body_bytes (entry (replicate 16 0) (interval gno_top (gno_top + 1) ∷ []) ∷ [])
 
 abbrev pub takes_top : Offering
-takes_top = only_for gno_top (record { answers = λ set t. Taken (length top_alone); leaves = λ set t. output_of t.out (bytes top_alone) })
+takes_top = only_for gno_top (record { answers = λ set t. Ok (Taken (length top_alone)); leaves = λ set t. output_of t.out (bytes top_alone) })
 
--- says one number where another is due
-abbrev pub renumbered : ℕ → ℕ → Offered → Offered
-renumbered due instead (NoId len) = NoId len
-renumbered due instead (AlreadyThere len) = AlreadyThere len
-renumbered due instead (Taken len) = Taken len
-renumbered due instead (Refused n len) = Refused (pick (eqb n due) instead n) len
+-- says one refusal where another is due
+abbrev pub renumbered : Refusal → Refusal → Result Offered WriteError → Result Offered WriteError
+renumbered due instead (Ok a) = Ok a
+renumbered due instead (Err x) = Err (pick (eqb (error_number x) (number due)) (Refused instead) x)
 
 -- that, to events of one type
-abbrev pub says_instead : ℕ → ℕ → ℕ → Offering
+abbrev pub says_instead : ℕ → Refusal → Refusal → Offering
 says_instead type due instead =
     record { answers = λ set t. pick (eqb t.type type) (renumbered due instead (ours.answers set t)) (ours.answers set t); leaves = ours.leaves }
 
 -- 16 before 17
 abbrev pub says_full : Offering
-says_full = says_instead 33 17 16
+says_full = says_instead 33 crowded full
 
 -- 15 before 21: the gno that a record shows for an absent one breaks the gno rule
 abbrev pub judges_absent_gno : Offering
-judges_absent_gno = says_instead 42 21 15
+judges_absent_gno = says_instead 42 absent_id bad_gno
 
 -- 21 for a gno that was sent as 0; and by an untagged event
 abbrev pub takes_zero_for_absent : Offering
-takes_zero_for_absent = says_instead 42 15 21
+takes_zero_for_absent = says_instead 42 bad_gno absent_id
 
 abbrev pub asks_untagged : Offering
-asks_untagged = says_instead 33 15 21
+asks_untagged = says_instead 33 bad_gno absent_id
 
 -- 21 before 7
 abbrev pub asks_id_before_tag : Offering
-asks_id_before_tag = says_instead 42 7 21
+asks_id_before_tag = says_instead 42 no_tag absent_id
 
 -- takes the record as it is read, and zeros for what was not sent, as offers did before CR 6
 abbrev pub takes_absent_for_zero : Offering
@@ -211,18 +213,16 @@ abbrev pub nothing_sent : List ℕ
 nothing_sent = 2 ∷ 6 ∷ 0 ∷ []
 
 -- says "taken" where 17 is due
-abbrev pub as_taken : ℕ → Offered → Offered
-as_taken size (NoId len) = NoId len
-as_taken size (AlreadyThere len) = AlreadyThere len
-as_taken size (Taken len) = Taken len
-as_taken size (Refused n len) = pick (eqb n 17) (Taken size) (Refused n len)
+abbrev pub as_taken : ℕ → Result Offered WriteError → Result Offered WriteError
+as_taken size (Ok a) = Ok a
+as_taken size (Err x) = pick (eqb (error_number x) 17) (Ok (Taken size)) (Err x)
 
 abbrev pub says_taken : Offering
 says_taken = record { answers = λ set t. as_taken (length set + 16) (ours.answers set t); leaves = ours.leaves }
 
 -- says 17 before intervals are joined, at least to gno 4
 abbrev pub crowded_early : Offering
-crowded_early = only_for 4 (record { answers = λ set t. Refused 17 0; leaves = λ set t. t.out })
+crowded_early = only_for 4 (record { answers = λ set t. Err (Refused crowded); leaves = λ set t. t.out })
 
 -- finds no id without a tag
 abbrev pub asks_tagged_only : Asking
@@ -265,17 +265,16 @@ swaps_sets = record { answers = λ a b out. (our_calls without).answers b a out;
 abbrev pub counts_inputs : Combiner
 counts_inputs =
     record {
-      answers = λ a b out. pick (ltb 1024 ((set_read (lent_set a)).intervals + (set_read (lent_set b)).intervals)) (record { refusal = 17; len = 0 })
+      answers = λ a b out. pick (ltb 1024 (lent_number intervals (lent_set a) + lent_number intervals (lent_set b))) (Err (Refused crowded))
           ((our_calls either).answers a b out);
-      leaves = λ a b out. pick (ltb 1024 ((set_read (lent_set a)).intervals + (set_read (lent_set b)).intervals)) out ((our_calls either).leaves a b out);
+      leaves = λ a b out. pick (ltb 1024 (lent_number intervals (lent_set a) + lent_number intervals (lent_set b))) out ((our_calls either).leaves a b out);
     }
 
 -- says that a result was written where it is refused with n: both sets are within the limits, and it is not judged
 abbrev pub unjudged : ℕ → Combiner
 unjudged n =
     record {
-      answers = λ a b out. pick (eqb ((our_calls either).answers a b out).refusal n) (record { refusal = 0; len = length out })
-          ((our_calls either).answers a b out);
+      answers = λ a b out. pick (eqb (written_number ((our_calls either).answers a b out)) n) (Ok (length out)) ((our_calls either).answers a b out);
       leaves = (our_calls either).leaves;
     }
 
@@ -283,49 +282,52 @@ unjudged n =
 abbrev pub takes_no_set : Combiner
 takes_no_set = only_of (alone 1) [] (alone 1) (our_calls either)
 
+-- another answer, where there is no refusal
+abbrev pub unless_refused : {A B : Type 0} → Result A Refusal → Result B Refusal → Result B Refusal
+unless_refused (Ok a) other = other
+unless_refused (Err r) other = Err r
+
 -- says of two sets whether all ids of the first are in the second by another test
-abbrev pub tested_by : (List ℕ → List ℕ → Bool) → List ℕ → List ℕ → AllWithin
-tested_by test first second =
-    record { refusal = (within_answers first second).refusal; all = eqb (within_answers first second).refusal 0 && test first second }
+abbrev pub tested_by : (List ℕ → List ℕ → Bool) → List ℕ → List ℕ → Result Bool Refusal
+tested_by test first second = unless_refused (within_answers first second) (Ok (test first second))
 
 -- compares lengths; or asks whether the sets are the same
-abbrev pub compares_lengths : List ℕ → List ℕ → AllWithin
+abbrev pub compares_lengths : List ℕ → List ℕ → Result Bool Refusal
 compares_lengths = tested_by (λ a b. leb (length a) (length b))
 
-abbrev pub wants_same : List ℕ → List ℕ → AllWithin
+abbrev pub wants_same : List ℕ → List ℕ → Result Bool Refusal
 wants_same = tested_by (λ a b. same a b)
 
 -- ---- two heads
 
 -- chooses one of two sets, or refuses, by other tests: the first of them that holds decides
-abbrev pub chosen_by : (List ℕ → List ℕ → Bool) → (List ℕ → List ℕ → Bool) → List ℕ → List ℕ → Choice
+abbrev pub chosen_by : (List ℕ → List ℕ → Bool) → (List ℕ → List ℕ → Bool) → List ℕ → List ℕ → Result Choice Refusal
 chosen_by is_first is_second first second =
-    let refusal = (within_answers first second).refusal in
-    pick (eqb refusal 0) (pick (is_first first second) chosen-as.First (pick (is_second first second) chosen-as.Second (chosen-as.Refused 22)))
-    (chosen-as.Refused refusal)
+    unless_refused (within_answers first second)
+    (pick (is_first first second) (Ok chosen-as.First) (pick (is_second first second) (Ok chosen-as.Second) (Err diverged)))
 
 -- the first, where one of the two contains the other
-abbrev pub first_of_two : List ℕ → List ℕ → Choice
-first_of_two = chosen_by (λ a b. (within_answers a b).all || (within_answers b a).all) (λ a b. false)
+abbrev pub first_of_two : List ℕ → List ℕ → Result Choice Refusal
+first_of_two = chosen_by (λ a b. says_yes (within_answers a b) || says_yes (within_answers b a)) (λ a b. false)
 
 -- the longer one
-abbrev pub longer_one : List ℕ → List ℕ → Choice
+abbrev pub longer_one : List ℕ → List ℕ → Result Choice Refusal
 longer_one = chosen_by (λ a b. leb (length b) (length a)) (λ a b. true)
 
 -- one that has more than the other: neither of two that are equal
-abbrev pub wants_more : List ℕ → List ℕ → Choice
-wants_more = chosen_by (λ a b. (within_answers b a).all && not (same a b)) (λ a b. (within_answers a b).all && not (same a b))
+abbrev pub wants_more : List ℕ → List ℕ → Result Choice Refusal
+wants_more = chosen_by (λ a b. says_yes (within_answers b a) && not (same a b)) (λ a b. says_yes (within_answers a b) && not (same a b))
 
 -- the second of two that are equal
-abbrev pub second_of_equal : List ℕ → List ℕ → Choice
-second_of_equal = chosen_by (λ a b. (within_answers b a).all && not (same a b)) (λ a b. (within_answers a b).all)
+abbrev pub second_of_equal : List ℕ → List ℕ → Result Choice Refusal
+second_of_equal = chosen_by (λ a b. says_yes (within_answers b a) && not (same a b)) (λ a b. says_yes (within_answers a b))
 
 -- asks for an id in common: the empty set is in none
 abbrev pub common : List ℕ → List ℕ → Bool
-common a b = ltb (length (body_bytes [])) (combine_answers both a b []).len
+common a b = ltb (length (body_bytes [])) (written_len (combine_answers both a b []))
 
-abbrev pub wants_common : List ℕ → List ℕ → Choice
-wants_common = chosen_by (λ a b. (within_answers b a).all && common a b) (λ a b. (within_answers a b).all && common a b)
+abbrev pub wants_common : List ℕ → List ℕ → Result Choice Refusal
+wants_common = chosen_by (λ a b. says_yes (within_answers b a) && common a b) (λ a b. says_yes (within_answers a b) && common a b)
 
 -- hands back the right bytes, but of the second of two that are equal
 abbrev pub equal_elsewhere : Handing
@@ -375,7 +377,7 @@ counts_refused = summed_by (λ sets. let c = our_report.sums sets in
 -- doesn't count what is no set to the 64
 abbrev pub only_sets : List (List ℕ) → List (List ℕ)
 only_sets [] = []
-only_sets (set ∷ sets) = pick (eqb (set_read (lent_set set)).refusal 0) (set ∷ only_sets sets) (only_sets sets)
+only_sets (set ∷ sets) = pick (eqb (line_of (lent_set set)).refusal 0) (set ∷ only_sets sets) (only_sets sets)
 
 abbrev pub forgets_refused : Reporting
 forgets_refused = answered_by (λ before set. our_report.answers (only_sets before) set)

@@ -18,10 +18,6 @@ pub before-none : (l : List ℕ) (end : ℕ) → Before l end [] l end
 before-none l end = record { holds = refl; begins = add-zero end }
 
 module _ {l bs l' : List ℕ} {end first : ℕ} (p : Before l end bs l' first) where
-  -- only what stands behind the place counts
-  pub before_same : {m : List ℕ} → drop end l ≡ drop end m → Before m end bs l' first
-  before_same e = record { holds = p.holds ∙ ap (λ (rest : List ℕ). bs ++ rest) e; begins = p.begins }
-
   -- one byte more
   pub before-one : (b : ℕ) → 0 < first → first ≤ length l' → Before l end (b ∷ bs) (set l' (first - 1) b) (first - 1)
   before-one b some inside =

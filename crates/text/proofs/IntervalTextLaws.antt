@@ -1,27 +1,18 @@
 -- Laws of the text of an interval, by whether its end comes right after its start: how long it is, and how it is put.
-use mathlib.Core.Path.{◌≡◌, sym, ap, ◌∙◌}
+use mathlib.Core.Path.{◌≡◌, ap}
 use mathlib.Core.Bool.{Bool, true, false}
 use mathlib.Core.List.{List, [], ◌∷◌, append-nil}
 use Prim.Native.Nat.{ℕ, ◌+◌, ◌-◌, ◌≤◌, ◌<◌}
 use native.Mathlib.Omega.{arith}
 use lib.ListN.{length, set, length-append}
 use lib.Dec.{eqb}
-use borrow.Author.Tests.{eq-eqb, ne_eqb}
 use Rattle.misc.specs.Pick.{pick}
-use Rattle.misc.proofs.ParseLaws.{split}
 use Rattle.text.specs.Digits.{decimal}
 use Rattle.text.specs.Keys.{colon, dash}
 use Rattle.text.specs.Intervals.{last_text, interval_text}
 use Rattle.text.specs.Inside.{Before}
 use Rattle.text.proofs.FillLaws.{before-one, before-run}
 use Rattle.text.proofs.DigitLaws.{decimal-most}
-
--- an end comes right after a start if the difference is one
-pub next-test : (start end : ℕ) → start < end → eqb (end - start) 1 ≡ eqb (start + 1) end
-next-test start end some =
-    split end (start + 1)
-    (λ next. eq-eqb (end - start) 1 (omega arith) ∙ sym (eq-eqb (start + 1) end (omega arith)))
-    (λ far. ne_eqb (end - start) 1 (λ e. omega arith) ∙ sym (ne_eqb (start + 1) end (λ e. omega arith)))
 
 module _ (start end : ℕ) where
   pub no_last : eqb (start + 1) end ≡ true → last_text start end ≡ []

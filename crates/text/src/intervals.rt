@@ -1,33 +1,21 @@
 // Intervals as text: the first number, and the last after a dash unless that is the first.
-ghost use Rattle.std.specs.Prelude.{◌≡◌, ◌+◌, ◌-◌, ◌≤◌, length, eqb};
+ghost use Rattle.std.specs.Prelude.{◌≡◌, ◌+◌, ◌≤◌, length, eqb};
 ghost use Rattle.misc.specs.Output.{put_at, put_end};
 ghost use Rattle.text.specs.Intervals.{last_text, interval_text};
 ghost use Rattle.text.specs.Inside.{Before};
 
-use crate::digits::{decimal_len, fill_decimal};
+use crate::digits::decimal_len;
+use itoa::write_digits;
 use misc::put::put_bytes;
 
 // A colon and twenty digits, a dash and twenty more.
 const ROOM: usize = 42;
 
-// The number before an end; 0 before 0.
-fn before(end: u64) -> u64
-    ensures { result ≡ end - 1 }
-{
-    if end == 0 {
-        return 0;
-    }
-    end - 1
-}
-
 // Whether an end comes right after a start.
 fn is_next(start: u64, end: u64) -> bool
     ensures { result ≡ eqb (start + 1) end }
 {
-    if end <= start {
-        return false;
-    }
-    end - start == 1
+    start.checked_add(1) == Some(end)
 }
 
 // How long the text of an interval is.
@@ -38,7 +26,7 @@ pub fn interval_len(start: u64, end: u64) -> usize
     if is_next(start, end) {
         return len;
     }
-    len + 1 + decimal_len(before(end))
+    len + 1 + decimal_len(end.saturating_sub(1))
 }
 
 // Puts a dash and the last number at the end of a text, unless that is the first, and returns where they begin.
@@ -49,7 +37,7 @@ fn fill_last(start: u64, end: u64, text: &mut [u8]) -> usize
     if is_next(start, end) {
         return ROOM;
     }
-    let first = fill_decimal(before(end), text, ROOM) - 1;
+    let first = write_digits(end.saturating_sub(1), text, ROOM) - 1;
     text[first] = b'-';
     first
 }
@@ -61,7 +49,7 @@ pub fn put_interval(start: u64, end: u64, out: &mut [u8], at: usize) -> usize
 {
     let mut text = [0u8; ROOM];
     let last = fill_last(start, end, &mut text);
-    let first = fill_decimal(start, &mut text, last) - 1;
+    let first = write_digits(start, &mut text, last) - 1;
     text[first] = b':';
     put_bytes(&text[first..], out, at)
 }

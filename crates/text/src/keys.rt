@@ -34,7 +34,7 @@ pub fn put_uuid(uuid: [u8; UUID_LEN], out: &mut [u8], at: usize) -> usize
 pub fn key_len(tag: &[u8]) -> usize
     ensures { result ≡ 36 + length (tag_text tag.now) }
 {
-    if tag.len() == 0 {
+    if tag.is_empty() {
         return UUID_TEXT;
     }
     UUID_TEXT + 1 + tag.len()
@@ -43,7 +43,7 @@ pub fn key_len(tag: &[u8]) -> usize
 fn put_tag(tag: &[u8], out: &mut [u8], at: usize) -> usize
     ensures { WhereFits out.old at (tag_text tag.now) out.new result }
 {
-    if tag.len() == 0 {
+    if tag.is_empty() {
         return at;
     }
     let from = put_bytes(b":", out, at);

@@ -9,9 +9,12 @@ use lib.Dec.{ltb}
 use lib.ListN.{length, length-append}
 use borrow.Author.Tests.{ltb-false}
 use Rattle.misc.specs.Pick.{pick}
-use Rattle.misc.specs.Refusal.{not_a_set}
+use Rattle.std.specs.Prelude.{⊤, Result, Ok, Err}
+use Rattle.misc.specs.declared.refusal.Refusal.{Refusal}
+use Rattle.misc.specs.declared.refusal.WriteError.{WriteError}
+use Rattle.misc.specs.declared.refusal.WriteError.TheVariants.{Refused, NoRoom}
+use Rattle.misc.specs.Refusal.{not_a_set, diverged}
 use Rattle.misc.specs.Output.{refused, output_of, answer_of, WhereFits}
-use Rattle.misc.specs.declared.Wrote.{Wrote}
 use Rattle.misc.proofs.OutputLaws.{◌also◌, output-refused}
 use Rattle.packets.proofs.Tests.{split}
 use Rattle.previous_gtids_event.specs.Entry.{Entry, entry, tag_of}
@@ -40,43 +43,37 @@ use Rattle.two_sets.specs.Answers.{
   head_read,
   which_answers,
   OneUnfit,
-  BeginningIs,
+  BothLent,
+  Begins,
 }
-use Rattle.set_check.specs.Cursor.{entries_left, begun}
+use Rattle.set_check.specs.Cursor.{entries_left, begun, CursorIs}
 use Rattle.two_sets.specs.Pairs.{CursorsAre, combining}
 use Rattle.two_sets.specs.Write.{MadeIs, made_length}
 use Rattle.two_sets.specs.declared.Cursors.{Cursors}
 use Rattle.two_sets.specs.Differ.{own_ids}
-use Rattle.two_sets.specs.declared.AllWithin.{AllWithin}
-use Rattle.two_sets.specs.declared.Choice.TheVariants.{First, Second, Refused}
+use Rattle.two_sets.specs.declared.Choice.TheVariants.{First, Second}
 use Rattle.two_sets.specs.declared.Own.{Own}
-use Rattle.two_sets.specs.declared.Beginning.{Beginning}
 use Rattle.two_sets.specs.declared.Made.{Made}
 
 -- ---- where the walk begins
 
-module _ (bs cs : List ℕ) (c : Checked) (p : c ≡ checked_of (lent_set bs)) (from : Cursors) where
+module _ (bs cs : List ℕ) where
   -- the first bytes are none
-  pub first-none : (c.refusal ≡ 0 → ⊥) → BeginningIs bs cs (record { refusal = c.refusal; from = from })
-  first-none some =
-      let (none, this) = check-unfit bs c p some in
-      record { lent = λ z. absurd (some z); unfit = λ _. (this, inl none) }
+  pub first-none : (x : Refusal) → Err x ≡ checked_of (lent_set bs) → Begins bs cs (Err x)
+  first-none x told = let (none, same) = check-unfit bs told in (same, inl none)
 
   -- they are a set, and the second decides
-  pub second-decides : c.refusal ≡ 0 → (d : Checked) → d ≡ checked_of (lent_set cs) → from.first ≡ begun c → from.second ≡ begun d
-      → BeginningIs bs cs (record { refusal = d.refusal; from = from })
-  second-decides fine d q one two =
-      let f = check-told bs c p fine in
-      let (first, here) = cursor-begins bs c f in
-      record {
-        lent = λ z. let (second, there) = cursor-begins cs d (check-told cs d q z) in record {
-          first = rw one here;
-          second = rw two there;
-          cursors = record { first = rw one first; second = rw two second };
-          far = rw (one, two) (omega arith);
-        };
-        unfit = λ some. let (none, this) = check-unfit cs d q some in (this, inr (entries_left bs (begun c), here, none));
-      }
+  module _ (c : Checked) (told : Ok c ≡ checked_of (lent_set bs)) where
+    is_first : CursorIs bs (begun c) × (lent_set bs ≡ form (entries_left bs (begun c)))
+    is_first = cursor-begins bs c (check-told bs told)
+
+    pub second-none : (x : Refusal) → Err x ≡ checked_of (lent_set cs) → Begins bs cs (Err x)
+    second-none x said = let (none, same) = check-unfit cs said in (same, inr (entries_left bs (begun c), is_first.1, none))
+
+    pub both-lent : (d : Checked) → Ok d ≡ checked_of (lent_set cs) → BothLent bs cs (record { first = begun c; second = begun d })
+    both-lent d said =
+        let (second, there) = cursor-begins cs d (check-told cs said) in
+        record { first = is_first.1; second = there; cursors = record { first = is_first.0; second = second }; far = omega arith }
 
 -- ---- what the calls answer then
 
@@ -86,52 +83,46 @@ unfit-told : {A : Type 0} (answer : Lent → Lent → A) (a : A) → ((y : Lent)
 unfit-told answer a one two bs cs (inl p) = rw p (one (lent_set cs))
 unfit-told answer a one two bs cs (inr (s, p, q)) = rw (p, q) (two s)
 
-module _ (bs cs : List ℕ) (r : Beginning) (i : BeginningIs bs cs r) where
-  module _ (op : Bool → Bool → Bool) (out : List ℕ) where
-    pub combine-unfit : (r.refusal ≡ 0 → ⊥)
-        → (◌≡◌ {A = Wrote} (record { refusal = r.refusal; len = 0 }) (combine_answers op bs cs out)) × (out ≡ combine_leaves op bs cs out)
-    combine-unfit some =
-        let (this, one) = i.unfit some in
-        rw (this, ← unfit-told (combined_output op) (refused not_a_set) (λ _. refl) (λ _. refl) bs cs one) (output-refused out not_a_set)
+module _ (bs cs : List ℕ) (x : Refusal) (b : Begins bs cs (Err x)) where
+  pub combine-unfit : (op : Bool → Bool → Bool) (out : List ℕ) → (Err (Refused x) ≡ combine_answers op bs cs out) × (out ≡ combine_leaves op bs cs out)
+  combine-unfit op out =
+      rw (b.0, ← unfit-told (combined_output op) (refused not_a_set) (λ _. refl) (λ _. refl) bs cs b.1) (output-refused out not_a_set)
 
-    pub combine-lent : r.refusal ≡ 0 → (w : Wrote) (l : List ℕ)
-        → (w ≡ answer_of out (saved (combining op bs cs r.from))) × (l ≡ output_of out (saved (combining op bs cs r.from)))
-        → (w ≡ combine_answers op bs cs out) × (l ≡ combine_leaves op bs cs out)
-    combine-lent fine w l h = let b = i.lent fine in rw (b.first, b.second) h
+  pub within-unfit : Err x ≡ within_answers bs cs
+  within-unfit = rw b.0 (unfit-told within_read (Err not_a_set) (λ _. refl) (λ _. refl) bs cs b.1)
 
-  pub within-unfit : (r.refusal ≡ 0 → ⊥) → ◌≡◌ {A = AllWithin} (record { refusal = r.refusal; all = false }) (within_answers bs cs)
-  within-unfit some =
-      let (this, one) = i.unfit some in
-      rw this (unfit-told within_read (record { refusal = 14; all = false }) (λ _. refl) (λ _. refl) bs cs one)
+  pub which-unfit : Err x ≡ which_answers bs cs
+  which-unfit = rw b.0 (unfit-told head_read (Err not_a_set) (λ _. refl) (λ _. refl) bs cs b.1)
 
-  pub within-lent : r.refusal ≡ 0 → (own : Own) → own ≡ own_ids bs cs r.from (record { first = false; second = true })
-      → ◌≡◌ {A = AllWithin} (record { refusal = 0; all = not own.first }) (within_answers bs cs)
-  within-lent fine own is = let l = i.lent fine in rw (is, l.first, l.second, not-not (is_empty (combining without bs cs r.from)))
+module _ (bs cs : List ℕ) (from : Cursors) (b : BothLent bs cs from) where
+  abbrev s : List Entry
+  s = entries_left bs from.first
 
-  pub which-unfit : (r.refusal ≡ 0 → ⊥) → Refused r.refusal ≡ which_answers bs cs
-  which-unfit some = let (this, one) = i.unfit some in rw this (unfit-told head_read (Refused 14) (λ _. refl) (λ _. refl) bs cs one)
+  abbrev t : List Entry
+  t = entries_left cs from.second
 
-  module _ (fine : r.refusal ≡ 0) (own : Own) (is : own ≡ own_ids bs cs r.from (record { first = false; second = false })) where
-    abbrev s : List Entry
-    s = entries_left bs r.from.first
+  pub combine-lent : (op : Bool → Bool → Bool) (out : List ℕ) (w : Result ℕ WriteError) (l : List ℕ)
+      → (w ≡ answer_of out (saved (combining op bs cs from))) × (l ≡ output_of out (saved (combining op bs cs from)))
+      → (w ≡ combine_answers op bs cs out) × (l ≡ combine_leaves op bs cs out)
+  combine-lent op out w l h = rw (b.first, b.second) h
 
-    abbrev t : List Entry
-    t = entries_left cs r.from.second
+  pub within-lent : (own : Own) → own ≡ own_ids bs cs from (record { first = false; second = true }) → Ok (not own.first) ≡ within_answers bs cs
+  within-lent own is = rw (is, b.first, b.second, not-not (is_empty (combining without bs cs from)))
 
+  module _ (own : Own) (is : own ≡ own_ids bs cs from (record { first = false; second = false })) where
     -- the second has no id of its own exactly if it is a subset of the first, and so the other way round
-    which-told : pick (not own.second) First (pick (not own.first) Second (Refused 22)) ≡ which_answers bs cs
+    which-told : pick (not own.second) (Ok First) (pick (not own.first) (Ok Second) (Err diverged)) ≡ which_answers bs cs
     which-told =
-        let l = i.lent fine in
-        let turned = combined-swap without refl t s l.cursors.second.formed l.cursors.first.formed in
-        rw (is, l.first, l.second, ← turned, not-not (subset t s), not-not (subset s t))
+        let turned = combined-swap without refl t s b.cursors.second.formed b.cursors.first.formed in
+        rw (is, b.first, b.second, ← turned, not-not (subset t s), not-not (subset s t))
 
-    pub first-has : not own.second ≡ true → First ≡ which_answers bs cs
+    pub first-has : not own.second ≡ true → Ok First ≡ which_answers bs cs
     first-has e = rw e at which-told
 
-    pub second-has : not own.second ≡ false → not own.first ≡ true → Second ≡ which_answers bs cs
+    pub second-has : not own.second ≡ false → not own.first ≡ true → Ok Second ≡ which_answers bs cs
     second-has e f = rw (e, f) at which-told
 
-    pub neither-has : not own.second ≡ false → not own.first ≡ false → Refused 22 ≡ which_answers bs cs
+    pub neither-has : not own.second ≡ false → not own.first ≡ false → Err diverged ≡ which_answers bs cs
     neither-has e f = rw (e, f) at which-told
 
 -- ---- a result that was measured
@@ -173,22 +164,23 @@ module _ (s : List Entry) (g : GoodKeys s) (z : Made) (i : MadeIs s true z) wher
 
   -- ---- what is answered and written
 
-  module _ (out : List ℕ) (x : ℕ) (told : x ≡ judged_as (judged z.crowded z.entries z.intervals)) where
-    by-limits : x ≡ judged_as (limits s)
-    by-limits = told ∙ ap judged_as (limits-judged s z.crowded z.entries z.intervals i.crowd_is i.entries_is i.intervals_is)
+  by-limits : {r : Result ⊤ Refusal} → r ≡ judged_as (judged z.crowded z.entries z.intervals) → r ≡ judged_as (limits s)
+  by-limits told = told ∙ ap judged_as (limits-judged s z.crowded z.entries z.intervals i.crowd_is i.entries_is i.intervals_is)
 
-    pub over-limits : (x ≡ 0 → ⊥) → (record { refusal = x; len = 0 } ≡ answer_of out (saved s)) × (out ≡ output_of out (saved s))
-    over-limits some = saved-refused s x by-limits out some
+  module _ (out : List ℕ) where
+    pub over-limits : {x : Refusal} → Err x ≡ judged_as (judged z.crowded z.entries z.intervals)
+        → (Err (Refused x) ≡ answer_of out (saved s)) × (out ≡ output_of out (saved s))
+    over-limits told = saved-refused s out (by-limits told)
 
-    module _ (fine : x ≡ 0) (len : ℕ) (size : len ≡ made_length z) where
-      pub no_room : length out < len → (record { refusal = 13; len = len } ≡ answer_of out (saved s)) × (out ≡ output_of out (saved s))
-      no_room h = joined-short s x by-limits out fine len (size ∙ length-is) h
+    module _ {u : ⊤} (told : Ok u ≡ judged_as (judged z.crowded z.entries z.intervals)) (len : ℕ) (size : len ≡ made_length z) where
+      pub no_room : length out < len → (Err (NoRoom len) ≡ answer_of out (saved s)) × (out ≡ output_of out (saved s))
+      no_room h = joined-short s out (by-limits told) len (size ∙ length-is) h
 
       pub all-written : len ≤ length out → {l l' : List ℕ} {at r : ℕ} → WhereFits out 0 (header_bytes z.tagged z.entries) l at
           → WhereFits l 8 (entries_bytes z.tagged s) l' r
-          → (record { refusal = 0; len = len } ≡ answer_of out (saved s)) × (l' ≡ output_of out (saved s))
+          → (Ok len ≡ answer_of out (saved s)) × (l' ≡ output_of out (saved s))
       all-written h {l} {l'} {at} {r} p q =
           let p' : WhereFits out 0 (header_bytes z.tagged z.entries) l 8 =
           record { placed = λ room. record { holds = (p.placed room).holds; ends = omega (arith, length-header z.tagged z.entries) } } in
-          joined-fits s x by-limits out fine len (size ∙ length-is) (header_bytes z.tagged z.entries ++ entries_bytes z.tagged s) l' r h body-runs
+          joined-fits s out (by-limits told) len (size ∙ length-is) (header_bytes z.tagged z.entries ++ entries_bytes z.tagged s) l' r h body-runs
           (p' also q)

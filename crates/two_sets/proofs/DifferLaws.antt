@@ -98,18 +98,19 @@ module _ (bs cs : List ℕ) (s : Sides) (seen : Own) where
 
   module _ (left : Sides) (own : Own) (g : Seeing bs cs s seen left own) where
     pub seeing-turn : (r : Step) → StepIs bs cs left r → (x y : Bool) → x ≡ eqb (r.sides.one.left % 2) 1 → y ≡ eqb (r.sides.two.left % 2) 1
-        → Seeing bs cs s seen r.sides (found own (x && not y) (y && not x))
-    seeing-turn r i x y ex ey =
+        → (own' : Own) → own' ≡ found own (x && not y) (y && not x) → Seeing bs cs s seen r.sides own'
+    seeing-turn r i x y ex ey own' is =
         let first : x && not y ≡ keeps_now without bs cs r.sides = keeps-said without bs cs r.sides x y (x && not y) ex ey refl in
         let second : y && not x ≡ keeps_now back bs cs r.sides = keeps-said back bs cs r.sides x y (y && not x) ex ey refl in
         let one = step-seen bs cs left r i without own.first g.shut-first (x && not y) first in
         let two = step-seen bs cs left r i back own.second g.shut-second (y && not x) second in
-        record {
+        rw is
+        (record {
           same = g.same ∙ both_told one two;
           sides = i.sides;
           shut-first = λ h. sym first ∙ (or-false-parts own.first (x && not y) h).1;
           shut-second = λ h. sym second ∙ (or-false-parts own.second (y && not x) h).1;
-        }
+        })
 
     pub seeing-both : own.first && own.second ≡ true → own ≡ own_marks bs cs s seen
     seeing-both h = both_found own _ _ h ∙ sym g.same

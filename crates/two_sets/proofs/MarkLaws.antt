@@ -1,7 +1,7 @@
 -- Laws of marks that stand in bytes: one turn of the sweep over them, all turns up to the next mark of the result, and all marks.
 use Prim.Native.Nat.{ℕ, zero, suc, ◌+◌, ◌-◌, ◌*◌, ◌%◌, ◌^◌, ◌<◌, ◌≤◌, min}
 use mathlib.Core.Path.{◌≡◌, refl, sym, ap, ◌∙◌}
-use mathlib.Core.Bool.{Bool, true, false, not, ◌&&◌, ◌||◌}
+use mathlib.Core.Bool.{Bool, true, false, not, beq, ◌&&◌, ◌||◌}
 use mathlib.Core.List.{List, [], ◌∷◌, ◌++◌}
 use native.Mathlib.Omega.{arith}
 use lib.ListN.{length, drop}
@@ -24,7 +24,6 @@ use Rattle.gtid_sets.proofs.Bools.{or-false-parts}
 use Rattle.gtid_sets.proofs.SweepLaws.{lower, sweep-lt, sweep-eq, sweep-gt}
 use Rattle.misc.proofs.NumberLaws.{number-stands}
 use Rattle.two_sets.specs.Marks.{
-  said_by,
   marks_at,
   marks_of,
   next_mark,
@@ -32,29 +31,17 @@ use Rattle.two_sets.specs.Marks.{
   left_of,
   going,
   all_if,
-  flipped,
-  one_if,
   SideIs,
   SidesAre,
   keeps_now,
   StepIs,
-  TurnIs,
-  NextIs,
+  NextStep,
   marks_bytes,
   MarksPut,
 }
-use Rattle.two_sets.specs.declared.Operation.{Operation}
-use Rattle.two_sets.specs.declared.Operation.TheVariants as operation
 use Rattle.two_sets.specs.declared.Side.{Side}
 use Rattle.two_sets.specs.declared.Sides.{Sides}
 use Rattle.two_sets.specs.declared.Step.{Step}
-use Rattle.two_sets.specs.declared.Turn.{Turn}
-
--- an id that is in neither set is never kept
-pub said-none : (o : Operation) → said_by o false false ≡ false
-said-none operation.Either = refl
-said-none operation.Both = refl
-said-none operation.Without = refl
 
 -- ---- one turn, on lists
 
@@ -63,14 +50,28 @@ pass true [] = []
 pass true (m ∷ ms) = ms
 pass false ms = ms
 
-abbrev differ : Bool → Bool → Bool
-differ x y = (x && not y) || (not x && y)
+mark-same : (z : Bool) (m : ℕ) (ms : List ℕ) → mark z z m ms ≡ ms
+mark-same true m ms = refl
+mark-same false m ms = refl
 
-mark-flips : (z z' : Bool) (m : ℕ) (ms : List ℕ) → mark z z' m ms ≡ flipped (differ z z') m ms
-mark-flips true true m ms = refl
-mark-flips true false m ms = refl
-mark-flips false true m ms = refl
-mark-flips false false m ms = refl
+mark-turns : (z z' : Bool) (m : ℕ) (ms : List ℕ) → (z ≡ z' → ⊥) → mark z z' m ms ≡ m ∷ ms
+mark-turns true true m ms h = absurd (h refl)
+mark-turns true false m ms h = refl
+mark-turns false true m ms h = refl
+mark-turns false false m ms h = absurd (h refl)
+
+-- a test of two answers
+pub same-test : (x y : Bool) → not (beq x y) ≡ false → x ≡ y
+same-test true true h = refl
+same-test true false h = clash refl h
+same-test false true h = clash refl h
+same-test false false h = refl
+
+pub turns-test : (x y : Bool) → not (beq x y) ≡ true → x ≡ y → ⊥
+turns-test true true h e = clash h refl
+turns-test true false h e = clash refl e
+turns-test false true h e = clash e refl
+turns-test false false h e = clash h refl
 
 pass-rises : (t : Bool) (ms : List ℕ) → Rising 0 ms → Rising 0 (pass t ms)
 pass-rises true [] r = tt
@@ -196,14 +197,6 @@ module _ (op : Bool → Bool → Bool) (bs cs : List ℕ) (s : Sides) where
   pub keeps-said : (x y kept : Bool) → x ≡ eqb (s.one.left % 2) 1 → y ≡ eqb (s.two.left % 2) 1 → kept ≡ op x y → kept ≡ keeps_now op bs cs s
   keeps-said x y kept ex ey e = e ∙ rw (ex ∙ marks-open s.one.left bs s.one.at, ey ∙ marks-open s.two.left cs s.two.at)
 
-  pub turn_is : (r : Step) → StepIs bs cs s r → (before behind : Bool) → before ≡ keeps_now op bs cs s → behind ≡ keeps_now op bs cs r.sides
-      → TurnIs op bs cs s (record { sides = r.sides; flips = differ before behind; mark = r.mark })
-  turn_is r i before behind e f = record {
-    goes = i.goes op ∙ rw (← e, ← f) (mark-flips before behind r.mark (going op bs cs r.sides));
-    sides = i.sides;
-    less = i.less;
-  }
-
 -- ---- up to the next mark of the result
 
 -- tests of loops
@@ -224,36 +217,39 @@ module _ (op : Bool → Bool → Bool) (bs cs : List ℕ) (s : Sides) where
   passing-none i = record { same = refl; sides = i; fewer-left = omega arith }
 
   module _ (left : Sides) (g : Passing op bs cs s left) where
-    pub passing-turn : (t : Turn) → TurnIs op bs cs left t → t.flips ≡ false → Passing op bs cs s t.sides
-    passing-turn t i e = record { same = g.same ∙ i.goes ∙ rw e; sides = i.sides; fewer-left = omega (arith, g.fewer-left, i.less) }
+    module _ (r : Step) (i : StepIs bs cs left r) (before behind : Bool) (p : before ≡ op (eqb (left.one.left % 2) 1) (eqb (left.two.left % 2) 1))
+        (q : behind ≡ op (eqb (r.sides.one.left % 2) 1) (eqb (r.sides.two.left % 2) 1)) where
+      goes-on : going op bs cs s ≡ mark before behind r.mark (going op bs cs r.sides)
+      goes-on =
+          g.same ∙ i.goes op
+          ∙ rw (← keeps-said op bs cs left _ _ before refl refl p, ← keeps-said op bs cs r.sides _ _ behind refl refl q)
 
-    pub passing-found : (t : Turn) → TurnIs op bs cs left t → t.flips ≡ true → NextIs op bs cs s t
-    passing-found t i e = record {
-      goes = g.same ∙ i.goes;
-      none = λ f. clash e f;
-      sides = i.sides;
-      less = rw e (omega (arith, g.fewer-left, i.less));
-    }
+      pub passing-turn : before ≡ behind → Passing op bs cs s r.sides
+      passing-turn e = record {
+        same = goes-on ∙ rw e (mark-same behind r.mark (going op bs cs r.sides));
+        sides = i.sides;
+        fewer-left = omega (arith, g.fewer-left, i.less);
+      }
 
-    pub passing-all : left.one.left ≡ 0 → left.two.left ≡ 0 → NextIs op bs cs s (record { sides = left; flips = false; mark = 0 })
-    passing-all p q = record { goes = g.same; none = λ _. rw (p, q); sides = g.sides; less = omega (arith, g.fewer-left) }
+      pub passing-found : (before ≡ behind → ⊥) → NextStep op bs cs s r
+      passing-found h = record {
+        goes = goes-on ∙ mark-turns before behind r.mark (going op bs cs r.sides) h;
+        sides = i.sides;
+        less = omega (arith, g.fewer-left, i.less);
+      }
+
+    pub passing-all : left.one.left ≡ 0 → left.two.left ≡ 0 → going op bs cs s ≡ []
+    passing-all p q = g.same ∙ rw (p, q)
 
 -- ---- all marks
 
--- what a turn tells: its mark, if it is one of the result, and those behind it
-abbrev pub told : (Bool → Bool → Bool) → List ℕ → List ℕ → Turn → List ℕ
-told op bs cs t = flipped t.flips t.mark (going op bs cs t.sides)
-
-abbrev pub weight : Turn → ℕ
-weight t = one_if t.flips + left_of t.sides
-
--- so many of the marks `all` are written, and what is left is told by the next turn
-pub record Putting (op : Bool → Bool → Bool) (bs cs all : List ℕ) (most : ℕ) (l₀ : List ℕ) (at : ℕ) (next : Turn) (out : List ℕ) (count : ℕ) : Type 0 where
-  pub whole : length all ≡ count + length (told op bs cs next)
-  pub goes_on : (l : List ℕ) (r : ℕ) → WhereFits out (at + 8 * count) (marks_bytes (told op bs cs next)) l r → WhereFits l₀ at (marks_bytes all) l r
-  pub none : next.flips ≡ false → going op bs cs next.sides ≡ []
-  pub sides : SidesAre bs cs next.sides
-  pub few : count + weight next ≤ most
+-- so many of them are written, and the others are left
+pub record Putting (op : Bool → Bool → Bool) (bs cs : List ℕ) (s : Sides) (l₀ : List ℕ) (at : ℕ) (left : Sides) (out : List ℕ) (count : ℕ) : Type 0 where
+  pub whole : length (going op bs cs s) ≡ count + length (going op bs cs left)
+  pub goes_on : (l : List ℕ) (r : ℕ) → WhereFits out (at + 8 * count) (marks_bytes (going op bs cs left)) l r
+      → WhereFits l₀ at (marks_bytes (going op bs cs s)) l r
+  pub sides : SidesAre bs cs left
+  pub few : count + left_of left ≤ left_of s
   pub still : count ≡ 0 → out ≡ l₀
 
 put-nothing : (l : List ℕ) (at : ℕ) → WhereFits l at (marks_bytes []) l at
@@ -264,39 +260,33 @@ put-nothing l at = record { placed = λ _. nothing_placed l at }
 eight : {l l' : List ℕ} {at r : ℕ} (m : ℕ) → WhereFits l at (le_bytes 8 m) l' r → WhereFits l at (le_bytes 8 m) l' (at + 8)
 eight m p = record { placed = λ room. record { holds = (p.placed room).holds; ends = rw (length-le_bytes 8 m) } }
 
-module _ (op : Bool → Bool → Bool) (bs cs : List ℕ) (l₀ : List ℕ) (at : ℕ) where
-  pub putting-none : (s : Sides) (t : Turn) → NextIs op bs cs s t → Putting op bs cs (told op bs cs t) (weight t) l₀ at t l₀ 0
-  putting-none s t i =
+module _ (op : Bool → Bool → Bool) (bs cs : List ℕ) (s : Sides) (l₀ : List ℕ) (at : ℕ) where
+  pub putting-none : SidesAre bs cs s → Putting op bs cs s l₀ at s l₀ 0
+  putting-none i =
       let z : at + 8 * 0 ≡ at = omega arith in
-      record { whole = omega arith; goes_on = λ l r h. rw z at h; none = i.none; sides = i.sides; few = omega arith; still = λ _. refl }
+      record { whole = omega arith; goes_on = λ l r h. rw z at h; sides = i; few = omega arith; still = λ _. refl }
 
-  module _ (all : List ℕ) (most : ℕ) (next : Turn) (out : List ℕ) (count : ℕ) (g : Putting op bs cs all most l₀ at next out count) where
-    pub putting-turn : next.flips ≡ true → (t : Turn) → NextIs op bs cs next.sides t → (out' : List ℕ) (r : ℕ)
-        → WhereFits out (at + 8 * count) (le_bytes 8 next.mark) out' r → Putting op bs cs all most l₀ at t out' (count + 1)
+  module _ (left : Sides) (out : List ℕ) (count : ℕ) (g : Putting op bs cs s l₀ at left out count) where
+    pub putting-turn : (next : Step) → NextStep op bs cs left next → (out' : List ℕ) (r : ℕ)
+        → WhereFits out (at + 8 * count) (le_bytes 8 next.mark) out' r → Putting op bs cs s l₀ at next.sides out' (count + 1)
     unfolding marks_bytes
-    putting-turn e t i out' r p =
-        let w = rw (e, i.goes) at g.whole in
-        let f = rw e at g.few in
+    putting-turn next i out' r p =
         let z : at + 8 * count + 8 ≡ at + 8 * (count + 1) = omega arith in
         record {
-          whole = omega (arith, w);
-          goes_on = λ l q h. g.goes_on l q (rw (e, i.goes) (eight next.mark p also (rw (← z) at h)));
-          none = i.none;
+          whole = omega (arith, g.whole, ap length i.goes);
+          goes_on = λ l q h. g.goes_on l q (rw i.goes (eight next.mark p also (rw (← z) at h)));
           sides = i.sides;
-          few = omega (arith, f, i.less);
+          few = omega (arith, g.few, i.less);
           still = λ y. absurd (omega arith);
         }
 
-    pub putting-all : next.flips ≡ false → (s : Sides) → going op bs cs s ≡ all → most ≤ left_of s → MarksPut (going op bs cs s) (left_of s) l₀ at out count
-    putting-all last s e few =
-        let none = g.none last in
-        let w = rw (last, none) at g.whole in
-        record {
-          counted = rw e (omega (arith, w));
-          few = omega (arith, g.few);
-          fits = rw e (g.goes_on out (at + 8 * count) (rw (last, none) (put-nothing out (at + 8 * count))));
-          none = g.still;
-        }
+    pub putting-all : going op bs cs left ≡ [] → MarksPut (going op bs cs s) (left_of s) l₀ at out count
+    putting-all none = record {
+      counted = omega (arith, g.whole, ap length none);
+      few = omega (arith, g.few);
+      fits = g.goes_on out (at + 8 * count) (rw none (put-nothing out (at + 8 * count)));
+      none = g.still;
+    }
 
 -- ---- a key that only one of the sets has
 

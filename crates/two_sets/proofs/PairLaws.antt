@@ -9,8 +9,8 @@ use lib.ListN.{length}
 use Rattle.misc.specs.Parse.{part}
 use Rattle.packets.specs.Gno.{Interval}
 use Rattle.packets.specs.Key.{Key, order, or_else, order_read}
-use Rattle.packets.specs.declared.KeyOrder.{KeyOrder}
-use Rattle.packets.specs.declared.KeyOrder.TheVariants.{Before, Same, After}
+use Rattle.std.specs.declared.cmp.Ordering as cmp
+use Rattle.std.specs.declared.cmp.Ordering.TheVariants.{Less, Equal, Greater}
 use Rattle.packets.proofs.Keys.{flip, order-eq, order_flip, order-append}
 use Rattle.previous_gtids_event.specs.Entry.{entry}
 use Rattle.gtid_sets.specs.Combine.{marks, swept, keep, combined}
@@ -96,10 +96,10 @@ module _ (bs cs : List ℕ) (c : Cursors) (i : CursorsAre bs cs c) (p q : EntryP
   second-marked = marks-at q.count cs q.first
 
   -- what is made of the next entries, by the order of their keys
-  abbrev pair_of : KeyOrder → Pair
-  pair_of Before = of_first c p
-  pair_of Same = of_both c p q
-  pair_of After = of_second c q
+  abbrev next_of : cmp.Ordering → Pair
+  next_of Less = of_first c p
+  next_of Equal = of_both c p q
+  next_of Greater = of_second c q
 
   abbrev in_first : 0 < c.first.left → Ahead bs c.first p
   in_first some = ahead bs c.first p i.first some tp
@@ -175,32 +175,32 @@ module _ (bs cs : List ℕ) (c : Cursors) (i : CursorsAre bs cs c) (p q : EntryP
       first_list second_list (entries_left bs (beyond_of c.first p)) (entries_left cs (beyond_of c.second q)) (order_flip first_key second_key ∙ ap flip e)))
 
   -- the first set has the next uuid alone, or the second
-  pub first_next : UuidNext bs cs c Before → Moves p × PairIs bs cs c (of_first c p)
+  pub first_next : UuidNext bs cs c Less → Moves p × PairIs bs cs c (of_first c p)
   first_next (some, inl gone) = (few bs c.first p (in_first some), alone-first some (λ op. rw (none_ahead cs c.second gone)))
   first_next (some, inr (more, e)) = (few bs c.first p (in_first some), before some more (keys-order some more ∙ rw e))
 
-  pub second-next : UuidNext bs cs c After → Moves q × PairIs bs cs c (of_second c q)
+  pub second-next : UuidNext bs cs c Greater → Moves q × PairIs bs cs c (of_second c q)
   second-next (more, inl gone) = (few cs c.second q (in_second more), alone-second more (λ op. rw (none_ahead bs c.first gone)))
   second-next (more, inr (some, e)) = (few cs c.second q (in_second more), after some more (keys-order some more ∙ rw e))
 
   -- both have it
-  module _ (n : UuidNext bs cs c Same) where
+  module _ (n : UuidNext bs cs c Equal) where
     pub tags-inside : (p.tag_at + p.tag_len ≤ length bs) × (q.tag_at + q.tag_len ≤ length cs)
     tags-inside = ((in_first n.0).tag_inside, (in_second n.1).tag_inside)
 
     pub both-move : Moves p × Moves q
     both-move = (few bs c.first p (in_first n.0), few cs c.second q (in_second n.1))
 
-    by_tags : (o : Ordering) → tags_order bs cs p q ≡ o → PairIs bs cs c (pair_of (order_read o))
+    by_tags : (o : Ordering) → tags_order bs cs p q ≡ o → PairIs bs cs c (next_of (order_read o))
     by_tags Ordering.lt e = before n.0 n.1 (keys-order n.0 n.1 ∙ rw (n.2, e))
     by_tags Ordering.eq e = both-have n.0 n.1 (order-eq first_key second_key (keys-order n.0 n.1 ∙ rw (n.2, e)))
     by_tags Ordering.gt e = after n.0 n.1 (keys-order n.0 n.1 ∙ rw (n.2, e))
 
-    pub tags-say : (r : KeyOrder) → r ≡ order_read (tags_order bs cs p q) → PairIs bs cs c (pair_of r)
+    pub tags-say : (r : cmp.Ordering) → r ≡ order_read (tags_order bs cs p q) → PairIs bs cs c (next_of r)
     tags-say r told = rw told (by_tags (tags_order bs cs p q) refl)
 
 -- the order of two uuids
-pub uuids-say : (bs cs : List ℕ) (c : Cursors) → 0 < c.first.left → 0 < c.second.left → (r : KeyOrder)
+pub uuids-say : (bs cs : List ℕ) (c : Cursors) → 0 < c.first.left → 0 < c.second.left → (r : cmp.Ordering)
     → r ≡ order_read (uuids_order bs cs c) → UuidNext bs cs c r
 uuids-say bs cs c some more r told = rw told (go (uuids_order bs cs c) refl)
   where

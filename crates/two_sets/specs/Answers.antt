@@ -1,18 +1,17 @@
 -- What the calls over two sets answer, and what they write.
-use Rattle.std.specs.Prelude.{ℕ, ◌≤◌, ◌≡◌, ◌⊎◌, Bool, false, List, []}
+use Rattle.std.specs.Prelude.{ℕ, ◌≤◌, ◌≡◌, ◌⊎◌, Bool, List, [], Result, Ok, Err}
 use Rattle.misc.specs.Pick.{pick}
-use Rattle.misc.specs.Refusal.{number, not_a_set, diverged}
+use Rattle.misc.specs.declared.refusal.Refusal.{Refusal}
+use Rattle.misc.specs.declared.refusal.WriteError.{WriteError}
+use Rattle.misc.specs.Refusal.{not_a_set, diverged}
 use Rattle.misc.specs.Output.{Output, refused, output_of, answer_of}
-use Rattle.misc.specs.declared.Wrote.{Wrote}
 use Rattle.previous_gtids_event.specs.Entry.{Entry}
 use Rattle.gtid_sets.specs.Combine.{combined, subset}
 use Rattle.gtid_sets.specs.Lent.{Lent, form, unfit, lent_set}
 use Rattle.set_join.specs.Answers.{saved}
-use Rattle.two_sets.specs.declared.AllWithin.{AllWithin}
 use Rattle.two_sets.specs.declared.Choice.{Choice}
-use Rattle.two_sets.specs.declared.Choice.TheVariants.{First, Second, Refused}
+use Rattle.two_sets.specs.declared.Choice.TheVariants.{First, Second}
 use Rattle.two_sets.specs.declared.Cursors.{Cursors}
-use Rattle.two_sets.specs.declared.Beginning.{Beginning}
 use Rattle.set_check.specs.Cursor.{entries_left}
 use Rattle.two_sets.specs.Pairs.{CursorsAre, places_of_both}
 
@@ -25,7 +24,7 @@ combined_output op (form s) unfit = refused not_a_set
 combined_output op (form s) (form t) = saved (combined op s t)
 
 -- what a call answers, lent two sets and an output, and what it leaves in the output
-abbrev pub combine_answers : (Bool → Bool → Bool) → List ℕ → List ℕ → List ℕ → Wrote
+abbrev pub combine_answers : (Bool → Bool → Bool) → List ℕ → List ℕ → List ℕ → Result ℕ WriteError
 combine_answers op first second out = answer_of out (combined_output op (lent_set first) (lent_set second))
 
 abbrev pub combine_leaves : (Bool → Bool → Bool) → List ℕ → List ℕ → List ℕ → List ℕ
@@ -33,36 +32,36 @@ combine_leaves op first second out = output_of out (combined_output op (lent_set
 
 -- ---- `within`
 
-abbrev pub within_read : Lent → Lent → AllWithin
-within_read unfit t = record { refusal = number not_a_set; all = false }
-within_read (form s) unfit = record { refusal = number not_a_set; all = false }
-within_read (form s) (form t) = record { refusal = 0; all = subset s t }
+abbrev pub within_read : Lent → Lent → Result Bool Refusal
+within_read unfit t = Err not_a_set
+within_read (form s) unfit = Err not_a_set
+within_read (form s) (form t) = Ok (subset s t)
 
-abbrev pub within_answers : List ℕ → List ℕ → AllWithin
+abbrev pub within_answers : List ℕ → List ℕ → Result Bool Refusal
 within_answers first second = within_read (lent_set first) (lent_set second)
 
 -- ---- `which` and `head`
 
 -- the first, if it has all ids of the second; else the second, if it has all of the first; else neither is
-abbrev pub head_read : Lent → Lent → Choice
-head_read unfit t = Refused (number not_a_set)
-head_read (form s) unfit = Refused (number not_a_set)
-head_read (form s) (form t) = pick (subset t s) First (pick (subset s t) Second (Refused (number diverged)))
+abbrev pub head_read : Lent → Lent → Result Choice Refusal
+head_read unfit t = Err not_a_set
+head_read (form s) unfit = Err not_a_set
+head_read (form s) (form t) = pick (subset t s) (Ok First) (pick (subset s t) (Ok Second) (Err diverged))
 
-abbrev pub which_answers : List ℕ → List ℕ → Choice
+abbrev pub which_answers : List ℕ → List ℕ → Result Choice Refusal
 which_answers first second = head_read (lent_set first) (lent_set second)
 
 -- the bytes of the part that is handed back: all of the lent ones, or none
-abbrev pub part_of : Choice → List ℕ → List ℕ → List ℕ
-part_of First first second = first
-part_of Second first second = second
-part_of (Refused r) first second = []
+abbrev pub part_of : Result Choice Refusal → List ℕ → List ℕ → List ℕ
+part_of (Ok First) first second = first
+part_of (Ok Second) first second = second
+part_of (Err r) first second = []
 
 -- and where it stands in memory: where the lent ones do, an empty part where the first do
-abbrev pub place_of : Choice → ℕ × ℕ → ℕ × ℕ → ℕ × ℕ
-place_of First first second = first
-place_of Second first second = second
-place_of (Refused r) first second = first
+abbrev pub place_of : Result Choice Refusal → ℕ × ℕ → ℕ × ℕ → ℕ × ℕ
+place_of (Ok First) first second = first
+place_of (Ok Second) first second = second
+place_of (Err r) first second = first
 
 -- ---- inside
 
@@ -77,6 +76,7 @@ pub record BothLent (bs cs : List ℕ) (c : Cursors) : Type 0 where
   pub cursors : CursorsAre bs cs c
   pub far : 8 ≤ places_of_both c
 
-pub record BeginningIs (bs cs : List ℕ) (r : Beginning) : Type 0 where
-  pub lent : r.refusal ≡ 0 → BothLent bs cs r.from
-  pub unfit : (r.refusal ≡ 0 → ⊥) → (r.refusal ≡ 14) × OneUnfit bs cs
+-- where the walk over two sets begins, or one of them is none
+abbrev pub Begins : List ℕ → List ℕ → Result Cursors Refusal → Type 0
+Begins bs cs (Ok c) = BothLent bs cs c
+Begins bs cs (Err r) = (r ≡ not_a_set) × OneUnfit bs cs

@@ -1,20 +1,11 @@
 -- The marks of two entries, as they stand in the bytes of two sets, and how the sweep goes over them.
-use Rattle.std.specs.Prelude.{ℕ, zero, suc, ◌+◌, ◌-◌, ◌*◌, ◌^◌, ◌<◌, ◌≤◌, ◌≡◌, Bool, true, false, List, [], ◌∷◌, ◌++◌, length}
+use Rattle.std.specs.Prelude.{ℕ, zero, suc, ◌+◌, ◌-◌, ◌*◌, ◌^◌, ◌<◌, ◌≤◌, ◌≡◌, Bool, true, false, List, [], ◌∷◌, ◌++◌, length, Option, Some, None}
 use Rattle.misc.specs.Le.{le_bytes, number_at}
 use Rattle.misc.specs.Output.{WhereFits}
-use Rattle.gtid_sets.specs.Combine.{either, both, without, is_open, mark, keeps, sweep, Rising}
-use Rattle.two_sets.specs.declared.Operation.{Operation}
-use Rattle.two_sets.specs.declared.Operation.TheVariants as operation
+use Rattle.gtid_sets.specs.Combine.{is_open, mark, keeps, sweep, Rising}
 use Rattle.two_sets.specs.declared.Side.{Side}
 use Rattle.two_sets.specs.declared.Sides.{Sides}
 use Rattle.two_sets.specs.declared.Step.{Step}
-use Rattle.two_sets.specs.declared.Turn.{Turn}
-
--- what each operation says of an id
-abbrev pub said_by : Operation → Bool → Bool → Bool
-said_by operation.Either = either
-said_by operation.Both = both
-said_by operation.Without = without
 
 -- n numbers from a place on
 abbrev pub marks_at : ℕ → List ℕ → ℕ → List ℕ
@@ -54,15 +45,6 @@ abbrev pub all_if : Bool → List ℕ → List ℕ
 all_if true ms = ms
 all_if false ms = []
 
--- a mark in front, if it is one of the result
-abbrev pub flipped : Bool → ℕ → List ℕ → List ℕ
-flipped true m ms = m ∷ ms
-flipped false m ms = ms
-
-abbrev pub one_if : Bool → ℕ
-one_if true = 1
-one_if false = 0
-
 -- marks stand there, and rise
 pub record SideIs (bs : List ℕ) (s : Side) : Type 0 where
   pub there : s.at + 8 * s.left ≤ length bs
@@ -82,18 +64,16 @@ pub record StepIs (bs cs : List ℕ) (s : Sides) (r : Step) : Type 0 where
   pub sides : SidesAre bs cs r.sides
   pub less : left_of r.sides < left_of s
 
--- the same for an operation
-pub record TurnIs (op : Bool → Bool → Bool) (bs cs : List ℕ) (s : Sides) (r : Turn) : Type 0 where
-  pub goes : going op bs cs s ≡ flipped r.flips r.mark (going op bs cs r.sides)
+-- marks are passed up to the next one of the result
+pub record NextStep (op : Bool → Bool → Bool) (bs cs : List ℕ) (s : Sides) (r : Step) : Type 0 where
+  pub goes : going op bs cs s ≡ r.mark ∷ going op bs cs r.sides
   pub sides : SidesAre bs cs r.sides
   pub less : left_of r.sides < left_of s
 
--- marks are passed up to the next one of the result, or all of them
-pub record NextIs (op : Bool → Bool → Bool) (bs cs : List ℕ) (s : Sides) (r : Turn) : Type 0 where
-  pub goes : going op bs cs s ≡ flipped r.flips r.mark (going op bs cs r.sides)
-  pub none : r.flips ≡ false → going op bs cs r.sides ≡ []
-  pub sides : SidesAre bs cs r.sides
-  pub less : one_if r.flips + left_of r.sides ≤ left_of s
+-- or all of them
+abbrev pub NextIs : (Bool → Bool → Bool) → List ℕ → List ℕ → Sides → Option Step → Type 0
+NextIs op bs cs s None = going op bs cs s ≡ []
+NextIs op bs cs s (Some r) = NextStep op bs cs s r
 
 -- ---- writing
 

@@ -1,11 +1,11 @@
 -- The entries of two sets, one key after another, as they stand in the bytes.
 use Prim.Native.Nat.{ℕ, ◌+◌, ◌*◌, ◌^◌, ◌<◌, ◌≤◌, Ordering}
-use Rattle.std.specs.Prelude.{◌≡◌, ◌⊎◌, Bool, true, false, List, ◌++◌, length}
+use Rattle.std.specs.Prelude.{◌≡◌, ◌⊎◌, Bool, true, false, List, ◌++◌, length, Option, Some, None}
 use Rattle.misc.specs.Pick.{pick}
 use Rattle.misc.specs.Parse.{part}
 use Rattle.packets.specs.Key.{Key, order}
-use Rattle.packets.specs.declared.KeyOrder.{KeyOrder}
-use Rattle.packets.specs.declared.KeyOrder.TheVariants.{Before, Same, After}
+use Rattle.std.specs.declared.cmp.Ordering as cmp
+use Rattle.std.specs.declared.cmp.Ordering.TheVariants.{Less, Equal, Greater}
 use Rattle.previous_gtids_event.specs.Entry.{Entry}
 use Rattle.previous_gtids_event.specs.Previous.{GoodKey}
 use Rattle.gtid_sets.specs.Combine.{spans, keep, combined}
@@ -44,10 +44,10 @@ abbrev pub tags_order : List ℕ → List ℕ → EntryPlace → EntryPlace → 
 tags_order bs cs p q = order (part bs p.tag_at p.tag_len) (part cs q.tag_at q.tag_len)
 
 -- which of two sets has the next uuid: the first, both or the second; where one has no entry left, the other has it
-abbrev pub UuidNext : List ℕ → List ℕ → Cursors → KeyOrder → Type 0
-UuidNext bs cs c Before = (0 < c.first.left) × ((c.second.left ≡ 0) ⊎ ((0 < c.second.left) × (uuids_order bs cs c ≡ Ordering.lt)))
-UuidNext bs cs c Same = (0 < c.first.left) × (0 < c.second.left) × (uuids_order bs cs c ≡ Ordering.eq)
-UuidNext bs cs c After = (0 < c.second.left) × ((c.first.left ≡ 0) ⊎ ((0 < c.first.left) × (uuids_order bs cs c ≡ Ordering.gt)))
+abbrev pub UuidNext : List ℕ → List ℕ → Cursors → cmp.Ordering → Type 0
+UuidNext bs cs c Less = (0 < c.first.left) × ((c.second.left ≡ 0) ⊎ ((0 < c.second.left) × (uuids_order bs cs c ≡ Ordering.lt)))
+UuidNext bs cs c Equal = (0 < c.first.left) × (0 < c.second.left) × (uuids_order bs cs c ≡ Ordering.eq)
+UuidNext bs cs c Greater = (0 < c.second.left) × ((c.first.left ≡ 0) ⊎ ((0 < c.first.left) × (uuids_order bs cs c ≡ Ordering.gt)))
 
 abbrev pub side_of : EntryPlace → Side
 side_of p = record { at = p.first; left = 2 * p.count }
@@ -58,30 +58,33 @@ no_side = record { at = 0; left = 0 }
 abbrev pub key_place : Bool → Cursor → EntryPlace → KeyPlace
 key_place first c p = record { of_first = first; at = c.at; tag_at = p.tag_at; tag_len = p.tag_len }
 
--- the next key is in the first set alone, in the second alone, or in both
-abbrev pub of_first : Cursors → EntryPlace → Pair
-of_first c p =
+-- the marks of an entry, and the entries behind it, where a set has one
+abbrev pub side_in : Option EntryPlace → Side
+side_in None = no_side
+side_in (Some p) = side_of p
+
+abbrev pub behind : Cursor → Option EntryPlace → Cursor
+behind c None = c
+behind c (Some p) = beyond_of c p
+
+-- the next key, by the entry of it that either set has
+abbrev pub pair_of : KeyPlace → Cursors → Option EntryPlace → Option EntryPlace → Pair
+pair_of k c p q =
     record {
-      key = key_place true c.first p;
-      sides = record { one = side_of p; two = no_side };
-      after = record { first = beyond_of c.first p; second = c.second };
+      key = k;
+      sides = record { one = side_in p; two = side_in q };
+      after = record { first = behind c.first p; second = behind c.second q };
     }
+
+-- it is in the first set alone, in the second alone, or in both
+abbrev pub of_first : Cursors → EntryPlace → Pair
+of_first c p = pair_of (key_place true c.first p) c (Some p) None
 
 abbrev pub of_second : Cursors → EntryPlace → Pair
-of_second c q =
-    record {
-      key = key_place false c.second q;
-      sides = record { one = no_side; two = side_of q };
-      after = record { first = c.first; second = beyond_of c.second q };
-    }
+of_second c q = pair_of (key_place false c.second q) c None (Some q)
 
 abbrev pub of_both : Cursors → EntryPlace → EntryPlace → Pair
-of_both c p q =
-    record {
-      key = key_place true c.first p;
-      sides = record { one = side_of p; two = side_of q };
-      after = record { first = beyond_of c.first p; second = beyond_of c.second q };
-    }
+of_both c p q = pair_of (key_place true c.first p) c (Some p) (Some q)
 
 -- its intervals aren't many
 abbrev pub Moves : EntryPlace → Type 0

@@ -4,9 +4,8 @@ use Rattle.misc.specs.Pick.{pick}
 use Rattle.previous_gtids_event.specs.Entry.{Entry}
 use Rattle.previous_gtids_event.specs.Rewrite.{entries_bytes, any_tag, head_run}
 use Rattle.gtid_sets.specs.Limits.{intervals, over, crowds}
-use Rattle.two_sets.specs.Marks.{said_by, going, marks_bytes}
+use Rattle.two_sets.specs.Marks.{going, marks_bytes}
 use Rattle.two_sets.specs.Pairs.{uuid_in, tag_in}
-use Rattle.two_sets.specs.declared.Work.{Work}
 use Rattle.two_sets.specs.declared.Pair.{Pair}
 use Rattle.two_sets.specs.declared.Made.{Made}
 
@@ -21,8 +20,8 @@ kept_run w uuid tag [] = []
 kept_run w uuid tag (m ∷ ms) = head_run uuid w tag (length (m ∷ ms) / 2) ++ marks_bytes (m ∷ ms)
 
 -- the next entry of a result
-abbrev pub entry_run : Work → List ℕ → List ℕ → Pair → List ℕ
-entry_run work bs cs p = kept_run work.tags (uuid_in bs cs p.key) (tag_in bs cs p.key) (going (said_by work.operation) bs cs p.sides)
+abbrev pub entry_run : (Bool → Bool → Bool) → Bool → List ℕ → List ℕ → Pair → List ℕ
+entry_run op w bs cs p = kept_run w (uuid_in bs cs p.key) (tag_in bs cs p.key) (going op bs cs p.sides)
 
 -- ---- how large a result is
 

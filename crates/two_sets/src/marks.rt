@@ -1,25 +1,12 @@
 // The sweep over the marks of two entries: it passes them in their order, and those at which the operation's answer turns over are the
 // marks of the result.
-ghost use Rattle.std.specs.Prelude.{◌≡◌, true, ◌+◌, ◌*◌, ◌%◌, ◌^◌, ◌<◌, min, eqb};
-ghost use Rattle.two_sets.specs.Marks.{said_by, marks_of, next_mark, passed_side, left_of, going, all_if, SideIs, SidesAre, StepIs, TurnIs, NextIs, MarksPut};
+ghost use Rattle.std.specs.Prelude.{◌≡◌, true, ◌+◌, ◌*◌, ◌%◌, ◌^◌, ◌<◌, eqb};
+ghost use Rattle.two_sets.specs.Marks.{marks_of, next_mark, passed_side, left_of, going, all_if, SideIs, SidesAre, StepIs, NextIs, MarksPut};
 
-use crate::{Operation, Side, Sides, Step, Turn};
+use crate::operation::Operation;
+use crate::{Side, Sides, Step};
 use misc::le::number_at;
 use misc::put::{put_bytes, put_u64_le};
-
-// Above all marks.
-const NO_MARK: u64 = 0xffff_ffff_ffff_ffff;
-
-// Whether an id is kept that is in the first set or not, and in the second or not.
-fn is_kept(operation: Operation, x: bool, y: bool) -> bool
-    ensures { result ≡ said_by operation x y }
-{
-    match operation {
-        Operation::Either => x | y,
-        Operation::Both => x & y,
-        Operation::Without => x & !y,
-    }
-}
 
 // Whether the numbers before the marks are in: a mark begins what the next one ends.
 pub(crate) fn is_open(side: Side) -> bool
@@ -28,11 +15,12 @@ pub(crate) fn is_open(side: Side) -> bool
     side.left % 2 == 1
 }
 
+// The next mark, or a number above all.
 fn mark_at(set: &[u8], side: Side) -> u64
     ensures { result ≡ next_mark (marks_of set.now side) }
 {
     if side.left == 0 {
-        return NO_MARK;
+        return u64::MAX;
     }
     number_at(set, side.at)
 }
@@ -51,15 +39,6 @@ fn passed(side: Side, passes: bool) -> Side
     side
 }
 
-fn lower(m: u64, n: u64) -> u64
-    ensures { result ≡ min m n }
-{
-    if m <= n {
-        return m;
-    }
-    n
-}
-
 // Passes the next mark of two sides; one that both have is passed on both.
 pub(crate) fn step(first: &[u8], second: &[u8], sides: Sides) -> Step
     requires sides_are { SidesAre first.now second.now sides }
@@ -73,45 +52,33 @@ pub(crate) fn step(first: &[u8], second: &[u8], sides: Sides) -> Step
             one: passed(sides.one, m <= n),
             two: passed(sides.two, n <= m),
         },
-        mark: lower(m, n),
+        mark: m.min(n),
     }
 }
 
-// The next mark of two sides, and whether it is one of the result: what is kept before it and behind it differs.
-fn turn(operation: Operation, first: &[u8], second: &[u8], sides: Sides) -> Turn
-    requires sides_are { SidesAre first.now second.now sides }
-    requires sides_nonzero { 0 < left_of sides }
-    ensures { TurnIs (said_by operation) first.now second.now sides result }
+// Whether the numbers before the next marks are kept.
+fn keeps_now<O: Operation>(sides: Sides) -> bool
+    ensures { result ≡ O.op (eqb (sides.one.left % 2) 1) (eqb (sides.two.left % 2) 1) }
 {
-    let next = step(first, second, sides);
-    let left = next.sides;
-    let before = is_kept(operation, is_open(sides.one), is_open(sides.two));
-    let behind = is_kept(operation, is_open(left.one), is_open(left.two));
-    Turn {
-        sides: left,
-        flips: (before & !behind) | (!before & behind),
-        mark: next.mark,
-    }
+    O::keeps(is_open(sides.one), is_open(sides.two))
 }
 
-// The next mark of the result, if there is one.
-pub(crate) fn next_mark(operation: Operation, first: &[u8], second: &[u8], sides: Sides) -> Turn
+// Passes marks up to the next one of the result, if there is one: what is kept before it and behind it differs.
+pub(crate) fn next_mark<O: Operation>(first: &[u8], second: &[u8], sides: Sides) -> Option<Step>
     requires { SidesAre first.now second.now sides }
-    ensures { NextIs (said_by operation) first.now second.now sides result }
+    ensures { NextIs O.op first.now second.now sides result }
 {
     let mut left = sides;
+    // a walk over the marks of two sides, whichever is next: no index is counted
     while (0 < left.one.left) | (0 < left.two.left) {
-        let next = turn(operation, first, second, left);
-        if next.flips {
-            return next;
+        let next = step(first, second, left);
+        let behind = next.sides;
+        if keeps_now::<O>(left) != keeps_now::<O>(behind) {
+            return Some(next);
         }
-        left = next.sides;
+        left = behind;
     }
-    Turn {
-        sides: left,
-        flips: false,
-        mark: 0,
-    }
+    None
 }
 
 // Writes the marks of an entry whose key the other set doesn't have from a place on, where there is room, if they are kept: then all of
@@ -130,8 +97,7 @@ fn put_alone(kept: bool, set: &[u8], side: Side, out: &mut [u8], at: usize) -> u
 }
 
 // The same for a key that both sets have, by the sweep.
-fn put_swept(
-    operation: Operation,
+fn put_swept<O: Operation>(
     first: &[u8],
     second: &[u8],
     sides: Sides,
@@ -140,22 +106,20 @@ fn put_swept(
 ) -> usize
     requires sides_are { SidesAre first.now second.now sides }
     requires sides_bound { at + 8 * left_of sides < 2 ^ 64 }
-    ensures { MarksPut (going (said_by operation) first.now second.now sides) (left_of sides)
-        out.old at out.new result }
+    ensures { MarksPut (going O.op first.now second.now sides) (left_of sides) out.old at out.new result }
 {
-    let mut count: usize = 0;
-    let mut next = next_mark(operation, first, second, sides);
-    while next.flips {
+    let mut count = 0;
+    let mut left = sides;
+    while let Some(next) = next_mark::<O>(first, second, left) {
         put_u64_le(next.mark, out, at + 8 * count);
         count += 1;
-        next = next_mark(operation, first, second, next.sides);
+        left = next.sides;
     }
     count
 }
 
 // Writes the marks of the result from a place of the output on, where there is room, and returns how many there are, room or not.
-pub(crate) fn put_marks(
-    operation: Operation,
+pub(crate) fn put_marks<O: Operation>(
     first: &[u8],
     second: &[u8],
     sides: Sides,
@@ -164,18 +128,13 @@ pub(crate) fn put_marks(
 ) -> usize
     requires sides_are { SidesAre first.now second.now sides }
     requires sides_bound { at + 8 * left_of sides < 2 ^ 64 }
-    ensures { MarksPut (going (said_by operation) first.now second.now sides) (left_of sides)
-        out.old at out.new result }
+    ensures { MarksPut (going O.op first.now second.now sides) (left_of sides) out.old at out.new result }
 {
-    let one = sides.one;
-    let two = sides.two;
-    if two.left == 0 {
-        let kept = is_kept(operation, true, false);
-        return put_alone(kept, first, one, out, at);
+    if sides.two.left == 0 {
+        return put_alone(O::keeps(true, false), first, sides.one, out, at);
     }
-    if one.left == 0 {
-        let kept = is_kept(operation, false, true);
-        return put_alone(kept, second, two, out, at);
+    if sides.one.left == 0 {
+        return put_alone(O::keeps(false, true), second, sides.two, out, at);
     }
-    put_swept(operation, first, second, sides, out, at)
+    put_swept::<O>(first, second, sides, out, at)
 }

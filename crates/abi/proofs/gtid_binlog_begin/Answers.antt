@@ -6,7 +6,7 @@ as_value_reader_after : {A B : Type 0} → A × B → record { value : A; reader
 as_value_reader_after p = record { value = p.0; reader_after = p.1 }
 
 pub returns-then-reader-ne-READER_SIZE : goal.returns-then-reader-ne-READER_SIZE
-returns-then-reader-ne-READER_SIZE c = as_value_reader_after (no_reader c.args.reader.now c.if-reader-ne-READER_SIZE.true _)
+returns-then-reader-ne-READER_SIZE c = as_value_reader_after (rw c.number.ensures (no_reader c.args.reader.now c.if-reader-ne-READER_SIZE.true _))
 
 pub returns : goal.returns
 returns c = as_value_reader_after (kept-told c.args.reader.now c.if-reader-ne-READER_SIZE.false _ _ _ _ c.begin-begun.ensures (

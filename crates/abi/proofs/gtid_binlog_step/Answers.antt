@@ -7,7 +7,7 @@ as_clauses p = record { value = p.0; reader_after = p.1.0; set_after = p.1.1.0; 
 
 pub returns-then-reader-ne-READER_SIZE : goal.returns-then-reader-ne-READER_SIZE
 returns-then-reader-ne-READER_SIZE c = as_clauses (let a = c.args in
-    step-none a.reader.now c.if-reader-ne-READER_SIZE.true _ _ a.set.now a.spare.now a.work.now)
+    rw c.number.ensures (step-none a.reader.now c.if-reader-ne-READER_SIZE.true _ _ a.set.now a.spare.now a.work.now))
 
 pub returns : goal.returns
 returns c = as_clauses (let a = c.args in

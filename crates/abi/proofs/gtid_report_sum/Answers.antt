@@ -10,7 +10,7 @@ as_clauses : {A B C D E : Type 0} → A × (B × (C × (D × E))) → record { v
 as_clauses p = record { value = p.0; entries_after = p.1.0; intervals_after = p.1.1.0; high_after = p.1.1.1.0; low_after = p.1.1.1.1 }
 
 pub returns-then-report-ne-REPORT_SIZE : goal.returns-then-report-ne-REPORT_SIZE
-returns-then-report-ne-REPORT_SIZE c = as_clauses (sum-none c.args.report.now c.if-report-ne-REPORT_SIZE.true)
+returns-then-report-ne-REPORT_SIZE c = as_clauses (rw c.number.ensures (sum-none c.args.report.now c.if-report-ne-REPORT_SIZE.true))
 
 pub returns : goal.returns
 returns c = as_clauses (let a = c.args in

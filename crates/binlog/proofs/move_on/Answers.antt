@@ -1,5 +1,4 @@
 -- `binlog::move_on` meets its contract.
-use Rattle.binlog.proofs.HeldLaws.{end-moves}
 use Rattle.binlog.proofs.PhaseLaws.{opening-fit, skip-fit}
 use Rattle.binlog.proofs.move_on.Goals as goal
 
@@ -8,6 +7,3 @@ returns-in-Opening c = rw c.in-Opening.is (c.open_on.ensures.moves _ _ (opening-
 
 pub returns-in-Skip : goal.returns-in-Skip
 returns-in-Skip c = rw c.in-Skip.is (c.skip_on.ensures.moves _ _ (skip-fit _ c.in-Skip.is c.requires.0).1)
-
-pub returns-in-Ended : goal.returns-in-Ended
-returns-in-Ended c = end-moves _ _ _ _ _ c.in-Ended.is c.requires.2

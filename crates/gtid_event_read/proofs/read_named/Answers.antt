@@ -1,18 +1,15 @@
 -- `gtid_event_read::read_named` meets its contract.
 -- Assumes nothing.
 use mathlib.Core.Path.{◌∙◌}
+use Rattle.misc.proofs.ParseLaws.{handed-on}
 use Rattle.gtid_event_read.proofs.PresentLaws.{named-broken, named-sent, named-absent}
 use Rattle.gtid_event_read.proofs.read_named.Goals as goal
 
-pub returns-then-said-ne0 : goal.returns-then-said-ne0
-returns-then-said-ne0 c = let a = c.args in
-    named-broken a.event_type a.body.now c.read-said.result c.read-said.ensures c.if-said-ne0.true
+pub returns-in_err-said : goal.returns-in_err-said
+returns-in_err-said c = handed-on _ c.from_residual.ensures ∙ named-broken c.args.event_type c.args.body.now c.in_err-said.ensures
 
 pub returns-then-sends_id : goal.returns-then-sends_id
-returns-then-sends_id c = let a = c.args in
-    named-sent a.event_type a.body.now c.read-said.result c.read-said.ensures c.if-said-ne0.false c.sends_id.result c.sends_id.ensures c.if-sends_id.true
+returns-then-sends_id c = named-sent c.args.event_type c.args.body.now c.in_ok-said.ensures c.sends_id.ensures c.if-sends_id.true
 
 pub returns : goal.returns
-returns c = let a = c.args in
-    c.refused.ensures
-    ∙ named-absent a.event_type a.body.now c.read-said.result c.read-said.ensures c.if-said-ne0.false c.sends_id.result c.sends_id.ensures c.if-sends_id.false
+returns c = named-absent c.args.event_type c.args.body.now c.in_ok-said.ensures c.sends_id.ensures c.if-sends_id.false

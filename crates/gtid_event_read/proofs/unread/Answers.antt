@@ -1,44 +1,36 @@
 -- `gtid_event_read::unread` meets its contract: what was used ends in the body, so the rest is a part of it.
 -- Assumes nothing.
-use mathlib.Core.Path.{sym, ap, ◌∙◌}
+use mathlib.Core.Path.{sym, ap}
 use Prim.Native.Nat.{ℕ, ◌-◌, ◌≤◌}
 use native.Mathlib.Omega.{arith}
 use native.Mathlib.Nat.{zero-add}
-use lib.Seq.{take_all}
 use lib.ListN.{length, drop, length-drop}
-use Rattle.misc.specs.Body.{used_of, unread_of, onward}
-use Rattle.misc.specs.Parse.{Parse}
-use Rattle.gtid_event.specs.declared.GtidEvent.{GtidEvent}
-use Rattle.gtid_event_read.proofs.ReadLaws.{gtid-inside, gtid-said}
-use Rattle.gtid_event_read.proofs.Telling.{refused-by}
+use lib.Seq.{take_all}
+use Rattle.gtid_event_read.proofs.ReadLaws.{gtid-inside, gtid-said, gtid-stopped}
 use Rattle.gtid_event_read.proofs.unread.Goals as goal
+use Rattle.gtid_event_read.proofs.unread.Goals.{In-Ok}
 
-as_result_value_ref_ptr_value : {A B : Type 0} → A × B → record { result_value : A; ref_ptr_value : B }
-as_result_value_ref_ptr_value p = record { result_value = p.0; ref_ptr_value = p.1 }
-
-pub returns-then-refusal-ne0 : goal.returns-then-refusal-ne0
-returns-then-refusal-ne0 c = as_result_value_ref_ptr_value (let a = c.args in
-    let s = a.body.now in
-    let (x, e, n) = refused-by (gtid-said a.event_type s c.read-event.ensures) c.if-refusal-ne0.true in (
-      sym (ap (unread_of s) e),
-      sym (ap (λ (p : Parse GtidEvent). onward a.body.ref_ptr (used_of p)) e ∙ ap (λ (k : ℕ). (a.body.ref_ptr.0, k)) (zero-add a.body.ref_ptr.1)),
-    ))
+inside : (c : In-Ok) → c.in-Ok.said.used ≤ length c.args.body.now
+inside c = gtid-inside _ _ (gtid-said c.args.event_type c.args.body.now c.in-Ok.ensures)
 
 pub slice_bounds-result-count : goal.slice_bounds-result-count
-slice_bounds-result-count c = let inside : c.read-event.result.used ≤ length c.args.body.now = let a = c.args in
-    gtid-inside a.event_type a.body.now ((gtid-said a.event_type a.body.now c.read-event.ensures).found c.if-refusal-ne0.false) in
-    inside
+slice_bounds-result-count c = inside (goal.at.slice_bounds-result-count c).In-Ok
 
 pub slice_bounds-result-start : goal.slice_bounds-result-start
-slice_bounds-result-start c = let inside : c.read-event.result.used ≤ length c.args.body.now = let a = c.args in
-    gtid-inside a.event_type a.body.now ((gtid-said a.event_type a.body.now c.read-event.ensures).found c.if-refusal-ne0.false) in
-    inside
+slice_bounds-result-start c = inside (goal.at.slice_bounds-result-start c).In-Ok
 
-pub returns : goal.returns
-returns c = as_result_value_ref_ptr_value (let a = c.args in
-    let s = a.body.now in
-    let used = c.read-event.result.used in
-    let e = (gtid-said a.event_type s c.read-event.ensures).found c.if-refusal-ne0.false in (
-      take_all (length s - used) (drop used s) (simp length-drop (omega arith)) ∙ sym (ap (unread_of s) e),
-      sym (ap (λ (p : Parse GtidEvent). onward a.body.ref_ptr (used_of p)) e),
-    ))
+pub returns-in-Ok-clause-result_value : goal.returns-in-Ok-clause-result_value
+returns-in-Ok-clause-result_value c =
+    let s = c.args.body.now in
+    rw (gtid-said c.args.event_type s c.in-Ok.ensures, take_all (length s - c.in-Ok.said.used) (drop c.in-Ok.said.used s) (simp length-drop (omega arith)))
+
+pub returns-in-Ok-clause-ref_ptr_value : goal.returns-in-Ok-clause-ref_ptr_value
+returns-in-Ok-clause-ref_ptr_value c = rw (gtid-said c.args.event_type c.args.body.now c.in-Ok.ensures)
+
+pub returns-in-Err-clause-result_value : goal.returns-in-Err-clause-result_value
+returns-in-Err-clause-result_value c = rw (gtid-stopped c.args.event_type c.args.body.now c.in-Err.ensures)
+
+pub returns-in-Err-clause-ref_ptr_value : goal.returns-in-Err-clause-ref_ptr_value
+returns-in-Err-clause-ref_ptr_value c =
+    rw (gtid-stopped c.args.event_type c.args.body.now c.in-Err.ensures)
+    (sym (ap (λ (k : ℕ). (c.args.body.ref_ptr.0, k)) (zero-add c.args.body.ref_ptr.1)))

@@ -4,5 +4,5 @@ use native.Mathlib.Omega.{arith}
 use Rattle.gtid_report.proofs.ProgramLaws.{more-built}
 use Rattle.gtid_report.proofs.add_next.Goals as goal
 
-pub returns-then-got : goal.returns-then-got
-returns-then-got c = more-built c.requires.built c.with_file.ensures (simp length-take (omega arith))
+pub returns : goal.returns
+returns c = more-built c.requires.built c.with_file.ensures (simp length-take (omega arith))

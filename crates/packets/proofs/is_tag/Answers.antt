@@ -1,26 +1,14 @@
--- `packets::is_tag` meets its contract. At each `return` the tests that led there say what the tag rule says.
-use mathlib.Core.Path.{◌≡◌, sym}
-use mathlib.Core.Bool.{true, false}
-use native.Mathlib.Omega.{arith}
-use lib.ListN.{length, get_or}
-use borrow.Author.Tests.{le-leb, lt-leb}
-use Rattle.packets.specs.Tag.{is_digit}
+-- `packets::is_tag` meets its contract.
+use Rattle.std.proofs.Common.{sym, arith}
+use Rattle.std.proofs.lemmas.Bool.Decides.{nat_tests}
 use Rattle.packets.proofs.TagLaws.{no-bytes-no-tag, tag-some}
 use Rattle.packets.proofs.is_tag.Goals as goal
 
-pub returns-then-tag-eq0 : goal.returns-then-tag-eq0
-returns-then-tag-eq0 c = sym (no-bytes-no-tag _ c.if-tag-eq0.true)
+pub returns-in-empty : goal.returns-in-empty
+returns-in-empty c = sym (no-bytes-no-tag _ (omega arith))
 
-pub returns-then-tag-gt-MAX_TAG : goal.returns-then-tag-gt-MAX_TAG
-returns-then-tag-gt-MAX_TAG c = let t = c.args.tag.now in
-    rw (tag-some t (omega arith), lt-leb (length t) 32 (omega arith))
+pub returns-then-not-is_ascii_digit : goal.returns-then-not-is_ascii_digit
+returns-then-not-is_ascii_digit c = let rule = tag-some c.args.tag.now (omega arith) in grind (arith, nat_tests)
 
-pub returns-then-digit : goal.returns-then-digit
-returns-then-digit c = let t = c.args.tag.now in
-    let digit : is_digit (get_or t 0 0) ≡ true = c.if-digit.true in
-    rw (tag-some t (omega arith), le-leb (length t) 32 (omega arith), digit)
-
-pub returns : goal.returns
-returns c = let t = c.args.tag.now in
-    let other : is_digit (get_or t 0 0) ≡ false = c.if-digit.false in
-    rw (tag-some t (omega arith), le-leb (length t) 32 (omega arith), other) c.all_tag_bytes.ensures
+pub returns-else-not-is_ascii_digit : goal.returns-else-not-is_ascii_digit
+returns-else-not-is_ascii_digit c = let rule = tag-some c.args.tag.now (omega arith) in grind (arith, nat_tests)

@@ -1,25 +1,28 @@
-use Prim.Native.Nat.{◌+◌, ◌-◌}
+use Prim.Native.Nat.{suc, ◌+◌, ◌-◌}
 use native.Mathlib.Omega.{arith}
-use Rattle.previous_gtids_reader.proofs.StepLaws.{ahead-start, ahead-turn, ahead-still, ahead_none}
+use mathlib.Core.Path.{◌≡◌, refl, sym, ap, ◌∙◌}
+use Rattle.std.specs.Prelude.{Ok}
+use Rattle.misc.proofs.ParseLaws.{handed-on}
+use Rattle.previous_gtids_reader.proofs.StepLaws.{never-begun, ahead-still, ahead_none, begun-err, reader-start, reader-turn}
 use Rattle.previous_gtids_reader.proofs.entry_number.Goals as goal
 
-pub loop-done-init : goal.loop-done-init
-loop-done-init c = let a = c.args in (omega arith, ahead-start a.body.now a.index (a.index - 0) _ (omega arith) c.start-cursor.ensures)
+pub returns-in_err-reader : goal.returns-in_err-reader
+returns-in_err-reader c = handed-on _ c.from_residual.ensures ∙ never-begun _ _ (begun-err _ _ c.in_err-reader.ensures)
 
-pub loop-done-preserved : goal.loop-done-preserved
-loop-done-preserved c = let a = c.args in
-    let l = c.loop-done in (
-      omega arith,
-      ahead-turn a.body.now _ _ l.cursor l.invariant.1 (a.index - (l.done + 1)) (omega arith) _ c.step_from-step.ensures
-          c.if-step.true,
-    )
+pub loop-init : goal.loop-init
+loop-init c = let all : c.args.index - 0 ≡ c.args.index = omega arith in
+    rw all (reader-start _ _ c.in_ok-reader.ensures)
 
-pub returns-else-step : goal.returns-else-step
-returns-else-step c = let s = c.args.body.now in
-    let l = c.loop-done in
-    ahead-still s _ _ l.cursor l.invariant.1 _ c.step_from-step.ensures c.if-step.false
+pub returns-in_err-step : goal.returns-in_err-step
+returns-in_err-step c = handed-on _ c.from_residual-in_err-step.ensures
+    ∙ ahead-still _ _ _ c.loop.reader.cursor c.loop.invariant _ c.in_err-step.ensures refl
+
+pub returns-in-None : goal.returns-in-None
+returns-in-None c = ahead-still _ _ _ c.loop.reader.cursor c.loop.invariant _ (sym (ap Ok c.in-None.is) ∙ c.in_ok-step.ensures) refl
+
+pub loop-preserved : goal.loop-preserved
+loop-preserved c = let one : c.args.index - c.loop.counter ≡ suc (c.args.index - (c.loop.counter + 1)) = omega arith in
+    reader-turn _ _ _ c.loop.reader c.loop.invariant one (sym (ap Ok c.in-Some.is) ∙ c.in_ok-step.ensures) c.moved-reader.ensures
 
 pub returns : goal.returns
-returns c = let s = c.args.body.now in
-    let l = c.loop-done in
-    ahead_none s _ _ l.cursor l.invariant.1 (omega arith) _ c.step_from.ensures
+returns c = ahead_none _ _ _ c.loop.reader.cursor c.loop.invariant (omega arith) _ c.next-2.ensures

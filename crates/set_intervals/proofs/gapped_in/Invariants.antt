@@ -1,11 +1,9 @@
--- `set_intervals::gapped_in` meets its contract.
-use Prim.Native.Nat.{◌-◌, ◌≤◌}
-use lib.ListN.{length}
-use Rattle.set_intervals.proofs.Walks.{StillGapped}
+-- `set_intervals::gapped_in` meets its contract. The loop's invariant: they are gapped just if those that are left are, above the last end.
+use mathlib.Core.Path.{◌≡◌}
+use lib.ListN.{drop}
+use Rattle.gtid_sets.specs.Interval.{gapped}
+use Rattle.set_intervals.specs.Intervals.{told}
 use Rattle.set_intervals.proofs.gapped_in.Given as goal
 
-abbrev pub invariant-loop-at : goal.invariant-loop-at
-invariant-loop-at l = (l.at ≤ length l.intervals) × StillGapped l.intervals l.low l.at
-
-abbrev pub decreases-loop-at : goal.decreases-loop-at
-decreases-loop-at l = length l.intervals - l.at
+abbrev pub invariant-loop-chunk : goal.invariant-loop-chunk
+invariant-loop-chunk l = gapped 0 (told l.chunk-items) ≡ gapped l.low (told (drop l.chunk-index l.chunk-items))

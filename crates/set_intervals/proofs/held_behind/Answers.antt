@@ -1,10 +1,9 @@
 -- `set_intervals::held_behind` meets its contract.
-use native.Mathlib.Omega.{arith}
-use Rattle.set_intervals.proofs.Walks.{held_none, held_one}
+use mathlib.Core.List.{[]}
+use Rattle.set_intervals.proofs.Walks.{held-one}
 use Rattle.set_intervals.proofs.held_behind.Goals as goal
 
-pub returns-then-intervals-before : goal.returns-then-intervals-before
-returns-then-intervals-before c = let a = c.args in held_none a.intervals.now a.before a.n (omega arith)
-
-pub returns : goal.returns
-returns c = held_one _ _ _ (omega arith) _ _ c.number_at-start.ensures c.number_at-end.ensures
+pub returns-in-Some : goal.returns-in-Some
+returns-in-Some c = let a = c.args in
+    let at = c.in-Some.ensures.lookup.3 in
+    rw (c.read-next.ensures.0, c.read-next.ensures.1, ← c.chunks.ensures) (held-one c.chunks.result.now a.before a.n at.0 c.in-Some.chunk.now (at.1 []))

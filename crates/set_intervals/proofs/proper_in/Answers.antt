@@ -1,25 +1,20 @@
-use mathlib.Core.Path.{refl}
-use native.Mathlib.Omega.{arith}
-use Rattle.set_intervals.proofs.Walks.{proper-all, proper-turn, proper-stops}
+-- `set_intervals::proper_in` meets its contract.
+use mathlib.Core.Path.{◌∙◌, ap}
+use borrow.Author.Rules.{rules}
+use borrow.Author.Tests.{tests}
+use Rattle.std.proofs.lemmas.Iterator.{YieldsList-from_slice, YieldsList-from_map_by}
+use Rattle.std.proofs.lemmas.Iterator.Search.{all_from_yields_List}
+use Rattle.packets.specs.Gno.{interval, is_interval}
+use Rattle.gtid_sets.specs.TakeIn.{proper}
+use Rattle.set_intervals.specs.Intervals.{interval_of, told}
+use Rattle.set_intervals.specs.declared.Interval as mine
+use Rattle.set_intervals.proofs.Walks.{all_proper}
 use Rattle.set_intervals.proofs.proper_in.Goals as goal
 
-pub loop-at-init : goal.loop-at-init
-loop-at-init c = (omega arith, record { same = refl })
-
-pub overflow_sub-intervals : goal.overflow_sub-intervals
-overflow_sub-intervals c = c.loop-at.invariant.0
-
-pub returns-then-not-fine : goal.returns-then-not-fine
-returns-then-not-fine c = let l = c.loop-at in
-    proper-stops _ _ l.invariant.1 (omega arith) _ _ c.number_at-start.ensures c.number_at-end.ensures _
-    c.is_interval-fine.ensures c.if-not-fine.true
-
-pub loop-at-preserved : goal.loop-at-preserved
-loop-at-preserved c = let l = c.loop-at in (
-  omega arith,
-  proper-turn _ _ l.invariant.1 (omega arith) _ _ c.number_at-start.ensures c.number_at-end.ensures _
-      c.is_interval-fine.ensures c.if-not-fine.false,
-)
-
 pub returns : goal.returns
-returns c = proper-all _ _ c.loop-at.invariant.1 (omega arith)
+returns c =
+    let cs = c.chunks.result.now in
+    all_from_yields_List is_interval _ _ _ c.all.ensures.ran
+    (YieldsList-from_map_by _ (λ (i : mine.Interval). interval i.start i.end) interval_of (YieldsList-from_slice cs cc) (cc) (λ x r q k. search rules))
+    (λ x b q k. search (rules, tests))
+    ∙ all_proper (told cs) ∙ ap proper c.chunks.ensures

@@ -1,11 +1,11 @@
--- `set_intervals::reach_from` meets its contract.
-use Prim.Native.Nat.{◌-◌, ◌≤◌}
-use lib.ListN.{length}
-use Rattle.set_intervals.proofs.Walks.{Taking}
+-- `set_intervals::reach_from` meets its contract. The loop's invariant: what is left tells how many more are taken up, and the end.
+use Prim.Native.Nat.{◌+◌}
+use mathlib.Core.Path.{◌≡◌}
+use lib.ListN.{drop}
+use Rattle.gtid_sets.specs.Splice.{taken_up, reach}
+use Rattle.set_intervals.specs.Intervals.{told}
 use Rattle.set_intervals.proofs.reach_from.Given as goal
 
-abbrev pub invariant-loop-at : goal.invariant-loop-at
-invariant-loop-at l = (l.first ≤ l.at) × (l.at ≤ length l.intervals) × Taking l.intervals l.first l.b l.at l.end
-
-abbrev pub decreases-loop-at : goal.decreases-loop-at
-decreases-loop-at l = length l.intervals - l.at
+abbrev pub invariant-loop-taken : goal.invariant-loop-taken
+invariant-loop-taken l = (taken_up l.b (told l.chunks) ≡ l.taken + taken_up l.end (told (drop l.taken l.chunks)))
+    × (reach l.b (told l.chunks) ≡ reach l.end (told (drop l.taken l.chunks)))

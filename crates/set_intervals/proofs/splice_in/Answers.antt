@@ -1,33 +1,23 @@
 -- `set_intervals::splice_in` meets its contract.
-use Prim.Native.Nat.{◌*◌, ◌≤◌}
+use Prim.Native.Nat.{◌≤◌}
+use borrow.Author.Rules.{rules}
 use native.Mathlib.Omega.{arith}
 use lib.ListN.{length}
-use Rattle.set_intervals.proofs.Walks.{earlier-inside, splice-made}
+use Rattle.set_intervals.specs.Intervals.{intervals_in}
+use Rattle.set_intervals.proofs.Standing.{left-count}
+use Rattle.set_intervals.proofs.Walks.{earlier-few, before-inside, splice-made}
 use Rattle.set_intervals.proofs.splice_in.Goals as goal
 
-pub overflow_mul-rest : goal.overflow_mul-rest
-overflow_mul-rest c = let inside : 16 * c.earlier_in-before.result ≤ length c.args.intervals.now = omega (
-  arith,
-  c.earlier_in-before.ensures,
-  earlier-inside c.args.intervals.now c.args.a,
-) in
-    record { fits = omega (arith, inside) }
+pub offset_bounds-chunks-before : goal.offset_bounds-chunks-before
+offset_bounds-chunks-before c =
+    let few : c.earlier_in-before.result ≤ length (intervals_in c.args.intervals.now) = rw c.earlier_in-before.ensures (earlier-few _ _) in
+    record { fits = omega (arith, few, left-count c.args.intervals.now 0) }
 
-pub start_from-start-requires : goal.start_from-start-requires
-start_from-start-requires c = let inside : 16 * c.earlier_in-before.result ≤ length c.args.intervals.now = omega (
-  arith,
-  c.earlier_in-before.ensures,
-  earlier-inside c.args.intervals.now c.args.a,
-) in
-    inside
+pub slice_bounds-rest-count : goal.slice_bounds-rest-count
+slice_bounds-rest-count c = before-inside _ _ c.args.a _ c.chunks.ensures c.earlier_in-before.ensures
 
-pub reach_from-reach-requires : goal.reach_from-reach-requires
-reach_from-reach-requires c = let inside : 16 * c.earlier_in-before.result ≤ length c.args.intervals.now = omega (
-  arith,
-  c.earlier_in-before.ensures,
-  earlier-inside c.args.intervals.now c.args.a,
-) in
-    inside
+pub slice_bounds-rest-start : goal.slice_bounds-rest-start
+slice_bounds-rest-start c = let inside = before-inside _ _ c.args.a _ c.chunks.ensures c.earlier_in-before.ensures in search rules
 
 pub returns : goal.returns
-returns c = splice-made _ _ _ _ _ _ c.earlier_in-before.ensures c.start_from-start.ensures c.reach_from-reach.ensures
+returns c = splice-made c.chunks.result.now _ c.args.a c.args.b _ _ _ c.chunks.ensures c.earlier_in-before.ensures c.start_from.ensures c.reach_from-reach.ensures

@@ -1,10 +1,6 @@
 -- `abi::flat_report::report_in` meets its contract.
-use Prim.Native.Nat.{◌-◌}
 use Rattle.abi.proofs.FlatReportLaws.{Reading}
 use Rattle.abi.proofs.flat_report.report_in.Given as goal
 
 abbrev pub invariant-loop-i : goal.invariant-loop-i
-invariant-loop-i l = Reading l.s l.lines l.at l.i
-
-abbrev pub decreases-loop-i : goal.decreases-loop-i
-decreases-loop-i l = 64 - l.i
+invariant-loop-i l = Reading l.s l.lines l.i

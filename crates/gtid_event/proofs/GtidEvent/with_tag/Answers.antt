@@ -14,12 +14,12 @@ overflow_cast-self c = omega (arith, tag-at-most-32 c.args.tag.now (sym c.is_tag
 
 pub returns-then-is_tag : goal.returns-then-is_tag
 unfolding with_tag
-returns-then-is_tag c = let tag = c.args.tag.now in
+returns-then-is_tag c =
+    let tag = c.args.tag.now in
     let is : is_tag tag ≡ true = sym c.is_tag.ensures ∙ c.if-is_tag.true in
     let whole = take_all 32 tag (tag-at-most-32 tag is) in
-    rw (is, c.tag_bytes-bytes.ensures, whole)
+    rw (is, c.tag_bytes-self.ensures, whole)
 
 pub returns : goal.returns
 unfolding with_tag
-returns c = let isnt = sym c.is_tag.ensures ∙ c.if-is_tag.false in
-    rw (isnt, c.none.ensures)
+returns c = rw (sym c.is_tag.ensures ∙ c.if-is_tag.false)

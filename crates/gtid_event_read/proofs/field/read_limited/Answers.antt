@@ -1,25 +1,20 @@
 -- `gtid_event_read::field::read_limited` meets its contract.
 -- Assumes nothing.
-use mathlib.Core.Path.{refl}
-use Prim.Native.Nat.{ℕ}
-use native.Mathlib.Omega.{arith}
-use lib.Dec.{leb}
+use mathlib.Core.Path.{◌∙◌}
 use borrow.Author.Tests.{le-leb, lt-leb}
 use Rattle.misc.specs.Varlen.{varlen_at}
-use Rattle.misc.specs.Refusal.{too_large}
+use Rattle.misc.proofs.ParseLaws.{handed-on, read-ok, read-err}
 use Rattle.gtid_event_read.specs.Fields.{limited_at}
-use Rattle.gtid_event_read.proofs.Telling.{uint, some_read, passes, fails}
 use Rattle.gtid_event_read.proofs.field.read_limited.Goals as goal
+
+pub returns-in_err-read : goal.returns-in_err-read
+unfolding limited_at
+returns-in_err-read c = handed-on _ c.from_residual.ensures ∙ rw (read-err (varlen_at c.args.s.now c.args.at) c.in_err-read.ensures)
 
 pub returns-then-read-limit : goal.returns-then-read-limit
 unfolding limited_at
-returns-then-read-limit c = let a = c.args in
-    passes (λ (v : ℕ). leb v a.limit) too_large (uint (varlen_at a.s.now a.at) c.read_varlen_uint-read.ensures)
-    (λ z. le-leb _ _ c.if-read-limit.true)
+returns-then-read-limit c = rw (read-ok (varlen_at c.args.s.now c.args.at) c.in_ok-read.ensures, le-leb _ _ c.if-read-limit.true)
 
 pub returns : goal.returns
 unfolding limited_at
-returns c = let a = c.args in
-    let item = varlen_at a.s.now a.at in
-    let read = c.read_varlen_uint-read.ensures in
-    fails (λ (v : ℕ). leb v a.limit) too_large (uint item read) (some_read item read (omega arith)) (lt-leb _ _ c.if-read-limit.false) refl
+returns c = rw (read-ok (varlen_at c.args.s.now c.args.at) c.in_ok-read.ensures, lt-leb _ _ c.if-read-limit.false)

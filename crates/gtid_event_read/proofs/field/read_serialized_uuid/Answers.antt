@@ -1,32 +1,34 @@
-use mathlib.Core.Path.{refl}
+-- `gtid_event_read::field::read_serialized_uuid` meets its contract.
+-- Assumes nothing.
+use mathlib.Core.Path.{refl, ◌∙◌}
 use native.Mathlib.Omega.{arith}
 use lib.ListN.{length-set}
+use Rattle.misc.proofs.ParseLaws.{handed-on, read-ok, read-err}
+use Rattle.gtid_event_read.specs.Fields.{limited_at}
 use Rattle.gtid_event_read.proofs.FieldLaws.{limited-parsed, uuid-start, uuid-turn, uuid-stops, uuid-done}
 use Rattle.gtid_event_read.proofs.field.read_serialized_uuid.Goals as goal
 
-pub loop-i-init : goal.loop-i-init
-loop-i-init c = let a = c.args in
-    (omega arith, refl, uuid-start a.s.now a.at)
+pub loop-b-init : goal.loop-b-init
+loop-b-init c = (refl, uuid-start c.args.s.now c.args.at)
 
-pub returns-then-byte-ne0 : goal.returns-then-byte-ne0
-returns-then-byte-ne0 c = let a = c.args in
-    let l = c.loop-i in
-    uuid-stops a.s.now a.at l.uuid l.next l.i l.invariant.1 l.invariant.2 c.loop-i-test.true
-    c.read_limited-byte.ensures c.if-byte-ne0.true
+pub returns-in_err-byte : goal.returns-in_err-byte
+returns-in_err-byte c =
+    let l = c.loop-b in
+    handed-on _ c.from_residual.ensures
+    ∙ rw (uuid-stops c.args.s.now c.args.at l.b-items l.next l.b-index l.invariant.0 l.invariant.1 (omega arith)
+    (read-err (limited_at 255 c.args.s.now l.next) c.in_err-byte.ensures))
 
-pub overflow_cast-uuid : goal.overflow_cast-uuid
-overflow_cast-uuid c = omega (arith, (limited-parsed 255 c.args.s.now c.loop-i.next _ _ (c.read_limited-byte.ensures.found c.if-byte-ne0.false)).1)
+pub overflow_cast-b : goal.overflow_cast-b
+overflow_cast-b c = omega (arith, (limited-parsed 255 c.args.s.now c.loop-b.next _ _ (read-ok _ c.in_ok-byte.ensures)).1)
 
-pub loop-i-preserved : goal.loop-i-preserved
-loop-i-preserved c = let a = c.args in
-    let l = c.loop-i in (
-      omega arith,
-      simp length-set l.invariant.1,
-      uuid-turn a.s.now a.at l.uuid l.next l.i l.invariant.1 l.invariant.2 c.loop-i-test.true c.read_limited-byte.ensures
-          c.if-byte-ne0.false,
+pub loop-b-preserved : goal.loop-b-preserved
+loop-b-preserved c =
+    let l = c.loop-b in (
+      simp length-set l.invariant.0,
+      uuid-turn c.args.s.now c.args.at l.b-items l.next l.b-index l.invariant.0 l.invariant.1 (omega arith) _ _ (read-ok _ c.in_ok-byte.ensures),
     )
 
 pub returns : goal.returns
-returns c = let a = c.args in
-    let l = c.loop-i in
-    uuid-done a.s.now a.at l.uuid l.next l.i l.invariant.1 l.invariant.2 (omega arith)
+returns c =
+    let l = c.loop-b in
+    rw (uuid-done c.args.s.now c.args.at l.b-items l.next l.b-index l.invariant.0 l.invariant.1 (omega arith))

@@ -12,20 +12,17 @@ returns-then-fields-ge-FIELDS_TOP c = as_value_value_2 ((size-too-great _ c.if-f
 
 pub loop-n-init : goal.loop-n-init
 unfolding payload_size
-loop-n-init c = (omega arith, omega arith, refl)
+loop-n-init c = refl
 
 pub returns-then-varlen_uint_size-n : goal.returns-then-varlen_uint_size-n
 returns-then-varlen_uint_size-n c = as_value_value_2 (let w = c.loop-n in
     size-told _ _ c.if-fields-ge-FIELDS_TOP.false
-    (size-found w.n _ _ (omega arith) c.loop-n-test.true (sym c.varlen_uint_size.ensures.0 ∙ c.if-varlen_uint_size-n.true) ∙ w.invariant.2))
+    (size-found w.n _ _ (omega arith) (omega arith) (sym c.varlen_uint_size.ensures.0 ∙ c.if-varlen_uint_size-n.true) ∙ w.invariant))
 
 pub loop-n-preserved : goal.loop-n-preserved
-loop-n-preserved c = let w = c.loop-n in (
-  omega arith,
-  omega arith,
-  size-passed w.n _ _ (omega arith) c.loop-n-test.true (λ e. c.if-varlen_uint_size-n.false (c.varlen_uint_size.ensures.0 ∙ e)) ∙ w.invariant.2,
-)
+loop-n-preserved c = let w = c.loop-n in
+    size-passed w.n _ _ (omega arith) (omega arith) (λ e. c.if-varlen_uint_size-n.false (c.varlen_uint_size.ensures.0 ∙ e)) ∙ w.invariant
 
 pub returns : goal.returns
 returns c = as_value_value_2 (let w = c.loop-n in
-    size-told _ _ c.if-fields-ge-FIELDS_TOP.false (size-last w.n _ _ (omega arith) (omega arith) ∙ w.invariant.2))
+    size-told _ _ c.if-fields-ge-FIELDS_TOP.false (size-last w.n _ _ (omega arith) (omega arith) ∙ w.invariant))

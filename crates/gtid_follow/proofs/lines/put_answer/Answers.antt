@@ -3,12 +3,6 @@ use native.Mathlib.Omega.{arith}
 use Rattle.gtid_follow.proofs.LineLaws.{line-added}
 use Rattle.gtid_follow.proofs.lines.put_answer.Goals as goal
 
-as_added_stays_unheard : {A B : Type 0} → A × B → record { added : A; stays_unheard : B }
-as_added_stays_unheard p = record { added = p.0; stays_unheard = p.1 }
-
-pub returns : goal.returns
-returns c = as_added_stays_unheard (
-  line-added c.args.told c.args.event_type c.args.body.now _ _ _ _ c.requires.names (λ i. (c.type_inv.body i).fits)
-      (omega (arith, c.with_room-before.ensures.line_room_in_bounds)) c.put_told-waiting.ensures,
-  c.with_room-before.ensures.stays_unheard,
-)
+pub returns-clause-added : goal.returns-clause-added
+returns-clause-added c = line-added c.args.told c.args.event_type c.args.body.now _ _ _ _ c.requires.names (λ i. (c.type_inv.body i).fits)
+    (omega (arith, c.with_room-before.ensures.line_room_in_bounds)) c.put_told-waiting.ensures

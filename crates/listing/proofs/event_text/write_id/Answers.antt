@@ -1,14 +1,13 @@
 -- `listing::event_text::write_id` meets its contract.
 use Prim.Native.Nat.{ℕ, ◌+◌, ◌≤◌}
-use mathlib.Core.Path.{◌≡◌, sym}
+use mathlib.Core.Path.{◌≡◌}
 use native.Mathlib.Omega.{arith}
 use lib.ListN.{length, take}
-use lib.Seq.{length-take-le}
 use Rattle.misc.proofs.OutputLaws.{put-placed, output-short}
 use Rattle.gtid_event.specs.declared.GtidEvent.{GtidEvent}
 use Rattle.text.specs.Digits.{decimal}
 use Rattle.text.specs.Keys.{tag_text}
-use Rattle.text.proofs.KeyTextLaws.{key-long, tag-most}
+use Rattle.text.proofs.KeyTextLaws.{key-long}
 use Rattle.listing.specs.EventText.{record_text}
 use Rattle.listing.proofs.EventTextLaws.{fits_whole, id-long, id-put}
 use Rattle.misc.proofs.Clauses.{both}
@@ -16,31 +15,13 @@ use Rattle.listing.proofs.event_text.write_id.Goals as goal
 
 -- an event with a uuid of 16 bytes and a tag inside its field of 32
 module _ (e : GtidEvent) (fits : (length e.sid ≡ 16) × (e.tag_len ≤ 32) × (length e.tag ≡ 32)) where
-  tag_there : length (take e.tag_len e.tag) ≡ e.tag_len
-  tag_there = length-take-le e.tag_len e.tag (omega arith)
-
-  tag-within : length (tag_text (take e.tag_len e.tag)) ≤ 33
-  tag-within = tag-most (take e.tag_len e.tag) (omega (arith, tag_there))
-
   long : (k n : ℕ) → k ≡ 36 + length (tag_text (take e.tag_len e.tag)) → n ≡ length (decimal e.gno) → 7 + k + n ≡ length (record_text e)
   long k n p q = omega (arith, id-long e.sid (take e.tag_len e.tag) e.gno, key-long e.sid (take e.tag_len e.tag) fits.0)
-
-pub slice_bounds-key_len-end : goal.slice_bounds-key_len-end
-slice_bounds-key_len-end c = sym (tag_there c.args.event c.requires)
-
-pub overflow_add-len : goal.overflow_add-len
-overflow_add-len c = record { fits = omega (arith, c.key_len.ensures, tag-within c.args.event c.requires) }
-
-pub overflow_add-len-2 : goal.overflow_add-len-2
-overflow_add-len-2 c = record { fits = omega (arith, c.key_len.ensures, tag-within c.args.event c.requires) }
 
 pub returns-then-out-len : goal.returns-then-out-len
 returns-then-out-len c =
     let size = long c.args.event c.requires _ _ c.key_len.ensures c.decimal_len.ensures.0 in
     both (output-short c.args.out.now (record_text c.args.event) _ size (omega arith))
-
-pub slice_bounds-put_key-end : goal.slice_bounds-put_key-end
-slice_bounds-put_key-end c = sym (tag_there c.args.event c.requires)
 
 pub returns : goal.returns
 returns c =

@@ -1,34 +1,35 @@
 -- `listing::set_text::list_set` meets its contract.
 use native.Mathlib.Omega.{arith}
-use Rattle.listing.proofs.SetTextLaws.{list-refused, all-ahead, list-short, list-fits}
+use Rattle.gtid_sets.specs.Lent.{lent_set}
 use Rattle.misc.proofs.Clauses.{both}
+use Rattle.misc.proofs.ParseLaws.{handed-on}
+use Rattle.listing.proofs.SetTextLaws.{list-refused, all-ahead, list-short, list-fits}
 use Rattle.listing.proofs.set_text.list_set.Goals as goal
 
-pub returns-then-refusal-ne0 : goal.returns-then-refusal-ne0
-returns-then-refusal-ne0 c = both (let a = c.args in
-    list-refused a.word.now a.set.now a.out.now c.check-checked.result c.check-checked.ensures c.if-refusal-ne0.true)
+pub returns-in_err-checked : goal.returns-in_err-checked
+returns-in_err-checked c =
+    both (rw (handed-on _ c.from_residual.ensures) (list-refused c.args.word.now c.args.out.now (lent_set c.args.set.now) _ c.in_err-checked.ensures))
 
 pub entries_len-requires : goal.entries_len-requires
 entries_len-requires c = let a = c.args in
-    (all-ahead a.word.now a.set.now a.out.now c.check-checked.result c.check-checked.ensures (omega arith) _ c.entries_of-from.ensures).0
+    (all-ahead a.word.now a.set.now a.out.now _ c.in_ok-checked.ensures _ c.entries_of-from.ensures).0
 
 pub overflow_add-len : goal.overflow_add-len
 overflow_add-len c = let a = c.args in
-    let (is, same) =
-    all-ahead a.word.now a.set.now a.out.now c.check-checked.result c.check-checked.ensures (omega arith) _ c.entries_of-from.ensures in
+    let (is, same) = all-ahead a.word.now a.set.now a.out.now _ c.in_ok-checked.ensures _ c.entries_of-from.ensures in
     record { fits = omega (arith, is.small, c.entries_len.ensures.1) }
 
 pub returns-then-out-len : goal.returns-then-out-len
 returns-then-out-len c = both (let a = c.args in
-    list-short a.word.now a.set.now a.out.now c.check-checked.result c.check-checked.ensures (omega arith) _ c.entries_of-from.ensures _ _ _
+    list-short a.word.now a.set.now a.out.now _ c.in_ok-checked.ensures _ c.entries_of-from.ensures _ _ _
     c.decimal_len.ensures.0 c.decimal_len-2.ensures.0 c.entries_len.ensures.0 (omega arith))
 
 pub put_entries-requires : goal.put_entries-requires
 put_entries-requires c = let a = c.args in
-    (all-ahead a.word.now a.set.now a.out.now c.check-checked.result c.check-checked.ensures (omega arith) _ c.entries_of-from.ensures).0
+    (all-ahead a.word.now a.set.now a.out.now _ c.in_ok-checked.ensures _ c.entries_of-from.ensures).0
 
 pub returns : goal.returns
 returns c = both (let a = c.args in
-    list-fits a.word.now a.set.now a.out.now c.check-checked.result c.check-checked.ensures (omega arith) _ c.entries_of-from.ensures _ _ _
+    list-fits a.word.now a.set.now a.out.now _ c.in_ok-checked.ensures _ c.entries_of-from.ensures _ _ _
     c.decimal_len.ensures.0 c.decimal_len-2.ensures.0 c.entries_len.ensures.0 (omega arith)
     c.put_head-at.ensures c.put_entries.ensures)

@@ -9,10 +9,7 @@ returns-then-out-at c = both (let a = c.args in put-short a.out.now a.source.now
 
 pub place_behind-requires : goal.place_behind-requires
 place_behind-requires c = let a = c.args in
-    λ done. omega (
-      arith,
-      lent-ends a.out.now a.source.now a.at c.if-out-at.false _ c.write_bytes-wrote.ensures.value done,
-    )
+    lent-ends a.out.now a.source.now a.at c.if-out-at.false _ c.write_bytes-wrote.ensures.value (omega arith)
 
 pub returns : goal.returns
 returns c = both (let a = c.args in

@@ -10,11 +10,7 @@ returns-then-out-at c = both (let a = c.args in put-short a.out.now (varlen_byte
 
 pub place_behind-requires : goal.place_behind-requires
 place_behind-requires c = let a = c.args in
-    λ done. omega (
-      arith,
-      lent-ends a.out.now (varlen_bytes a.value) a.at c.if-out-at.false _
-          c.write_varlen_uint-wrote.ensures.value done,
-    )
+    lent-ends a.out.now (varlen_bytes a.value) a.at c.if-out-at.false _ c.write_varlen_uint-wrote.ensures.value (omega arith)
 
 pub returns : goal.returns
 returns c = both (let a = c.args in

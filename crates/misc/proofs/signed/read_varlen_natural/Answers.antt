@@ -1,18 +1,18 @@
 -- `misc::signed::read_varlen_natural` meets its contract.
--- Assumes nothing.
-use Rattle.misc.proofs.SignedLaws.{natural-even, natural-odd, natural-refused}
-use Rattle.misc.proofs.ParseLaws.{uint-told}
-use Rattle.misc.specs.Parse.{uint_read}
 use mathlib.Core.Path.{sym, ap, ◌∙◌}
+use Rattle.misc.specs.Parse.{read_of}
+use Rattle.misc.proofs.SignedLaws.{natural-even, natural-odd, natural-refused}
+use Rattle.misc.proofs.ParseLaws.{handed-on, read-ok, read-err}
 use Rattle.misc.proofs.signed.read_varlen_natural.Goals as goal
 
-pub returns-then-refusal-ne0 : goal.returns-then-refusal-ne0
-returns-then-refusal-ne0 c = natural-refused _ _ _ c.read_varlen_uint-read.ensures c.if-refusal-ne0.true
+pub returns-in_err-sent : goal.returns-in_err-sent
+returns-in_err-sent c = let e = read-err _ (sym c.in_err-sent.was ∙ c.read_varlen_uint.ensures) in
+    handed-on _ c.from_residual.ensures ∙ ap read_of (sym (natural-refused c.args.s.now c.args.at e))
 
 pub returns-then-sent-eq0 : goal.returns-then-sent-eq0
-returns-then-sent-eq0 c = ap uint_read (sym (natural-even _ _ (uint-told _ _ c.read_varlen_uint-read.ensures c.if-refusal-ne0.false) c.if-sent-eq0.true))
+returns-then-sent-eq0 c = let e = read-ok _ (sym c.in_ok-sent.was ∙ c.read_varlen_uint.ensures) in
+    ap read_of (sym (natural-even _ _ e c.if-sent-eq0.true))
 
 pub returns : goal.returns
-returns c = c.refused_uint.ensures
-    ∙ ap uint_read (sym (natural-odd _ _ (uint-told _ _ c.read_varlen_uint-read.ensures c.if-refusal-ne0.false)
-    c.if-sent-eq0.false))
+returns c = let e = read-ok _ (sym c.in_ok-sent.was ∙ c.read_varlen_uint.ensures) in
+    ap read_of (sym (natural-odd _ _ e c.if-sent-eq0.false))

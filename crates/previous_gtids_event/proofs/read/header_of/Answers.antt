@@ -1,34 +1,28 @@
 -- `previous_gtids_event::read::header_of` meets its contract.
 use Prim.Native.Nat.{◌/◌, ◌^◌}
 use native.Mathlib.Omega.{arith}
-use mathlib.Core.Path.{sym, ap, ◌∙◌}
-use borrow.Author.Tests.{eq-eqb, ne_eqb}
-use Rattle.misc.specs.declared.ReadUint.{ReadUint}
+use borrow.Author.Tests.{ne_eqb}
+use mathlib.Core.Path.{◌∙◌}
 use Rattle.misc.specs.Le.{le_at}
-use Rattle.misc.proofs.BodyLaws.{body-fits, body-too-long}
-use Rattle.misc.proofs.ParseLaws.{uint-told, uint-refused}
-use Rattle.previous_gtids_event.specs.Answers.{header_read, refused_header}
+use Rattle.misc.proofs.BodyLaws.{body-fits}
+use Rattle.misc.proofs.ParseLaws.{handed-on, read-ok, read-err}
+use Rattle.previous_gtids_event.specs.Answers.{header_told}
 use Rattle.previous_gtids_event.specs.Previous.{says_tagged, says_count}
+use Rattle.previous_gtids_event.proofs.Reading.{too-long, body-refused}
 use Rattle.previous_gtids_event.proofs.read.header_of.Goals as goal
 
 pub returns-then-body-gt-MAX_BODY : goal.returns-then-body-gt-MAX_BODY
-returns-then-body-gt-MAX_BODY c = let s = c.args.body.now in
-    c.refused_header.ensures ∙ ap header_read (sym (body-too-long s (le_at 8 s 0) (omega arith)))
+returns-then-body-gt-MAX_BODY c = too-long header_told _ _ (omega arith)
 
-pub returns-then-refusal-ne0 : goal.returns-then-refusal-ne0
-returns-then-refusal-ne0 c = let s = c.args.body.now in
-    let (x, e, told) = uint-refused _ _ c.read_u64_le-read.ensures c.if-refusal-ne0.true in
-    c.refused_header-then-refusal-ne0.ensures ∙ ap (λ (y : ReadUint). refused_header y.refusal) told
-    ∙ ap header_read (sym (body-fits s (le_at 8 s 0) (omega arith) ∙ e))
+pub returns-in_err-header : goal.returns-in_err-header
+returns-in_err-header c = handed-on _ c.from_residual.ensures ∙ body-refused header_told _ _ (omega arith) (read-err _ c.in_err-header.ensures)
 
-pub returns-then-header-eq0 : goal.returns-then-header-eq0
+pub returns-then-tagged : goal.returns-then-tagged
 unfolding says_tagged says_count
-returns-then-header-eq0 c = let s = c.args.body.now in
-    let e = body-fits s (le_at 8 s 0) (omega arith) ∙ uint-told _ _ c.read_u64_le-read.ensures c.if-refusal-ne0.false in
-    rw (e, eq-eqb (c.read_u64_le-read.result.value / 2 ^ 56) 0 c.if-header-eq0.true)
+returns-then-tagged c = let read = body-fits c.args.body.now (le_at 8 c.args.body.now 0) (omega arith) ∙ read-ok _ c.in_ok-header.ensures in
+    rw (read, ne_eqb (c.in_ok-header.field-0.value / 2 ^ 56) 0 c.if-tagged.true)
 
-pub returns : goal.returns
+pub returns-else-tagged : goal.returns-else-tagged
 unfolding says_tagged says_count
-returns c = let s = c.args.body.now in
-    let e = body-fits s (le_at 8 s 0) (omega arith) ∙ uint-told _ _ c.read_u64_le-read.ensures c.if-refusal-ne0.false in
-    rw (e, ne_eqb (c.read_u64_le-read.result.value / 2 ^ 56) 0 c.if-header-eq0.false)
+returns-else-tagged c = let read = body-fits c.args.body.now (le_at 8 c.args.body.now 0) (omega arith) ∙ read-ok _ c.in_ok-header.ensures in
+    rw (read, c.if-tagged.false)

@@ -1,27 +1,25 @@
 -- `previous_gtids_event::read::interval_at` meets its contract.
-use Prim.Native.Nat.{◌+◌, ◌*◌}
 use native.Mathlib.Omega.{arith}
-use mathlib.Core.Path.{sym, ap, ◌∙◌}
-use Rattle.misc.proofs.BodyLaws.{body-fits, body-too-long}
-use Rattle.previous_gtids_event.specs.Answers.{interval_read}
-use Rattle.previous_gtids_event.specs.Previous.{interval_at}
-use Rattle.previous_gtids_event.proofs.Reading.{interval-gone, interval-read}
+use mathlib.Core.Path.{◌∙◌}
+use Rattle.misc.proofs.ParseLaws.{handed-on, read-ok, read-err}
+use Rattle.previous_gtids_event.specs.Answers.{interval_told}
+use Rattle.previous_gtids_event.proofs.Reading.{too-long, body-refused, body-read, interval-gone, interval-startless, interval-endless, interval-whole}
 use Rattle.previous_gtids_event.proofs.read.interval_at.Goals as goal
 
 pub returns-then-body-gt-MAX_BODY : goal.returns-then-body-gt-MAX_BODY
-returns-then-body-gt-MAX_BODY c = let a = c.args in
-    let s = a.body.now in
-    c.refused_interval.ensures ∙ ap interval_read (sym (body-too-long s (interval_at s (a.first + 16 * a.index)) (omega arith)))
+returns-then-body-gt-MAX_BODY c = too-long interval_told _ _ (omega arith)
 
 pub returns-then-whole-index : goal.returns-then-whole-index
-returns-then-whole-index c = let a = c.args in
-    let s = a.body.now in
-    let at = a.first + 16 * a.index in
-    c.refused_interval-then-whole-index.ensures ∙ ap interval_read (sym (body-fits s (interval_at s at) (omega arith) ∙ interval-gone s at (omega arith)))
+returns-then-whole-index c = body-refused interval_told _ _ (omega arith) (interval-gone _ _ (omega arith))
+
+pub returns-in_err-start : goal.returns-in_err-start
+returns-in_err-start c = handed-on _ c.from_residual.ensures
+    ∙ body-refused interval_told _ _ (omega arith) (interval-startless _ _ (read-err _ c.in_err-start.ensures))
+
+pub returns-in_err-end : goal.returns-in_err-end
+returns-in_err-end c = handed-on _ c.from_residual-in_err-end.ensures
+    ∙ body-refused interval_told _ _ (omega arith)
+    (interval-endless _ _ (read-ok _ c.in_ok-start.ensures) (read-err _ c.in_err-end.ensures))
 
 pub returns : goal.returns
-returns c = let a = c.args in
-    let s = a.body.now in
-    let at = a.first + 16 * a.index in
-    interval-read s at (omega arith) _ _ c.read_u64_le-start.ensures c.read_u64_le-end.ensures
-    ∙ ap interval_read (sym (body-fits s (interval_at s at) (omega arith)))
+returns c = body-read interval_told _ _ (omega arith) (interval-whole _ _ (read-ok _ c.in_ok-start.ensures) (read-ok _ c.in_ok-end.ensures))

@@ -1,19 +1,32 @@
 -- `previous_gtids_event::rewrite::rewrite` meets its contract.
 use native.Mathlib.Omega.{arith}
-use Rattle.misc.proofs.BodyLaws.{body_limit-is}
-use Rattle.previous_gtids_event.proofs.Rewriting.{rewrite-refused}
-use Rattle.previous_gtids_event.proofs.Reading.{headless, headed}
+use mathlib.Core.Path.{◌∙◌}
 use Rattle.misc.proofs.Clauses.{both}
+use Rattle.misc.proofs.OutputLaws.{put-placed}
+use Rattle.misc.proofs.ParseLaws.{handed-on, answered-err}
+use Rattle.previous_gtids_event.specs.Inside.{sizes_told}
+use Rattle.previous_gtids_event.proofs.Reading.{headless, headed}
+use Rattle.previous_gtids_event.proofs.Rewriting.{rewrite-refused, was-whole, rewrite-short, rewrite-whole}
 use Rattle.previous_gtids_event.proofs.rewrite.rewrite.Goals as goal
 
-pub returns-then-refusal-ne0 : goal.returns-then-refusal-ne0
-returns-then-refusal-ne0 c = both (let (x, e, n) = headless c.args.body.now _ c.header_of-header.ensures c.if-refusal-ne0.true in
-    rewrite-refused _ x _ _ e n)
+pub returns-in_err-header : goal.returns-in_err-header
+returns-in_err-header c = both (rewrite-refused _ _ (headless _ c.in_err-header.ensures) (handed-on _ c.from_residual.ensures))
 
-pub rewrite_entries-requires : goal.rewrite_entries-requires
-rewrite_entries-requires c = let (_, some, small) = headed c.args.body.now _ c.header_of-header.ensures c.if-refusal-ne0.false in
-    (some, omega (arith, body_limit-is))
+pub sizes_of-requires : goal.sizes_of-requires
+sizes_of-requires c = let (_, some, small) = headed _ c.in_ok-header.ensures in (some, small)
+
+pub returns-in_err-sizes : goal.returns-in_err-sizes
+returns-in_err-sizes c = let e = (headed _ c.in_ok-header.ensures).0 ∙ answered-err sizes_told _ c.in_err-sizes.ensures.value in
+    both (rewrite-refused _ _ e (handed-on _ c.from_residual-in_err-sizes.ensures))
+
+pub returns-then-out-len : goal.returns-then-out-len
+returns-then-out-len c = both (rw (headed _ c.in_ok-header.ensures).0
+    (rewrite-short _ _ _ c.in_ok-sizes.ensures.value _ _ c.body_len-len.ensures c.if-out-len.true))
+
+pub put_entries-requires : goal.put_entries-requires
+put_entries-requires c = was-whole _ _ _ c.in_ok-sizes.ensures.value c.args.out.now
 
 pub returns : goal.returns
-returns c = both (let (e, _, _) = headed c.args.body.now _ c.header_of-header.ensures c.if-refusal-ne0.false in
-    rw e (c.rewrite_entries.ensures.value, c.rewrite_entries.ensures.out_after))
+returns c = both (rw (headed _ c.in_ok-header.ensures).0
+    (rewrite-whole _ _ _ c.in_ok-sizes.ensures.value _ _ c.body_len-len.ensures (omega arith)
+    (put-placed (c.put_header-first.ensures.value, c.put_header-first.ensures.out_after)) c.put_entries.ensures))

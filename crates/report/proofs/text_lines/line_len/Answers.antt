@@ -7,13 +7,13 @@ use Rattle.report.specs.declared.Counts.{Counts}
 use Rattle.report.proofs.TextLaws.{set_line, refused-line}
 use Rattle.report.proofs.text_lines.line_len.Goals as goal
 
-pub returns-then-refusal-eq0 : goal.returns-then-refusal-eq0
-returns-then-refusal-eq0 c =
+pub returns-then-line-eq0 : goal.returns-then-line-eq0
+returns-then-line-eq0 c =
     let said = c.counts_len.ensures in
-    let text = ap (λ (x : Counts). length (counts_text set_word x)) c.counts_of.ensures.value in
+    let text = ap (λ (x : Counts). length (counts_text set_word x)) c.counts.ensures in
     (said.0 ∙ text ∙ ap length (sym (set_line c.args.line (omega arith))), said.1)
 
 pub returns : goal.returns
 returns c =
     let said = c.refused_len.ensures in
-    (said.0 ∙ ap length (sym (refused-line c.args.line c.if-refusal-eq0.false)), omega (arith, said.1))
+    (said.0 ∙ ap length (sym (refused-line c.args.line c.if-line-eq0.false)), omega (arith, said.1))

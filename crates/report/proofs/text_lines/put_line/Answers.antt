@@ -4,10 +4,10 @@ use Rattle.misc.proofs.OutputLaws.{put-placed}
 use Rattle.report.proofs.TextLaws.{set-put, refused-put}
 use Rattle.report.proofs.text_lines.put_line.Goals as goal
 
-pub returns-then-refusal-eq0 : goal.returns-then-refusal-eq0
-returns-then-refusal-eq0 c = set-put c.args.line (omega arith) _ c.counts_of.ensures.value c.put_counts.ensures
+pub returns-then-line-eq0 : goal.returns-then-line-eq0
+returns-then-line-eq0 c = set-put c.args.line (omega arith) _ c.counts.ensures c.put_counts.ensures
 
 pub returns : goal.returns
 returns c =
     let put = c.put_refused.ensures in
-    refused-put c.args.line c.if-refusal-eq0.false (put-placed (put.value, put.out_after))
+    refused-put c.args.line c.if-line-eq0.false (put-placed (put.value, put.out_after))

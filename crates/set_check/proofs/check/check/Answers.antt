@@ -1,17 +1,28 @@
 -- `set_check::check::check` meets its contract.
+use mathlib.Core.Path.{◌≡◌, ap, ◌∙◌}
+use Rattle.std.specs.Prelude.{Err}
+use Rattle.misc.specs.Refusal.{not_a_set}
+use Rattle.misc.proofs.ParseLaws.{handed-on}
 use Rattle.set_check.proofs.CheckLaws.{check-headless, check-broken, check-whole}
 use Rattle.set_check.proofs.check.check.Goals as goal
 
-pub returns-then-not-ok : goal.returns-then-not-ok
-returns-then-not-ok c = check-headless c.args.set.now (c.header_at-header.ensures.no c.if-not-ok.true)
+pub returns-in_err-entries : goal.returns-in_err-entries
+returns-in_err-entries c =
+    let none = c.in_err-entries.ensures.ok_part in
+    let said = rw none at c.in_err-entries.ensures.value in
+    let why : c.in_err-entries.field-0.0 ≡ not_a_set = cc in
+    handed-on _ c.from_residual.ensures ∙ ap Err why ∙ (check-headless c.args.set.now (rw none at c.header_at.ensures))
 
-pub returns-then-not-whole : goal.returns-then-not-whole
-returns-then-not-whole c =
-    let header = c.header_at-header.ensures.yes c.if-not-ok.false in
-    check-broken c.args.set.now c.header_at-header.result header (c.check_entries-entries.ensures.no c.if-not-whole.true)
+pub returns-in_err-intervals : goal.returns-in_err-intervals
+returns-in_err-intervals c =
+    let header = rw c.in_ok-entries.ensures.ok_part at c.header_at.ensures in
+    let none = c.in_err-intervals.ensures.ok_part in
+    let said = rw none at c.in_err-intervals.ensures.value in
+    let why : c.in_err-intervals.field-0.0 ≡ not_a_set = cc in
+    handed-on _ c.from_residual-in_err-intervals.ensures ∙ ap Err why ∙ (check-broken c.args.set.now _ header (rw none at c.check_entries.ensures))
 
 pub returns : goal.returns
 returns c =
-    let header = c.header_at-header.ensures.yes c.if-not-ok.false in
-    let whole = c.check_entries-entries.ensures.yes c.if-not-whole.false in
-    check-whole c.args.set.now c.header_at-header.result header c.check_entries-entries.result whole
+    let header = rw c.in_ok-entries.ensures.ok_part at c.header_at.ensures in
+    let whole = rw c.in_ok-intervals.ensures.ok_part at c.check_entries.ensures in
+    check-whole c.args.set.now _ header _ whole

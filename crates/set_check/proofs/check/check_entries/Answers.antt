@@ -1,69 +1,75 @@
 -- `set_check::check::check_entries` meets its contract.
-use Prim.Native.Nat.{◌+◌, ◌≤◌}
-use mathlib.Core.Path.{refl, ap}
-use mathlib.Core.Logic.{inl, inr}
+use Prim.Native.Nat.{◌+◌, ◌<◌, ◌≤◌}
+use mathlib.Core.Path.{◌≡◌, refl}
 use native.Mathlib.Omega.{arith}
 use lib.ListN.{length}
+use Rattle.std.specs.Cmp.{booleans_Decides}
+use Rattle.std.proofs.lemmas.Bool.{not-true, not-false}
+use Rattle.packets.proofs.Tests.{clash}
 use Rattle.gtid_sets.proofs.LimitLaws.{max_intervals-is}
-use Rattle.set_check.specs.declared.Cursor.{Cursor}
-use Rattle.set_check.specs.Check.{key_in, EntryIs}
+use Rattle.set_check.specs.Check.{low_key, EntryIs}
 use Rattle.set_check.proofs.CheckLaws.{walked_none, walked-not, walked_next, walked-short, walked_many, walked-untagged, walked_whole}
 use Rattle.set_check.proofs.RestLaws.{head-lies}
 use Rattle.set_check.proofs.EntryPlaces.{Lies}
-use Rattle.set_check.proofs.PlaceLaws.{says-yes, says-no}
 use Rattle.set_check.proofs.check.check_entries.Goals as goal
+use Rattle.set_check.proofs.check.check_entries.Goals.{
+  then-rest-set-via-then-rest-set,
+  then-rest-set-via-else-rest-set+then-used-gt-MAX_INTERVALS,
+  then-rest-set-via-else-rest-set+else-used-gt-MAX_INTERVALS+then-rest-any,
+}
 
-pub loop-rest-init : goal.loop-rest-init
-loop-rest-init c = (
-  c.requires,
-  omega arith,
-  record { there = omega arith; tag_there = omega arith; shape = inr (refl, refl) },
-  walked_none c.args.set.now c.args.from,
-)
+pub loop-init : goal.loop-init
+loop-init c = record {
+  counts = omega arith;
+  inside = c.requires;
+  small = omega arith;
+  low = tt;
+  walked = walked_none c.args.set.now c.args.from;
+}
 
-pub returns-then-not-ok : goal.returns-then-not-ok
-returns-then-not-ok c =
-    let l = c.loop-rest in
+pub returns-in_err-entry : goal.returns-in_err-entry
+returns-in_err-entry c =
+    let l = c.loop in
     let a = c.args in
-    says-no (walked-not a.set.now a.from l.rest _ l.used l.any l.invariant.3 (omega arith) (c.entry_above-ok.ensures.no c.if-not-ok.true))
+    rw c.from_residual.ensures
+    (walked-not a.set.now a.from l.rest _ l.used l.any l.invariant.walked (omega (arith, l.invariant.counts)) c.in_err-entry.ensures)
 
-pub loop-rest-preserved : goal.loop-rest-preserved
-loop-rest-preserved c =
-    let l = c.loop-rest in
+pub loop-preserved : goal.loop-preserved
+loop-preserved c =
+    let l = c.loop in
     let a = c.args in
-    let entry : EntryIs a.set.now l.rest (key_in a.set.now l.low) c.entry_here-entry.result = c.entry_above-ok.ensures.yes c.if-not-ok.false in
-    let parts : Lies l.rest.at c.entry_here-entry.result = head-lies _ _ _ entry.head in
-    let place = ap (λ (x : Cursor). x.at) c.beyond-rest.ensures in
+    let entry : EntryIs a.set.now l.rest (low_key a.set.now l.low) c.in_ok-entry.entry = c.in_ok-entry.ensures in
     let h = entry.head in
-    let there : l.rest.at + 16 ≤ length a.set.now = omega (arith, parts.tag-after, parts.first-is, parts.next-is, h.inside) in (
-      omega (arith, place, h.inside),
-      omega (arith, place, parts.tag-after, parts.first-is, parts.next-is),
-      record { there = there; tag_there = omega (arith, parts.first-is, parts.next-is, h.inside); shape = inl refl },
-      walked_next a.set.now a.from l.rest _ l.used l.any l.invariant.3 (omega arith)
-          (λ i. (c.type_inv.set i).fits) _ entry _ c.beyond-rest.ensures,
-    )
+    let parts : Lies l.rest.at c.in_ok-entry.entry = head-lies _ _ _ h in
+    let some : 0 < l.rest.left = omega (arith, l.invariant.counts) in
+    let there : l.rest.at + 16 ≤ length a.set.now = omega (arith, parts.tag-after, parts.first-is, parts.next-is, h.inside) in
+    rw (c.of.ensures, c.beyond-rest.ensures) (record {
+      counts = omega (arith, l.invariant.counts);
+      inside = h.inside;
+      small = omega (arith, parts.tag-after, parts.first-is, parts.next-is);
+      low = record { uuid = there; tag = omega (arith, parts.first-is, parts.next-is, h.inside) };
+      walked = walked_next a.set.now a.from l.rest _ l.used l.any l.invariant.walked some (λ i. (c.type_inv.set i).fits) _ entry _ refl;
+    })
 
 pub returns-then-rest-set : goal.returns-then-rest-set
 returns-then-rest-set c =
-    let l = c.loop-rest in
+    let l = c.loop in
     let a = c.args in
-    says-no (walked-short a.set.now a.from l.rest _ l.used l.any l.invariant.3 (omega arith) l.invariant.0 c.if-rest-set.true)
-
-pub returns-then-used-gt-MAX_INTERVALS : goal.returns-then-used-gt-MAX_INTERVALS
-returns-then-used-gt-MAX_INTERVALS c =
-    let l = c.loop-rest in
-    let a = c.args in
-    says-no (walked_many a.set.now a.from l.rest _ l.used l.any l.invariant.3 (omega arith) (omega (arith, max_intervals-is)))
-
-pub returns-then-not-as_said : goal.returns-then-not-as_said
-returns-then-not-as_said c =
-    let l = c.loop-rest in
-    let a = c.args in
-    says-no (walked-untagged a.set.now a.from l.rest _ l.used l.any l.invariant.3 (omega arith) c.if-not-as_said.true)
+    let walked = l.invariant.walked in
+    let none : l.rest.left ≡ 0 = omega (arith, l.invariant.counts) in
+    elim c.then-rest-set.branch [
+      | then-rest-set-via-then-rest-set w ↦ walked-short a.set.now a.from l.rest _ l.used l.any walked none l.invariant.inside w.if-rest-set.true
+      | then-rest-set-via-else-rest-set+then-used-gt-MAX_INTERVALS w ↦
+          walked_many a.set.now a.from l.rest _ l.used l.any walked none (omega (arith, max_intervals-is))
+      | then-rest-set-via-else-rest-set+else-used-gt-MAX_INTERVALS+then-rest-any w ↦
+          walked-untagged a.set.now a.from l.rest _ l.used l.any walked none
+          (λ same. clash ((booleans_Decides l.rest.tagged l.any).1 same) (not-true _ w.if-rest-any.true))
+    ]
 
 pub returns : goal.returns
 returns c =
-    let l = c.loop-rest in
+    let l = c.loop in
     let a = c.args in
-    says-yes (walked_whole a.set.now a.from l.rest _ l.used l.any l.invariant.3 (omega arith) c.if-rest-set.false
-    (omega (arith, max_intervals-is)) c.if-not-as_said.false)
+    let none : l.rest.left ≡ 0 = omega (arith, l.invariant.counts) in
+    walked_whole a.set.now a.from l.rest _ l.used l.any l.invariant.walked none c.if-rest-set.false (omega (arith, max_intervals-is))
+    ((booleans_Decides l.rest.tagged l.any).0 (not-false _ c.if-rest-any.false))

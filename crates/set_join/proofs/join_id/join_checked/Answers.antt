@@ -9,14 +9,15 @@ use Rattle.set_join.proofs.AnswerLaws.{id-unlawful}
 use Rattle.misc.proofs.Clauses.{both}
 use Rattle.set_join.proofs.join_id.join_checked.Goals as goal
 
-pub returns-then-not-lawful : goal.returns-then-not-lawful
-returns-then-not-lawful c =
+pub returns-then-not-is_gno : goal.returns-then-not-is_gno
+returns-then-not-is_gno c =
     let a = c.args in
-    both (id-unlawful (set_of a.set.now) (a.uuid.now ++ a.tag.now) a.gno a.out.now (sym c.is_gno-lawful.ensures ∙ c.if-not-lawful.true))
+    let (answer, left) = id-unlawful (set_of a.set.now) (a.key.uuid.now ++ a.key.tag.now) a.gno a.out.now (sym c.is_gno.ensures ∙ c.if-not-is_gno.true) in
+    both (c.refused.ensures ∙ answer, left)
 
 pub overflow_add-span : goal.overflow_add-span
 overflow_add-span c =
-    let g = gno-says c.args.gno (sym c.is_gno-lawful.ensures ∙ c.if-not-lawful.false) in
+    let g = gno-says c.args.gno (sym c.is_gno.ensures ∙ c.if-not-is_gno.false) in
     record { fits = omega (arith, gno_top-is) }
 
 pub write_joined-requires : goal.write_joined-requires

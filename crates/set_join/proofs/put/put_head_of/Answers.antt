@@ -4,5 +4,5 @@ use Rattle.set_join.proofs.PutLaws.{put-copied}
 use Rattle.set_join.proofs.put.put_head_of.Goals as goal
 
 pub returns : goal.returns
-returns c = put-copied c.args.uuid.now _ c.args.tags c.args.tag.now c.args.count c.requires c.uuid_bytes-own.ensures
+returns c = put-copied c.args.key.uuid.now _ c.args.tags c.args.key.tag.now c.args.count c.requires c.uuid_bytes-own.ensures
     (put-placed (c.put_head.ensures.value, c.put_head.ensures.out_after))

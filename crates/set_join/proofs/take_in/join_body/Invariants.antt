@@ -1,4 +1,5 @@
 -- `set_join::take_in::join_body` meets its contract.
+use Prim.Native.Nat.{◌-◌}
 use mathlib.Core.Path.{◌≡◌}
 use lib.ListN.{length}
 use Rattle.previous_gtids_event.specs.Previous.{previous}
@@ -8,11 +9,11 @@ use Rattle.set_join.specs.TakeIn.{held_set, widest}
 use Rattle.set_join.proofs.FoldLaws.{Folding}
 use Rattle.set_join.proofs.take_in.join_body.Given as goal
 
-abbrev pub invariant-loop-left : goal.invariant-loop-left
-invariant-loop-left l =
+abbrev pub invariant-loop : goal.invariant-loop
+invariant-loop l =
     let s = held_set l.initial.held l.initial.set in
-    (length l.held ≡ length l.initial.held) × (length l.spare ≡ length l.initial.spare)
-    × Folding l.body l.tagged (widest s) (union (entries_of (previous l.body)) s) l.held l.set l.left l.at
-
-abbrev pub decreases-loop-left : goal.decreases-loop-left
-decreases-loop-left l = l.left
+    record {
+      kept : length l.held ≡ length l.initial.held;
+      spare_kept : length l.spare ≡ length l.initial.spare;
+      folding : Folding l.body l.header.tagged (widest s) (union (entries_of (previous l.body)) s) l.held l.set (l.end - l.counter) l.at;
+    }

@@ -2,36 +2,49 @@
 use Prim.Native.Nat.{ℕ}
 use mathlib.Core.List.{List}
 use mathlib.Core.Path.{refl, ap, ◌∙◌}
+use native.Mathlib.Omega.{arith}
 use lib.ListN.{replicate, length-replicate}
 use Rattle.misc.specs.Output.{output_of, answer_of}
 use Rattle.previous_gtids_event.specs.Entry.{Entry}
 use Rattle.previous_gtids_event.specs.Previous.{previous}
+use Rattle.gtid_sets.specs.TakeIn.{union}
 use Rattle.set_check.specs.SetOf.{entries_of}
 use Rattle.set_join.specs.Answers.{saved}
-use Rattle.set_join.proofs.FoldLaws.{merge-starts, merge-ends}
+use Rattle.set_join.specs.TakeIn.{held_set}
+use Rattle.set_join.specs.declared.Held.{Held}
+use Rattle.set_join.proofs.JoinInLaws.{into-starts, into-set}
 use Rattle.misc.proofs.Clauses.{both}
 use Rattle.set_join.proofs.take_in.merge.Goals as goal
 
--- a work buffer, as it is made
-abbrev buffer : List ℕ
-buffer = replicate 68266 0
+pub join_body-joined-requires-clause-held_is : goal.join_body-joined-requires-clause-held_is
+join_body-joined-requires-clause-held_is g c =
+    let w = c.write_bytes in
+    let buffer = replicate {A = ℕ} g.row.N 0 in
+    let size = length-replicate {A = ℕ} g.row.N 0 in
+    rw c.lent.ensures
+    (into-starts _ _ c.requires.fits c.args.body.now buffer _ (omega (arith, c.requires.room.0, size)) w.ensures.out_after w.auto.out
+    buffer refl (omega (arith, c.requires.room.1, size))).0
 
-pub join_body-set-requires-clause-held_is : goal.join_body-set-requires-clause-held_is
-join_body-set-requires-clause-held_is c =
-    let long = length-replicate {A = ℕ} 68266 0 in
-    (merge-starts buffer refl buffer c.args.body.now long long c.requires.0).0
-
-pub join_body-set-requires-clause-room : goal.join_body-set-requires-clause-room
-join_body-set-requires-clause-room c =
-    let long = length-replicate {A = ℕ} 68266 0 in
-    (merge-starts buffer refl buffer c.args.body.now long long c.requires.0).1
+pub join_body-joined-requires-clause-room : goal.join_body-joined-requires-clause-room
+join_body-joined-requires-clause-room g c =
+    let w = c.write_bytes in
+    let buffer = replicate {A = ℕ} g.row.N 0 in
+    let size = length-replicate {A = ℕ} g.row.N 0 in
+    rw c.lent.ensures
+    (into-starts _ _ c.requires.fits c.args.body.now buffer _ (omega (arith, c.requires.room.0, size)) w.ensures.out_after w.auto.out
+    buffer refl (omega (arith, c.requires.room.1, size))).1
 
 pub returns : goal.returns
-returns c =
+returns g c =
     let out = c.args.out.now in
+    let w = c.write_bytes in
+    let buffer = replicate {A = ℕ} g.row.N 0 in
+    let size = length-replicate {A = ℕ} g.row.N 0 in
     let wrote = c.write_set.ensures in
-    let all = merge-ends buffer refl _ (entries_of (previous c.args.body.now)) c.join_body-set.ensures.result_after in
+    let first = into-set _ _ c.requires.fits c.args.body.now buffer _ (omega (arith, c.requires.room.0, size)) w.ensures.out_after w.auto.out in
+    let read = entries_of (previous c.args.body.now) in
+    let all = c.join_body-joined.ensures.result_after ∙ ap (λ (h : Held). union read (held_set w.new.out h)) c.lent.ensures ∙ ap (union read) first in
     both (
-      wrote.value ∙ ap (λ (s : List Entry). answer_of out (saved s)) all,
-      wrote.out_after ∙ ap (λ (s : List Entry). output_of out (saved s)) all,
+      wrote.value ∙ ap (λ (x : List Entry). answer_of out (saved x)) all,
+      wrote.out_after ∙ ap (λ (x : List Entry). output_of out (saved x)) all,
     )

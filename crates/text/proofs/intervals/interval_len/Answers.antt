@@ -11,5 +11,5 @@ returns-then-is_next c = let a = c.args in
 pub returns : goal.returns
 returns c = let a = c.args in
     let n = c.decimal_len-len.ensures.0 in
-    let m = rw c.before-2.ensures at c.decimal_len.ensures.0 in
+    let m = rw c.saturating_sub.ensures at c.decimal_len.ensures.0 in
     (more-length a.start a.end _ n (sym c.is_next.ensures ∙ c.if-is_next.false) _ m, omega arith)

@@ -1,6 +1,6 @@
 -- `text::keys::put_uuid` meets its contract.
 use Prim.Native.Nat.{◌+◌, ◌≤◌}
-use mathlib.Core.Path.{◌≡◌, ◌∙◌}
+use mathlib.Core.Path.{◌≡◌}
 use native.Mathlib.Omega.{arith}
 use lib.ListN.{length}
 use Rattle.misc.proofs.OutputLaws.{put-placed, put-there, put-short}
@@ -16,17 +16,6 @@ returns-then-left_at-lt-UUID_TEXT c = both (put-short c.args.out.now _ c.args.at
   c.left_at.ensures,
   uuid-long c.args.uuid ((let it : length c.args.uuid ≡ 16 = omega arith in it)),
 )))
-
-pub slice_bounds-put_hex-end-4 : goal.slice_bounds-put_hex-end-4
-slice_bounds-put_hex-end-4 c = omega (arith, (let it : length c.args.uuid ≡ 16 = omega arith in it))
-
-pub slice_bounds-put_hex-end-5 : goal.slice_bounds-put_hex-end-5
-slice_bounds-put_hex-end-5 c = omega (arith, (let it : length c.args.uuid ≡ 16 = omega arith in it))
-
-pub shape_of-out : goal.shape_of-out
-shape_of-out c = c.put_hex.auto.out ∙ c.put_bytes-at8.auto.out ∙ c.put_hex-at7.auto.out ∙ c.put_bytes-at6.auto.out
-    ∙ c.put_hex-at5.auto.out ∙ c.put_bytes-at4.auto.out ∙ c.put_hex-at3.auto.out ∙ c.put_bytes-at2.auto.out
-    ∙ c.put_hex-at1.auto.out
 
 pub returns : goal.returns
 returns c = both (let run = uuid-put c.args.uuid (put-placed (

@@ -17,4 +17,4 @@ pub returns : goal.returns
 returns c = step_is c.args.first.now c.args.second.now c.args.sides c.requires.sides_are c.requires.sides_nonzero
     c.mark_at-m.result c.mark_at-n.result c.mark_at-m.ensures c.mark_at-n.ensures
     c.passed.result c.passed-2.result c.passed.ensures c.passed-2.ensures
-    c.lower.result c.lower.ensures
+    c.min.result c.min.ensures

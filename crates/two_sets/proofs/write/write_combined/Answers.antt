@@ -1,28 +1,27 @@
--- `two_sets::write::write_combined` meets its contract.
-use Rattle.misc.proofs.OutputLaws.{put-placed}
-use Rattle.two_sets.specs.Marks.{said_by}
-use Rattle.two_sets.proofs.AnswerLaws.{combining-good, entries_below, over-limits, no_room, all-written}
+use Rattle.misc.proofs.ParseLaws.{handed-on}
 use Rattle.misc.proofs.Clauses.{both}
+use Rattle.misc.proofs.OutputLaws.{put-placed}
+use Rattle.two_sets.proofs.AnswerLaws.{combining-good, entries_below, over-limits, no_room, all-written}
 use Rattle.two_sets.proofs.write.write_combined.Goals as goal
 
-pub returns-then-refusal-ne0 : goal.returns-then-refusal-ne0
-returns-then-refusal-ne0 c = both (let g = combining-good (said_by c.args.operation) c.args.first.now c.args.second.now c.args.from c.requires.0 in
-    over-limits _ g _ c.put_combined-made.ensures.made_is c.args.out.now _ c.judge-refusal.ensures c.if-refusal-ne0.true)
+pub returns-in_err-judge : goal.returns-in_err-judge
+returns-in_err-judge g c =
+    let good = combining-good g.O.Operation.op c.args.first.now c.args.second.now c.args.from c.requires.0 in
+    rw (handed-on _ c.from_residual.ensures)
+    (both (over-limits _ good _ c.put_combined-made.ensures.made_is c.args.out.now c.in_err-judge.ensures))
 
-pub length_of-len-requires : goal.length_of-len-requires
-length_of-len-requires c = let g = combining-good (said_by c.args.operation) c.args.first.now c.args.second.now c.args.from c.requires.0 in
-    entries_below _ g _ c.put_combined-made.ensures.made_is
+pub len-len-requires : goal.len-len-requires
+len-len-requires g c =
+    let good = combining-good g.O.Operation.op c.args.first.now c.args.second.now c.args.from c.requires.0 in
+    entries_below _ good _ c.put_combined-made.ensures.made_is
 
 pub returns-then-out-len : goal.returns-then-out-len
-returns-then-out-len c = both (let g = combining-good (said_by c.args.operation) c.args.first.now c.args.second.now c.args.from c.requires.0 in
-    no_room _ g _ c.put_combined-made.ensures.made_is c.args.out.now _ c.judge-refusal.ensures c.if-refusal-ne0.false _
-    c.length_of-len.ensures c.if-out-len.true)
+returns-then-out-len g c =
+    let good = combining-good g.O.Operation.op c.args.first.now c.args.second.now c.args.from c.requires.0 in
+    both (no_room _ good _ c.put_combined-made.ensures.made_is c.args.out.now c.in_ok-judge.ensures _ c.len-len.ensures c.if-out-len.true)
 
 pub returns : goal.returns
-returns c = both (let g = combining-good (said_by c.args.operation) c.args.first.now c.args.second.now c.args.from c.requires.0 in
-    all-written _ g _ c.put_combined-made.ensures.made_is c.args.out.now _
-    c.judge-refusal.ensures
-    c.if-refusal-ne0.false _
-    c.length_of-len.ensures
-    c.if-out-len.false
+returns g c =
+    let good = combining-good g.O.Operation.op c.args.first.now c.args.second.now c.args.from c.requires.0 in
+    both (all-written _ good _ c.put_combined-made.ensures.made_is c.args.out.now c.in_ok-judge.ensures _ c.len-len.ensures c.if-out-len.false
     (put-placed (c.put_header.ensures.value, c.put_header.ensures.out_after)) c.put_combined.ensures.where_fits)
