@@ -3,13 +3,16 @@ use Prim.Native.Nat.{ℕ, ◌+◌}
 use mathlib.Core.Path.{◌≡◌, refl, ◌∙◌}
 use mathlib.Core.List.{List, [], ◌∷◌, append-nil}
 use native.Mathlib.Omega.{arith}
+use Rattle.std.proofs.Common.{MutBor}
 use lib.ListN.{length, get_or, drop, length-append, drop_of_length-le}
 use lib.Dec.{ltb}
 use borrow.Author.Tests.{eq-eqb, ne_eqb}
 use Rattle.misc.specs.Le.{le_bytes, number_at}
-use Rattle.misc.specs.Output.{WhereFits}
+use Rattle.misc.specs.Put.{Puts, PutsWhereFits}
+use Rattle.misc.specs.declared.put.Put.{Put}
 use Rattle.misc.proofs.LeLaws.{length-le_bytes}
-use Rattle.misc.proofs.OutputLaws.{written_is, ◌also◌}
+use Rattle.misc.proofs.OutputLaws.{written_is}
+use Rattle.misc.proofs.PutLaws.{◌and◌, puts-fit}
 use Rattle.binlog.specs.Held.{Front}
 use Rattle.binlog.specs.declared.Phase.{Phase}
 use Rattle.binlog.specs.declared.Phase.TheVariants as phase
@@ -45,23 +48,25 @@ reader-read bs p left have len l h e n =
 
 -- the parts of a step, put one behind the other, are its bytes
 pub step-put : (s : Answer) (here : PhaseNumbers) (said : SaidNumbers) → here ≡ phase_numbers s.reader.phase → said ≡ said_numbers s.said
-    → {l l₁ l₂ l₃ l₄ l₅ l₆ : List ℕ} {at r₁ r₂ r₃ r₄ r₅ r₆ : ℕ}
-    → WhereFits l at (here.kind ∷ here.number ∷ bit s.reader.checksums ∷ said.kind ∷ said.event ∷ 0 ∷ 0 ∷ 0 ∷ []) l₁ r₁
-    → WhereFits l₁ r₁ (le_bytes 8 here.left) l₂ r₂
-    → WhereFits l₂ r₂ (le_bytes 8 here.have) l₃ r₃
-    → WhereFits l₃ r₃ (le_bytes 8 s.reader.len) l₄ r₄
-    → WhereFits l₄ r₄ (le_bytes 8 s.used) l₅ r₅
-    → WhereFits l₅ r₅ (le_bytes 8 said.len) l₆ r₆
-    → WhereFits l at (flat_step s) l₆ r₆
+    → {p p₁ p₂ p₃ p₄ p₅ p₆ : Put}
+    → Puts p (here.kind ∷ here.number ∷ bit s.reader.checksums ∷ said.kind ∷ said.event ∷ 0 ∷ 0 ∷ 0 ∷ []) p₁
+    → Puts p₁ (le_bytes 8 here.left) p₂
+    → Puts p₂ (le_bytes 8 here.have) p₃
+    → Puts p₃ (le_bytes 8 s.reader.len) p₄
+    → Puts p₄ (le_bytes 8 s.used) p₅
+    → Puts p₅ (le_bytes 8 said.len) p₆
+    → PutsWhereFits p (flat_step s) p₆
 unfolding flat_step
-step-put s here said e h head left have len used told = rw (← e, ← h) (head also left also have also len also used also told)
+step-put s here said e h head left have len used told =
+    rw (← e, ← h) (puts-fit head and puts-fit left and puts-fit have and puts-fit len and puts-fit used and puts-fit told)
 
 -- where there are 48 bytes nothing else is left
-pub step_kept : (s : Answer) (l l' : List ℕ) (r : ℕ) → length l ≡ 48 → WhereFits l 0 (flat_step s) l' r → l' ≡ flat_step s
-step_kept s l l' r long p =
+pub step_kept : (s : Answer) {out : MutBor (List ℕ)} {q : Put} → length out.now ≡ 48 → PutsWhereFits (record { out = out; at = 0 }) (flat_step s) q
+    → q.out.now ≡ flat_step s
+step_kept s {out} {q} long f =
     let size = length-step s in
-    let none : drop (0 + length (flat_step s)) l ≡ [] = drop_of_length-le l {i = 0 + length (flat_step s)} (omega (arith, size)) in
-    (p.placed (omega (arith, size))).holds ∙ written_is l 0 (flat_step s) (omega (arith, size)) ∙ rw none (append-nil (flat_step s))
+    let none : drop (0 + length (flat_step s)) out.now ≡ [] = drop_of_length-le out.now {i = 0 + length (flat_step s)} (omega (arith, size)) in
+    (f.placed (omega (arith, size))).holds ∙ written_is out.now 0 (flat_step s) (omega (arith, size)) ∙ rw none (append-nil (flat_step s))
 
 -- ---- what the calls answer and leave
 

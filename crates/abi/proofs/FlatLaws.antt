@@ -13,7 +13,7 @@ use Rattle.misc.specs.declared.refusal.Refusal.{Refusal}
 use Rattle.misc.specs.declared.refusal.WriteError.{WriteError}
 use Rattle.misc.specs.declared.refusal.WriteError.TheVariants.{Refused}
 use Rattle.misc.specs.Parse.{Bytes, Parse, refuse, parsed, part}
-use Rattle.misc.specs.Output.{bytes, output_of, answer_of, written_number, WhereFits}
+use Rattle.misc.specs.Output.{bytes, output_of, answer_of, written_number, Placed}
 use Rattle.misc.proofs.LeLaws.{length-le_bytes}
 use Rattle.misc.proofs.ParseLaws.{part_length, split, answered-ok, answered-err}
 use Rattle.misc.proofs.OutputLaws.{from_on, output-fits, output-short, output-refused}
@@ -109,9 +109,9 @@ module _ (type : ℕ) (body out : List ℕ) where
       pub out-short : length out < 116 → out ≡ output_of out (read_output (gtid type body))
       out-short h = (output-short out (flat said.event) 116 (sym size) h).1 ∙ ap (output_of out) (sym output-is)
 
-      pub out-fits : {after : List ℕ} {n : ℕ} → 116 ≤ length out → WhereFits out 0 (flat said.event) after n
+      pub out-fits : {after : List ℕ} {n : ℕ} → 116 ≤ length out → (0 + length (flat said.event) ≤ length out → Placed out 0 (flat said.event) after n)
           → after ≡ output_of out (read_output (gtid type body))
-      out-fits h p = (output-fits (omega (arith, size)) (p.placed (omega (arith, size)))).1 ∙ ap (output_of out) (sym output-is)
+      out-fits h placed = (output-fits (omega (arith, size)) (placed (omega (arith, size)))).1 ∙ ap (output_of out) (sym output-is)
 
     -- what is handed out of it: the number of what went wrong, and how many bytes were used or are needed
     abbrev HandsOut : Result GtidRead WriteError → Type 0

@@ -3,11 +3,14 @@ use Prim.Native.Nat.{ℕ, suc, ◌+◌, ◌-◌, ◌*◌, ◌<◌, ◌≤◌}
 use mathlib.Core.Path.{◌≡◌, refl, sym, ap, ◌∙◌}
 use mathlib.Core.List.{List, [], ◌∷◌, ◌++◌, append-nil, append_assoc}
 use native.Mathlib.Omega.{arith}
+use Rattle.std.proofs.Common.{MutBor}
 use lib.ListN.{length, take, set, length-set, length-append}
 use lib.Seq.{take_all}
 use lib.Dec.{eqb}
 use borrow.Author.Tests.{eq-eqb, ne_eqb, lt-ltb, le-ltb, eqb-true, eqb-false}
-use Rattle.misc.specs.Output.{answer_of, output_of, put_at, put_end, WhereFits, bytes}
+use Rattle.misc.specs.Output.{answer_of, output_of, bytes}
+use Rattle.misc.specs.Put.{Puts, PutsWhereFits}
+use Rattle.misc.specs.declared.put.Put.{Put}
 use Rattle.std.specs.Prelude.{Result, Ok, Err}
 use Rattle.misc.specs.Refusal.{number, too_long, not_writable}
 use Rattle.misc.specs.declared.refusal.Refusal.{Refusal}
@@ -18,7 +21,8 @@ use Rattle.misc.specs.Le.{le_bytes, number_at}
 use Rattle.misc.proofs.ParseLaws as parse-laws
 use Rattle.misc.proofs.ParseLaws.{ok-err}
 use Rattle.misc.proofs.LeLaws.{length-le_bytes}
-use Rattle.misc.proofs.OutputLaws.{length-written, put-placed, output-refused}
+use Rattle.misc.proofs.OutputLaws.{length-written, output-refused}
+use Rattle.misc.proofs.PutLaws.{puts-fit}
 use Rattle.packets.proofs.Tests.{split}
 use Rattle.gtid_sets.specs.Lent.{lent_set}
 use Rattle.report.specs.Report.{refused_line, line_of, max_sets, lines_of, sum_of}
@@ -127,13 +131,14 @@ module _ (bs : List ℕ) where
         (is ∙ sym line, made ∙ ap (with_line_in bs) is ∙ sym leaves)
 
 -- a line is put behind the others, and counted
-pub line_kept : (bs : List ℕ) (l : Line) (n : ℕ) → length bs ≡ 1352 → n ≡ number_at bs 0 → n < 64 → {bs₁ bs₂ : List ℕ} {r₁ r₂ : ℕ}
-    → WhereFits bs (8 + 21 * n) (flat_line l) bs₁ r₁ → (r₂ ≡ put_end bs₁ 0 (le_bytes 8 (n + 1))) × (bs₂ ≡ put_at bs₁ 0 (le_bytes 8 (n + 1)))
-    → bs₂ ≡ with_line_in bs l
-line_kept bs l n e told h {bs₁} {bs₂} p q =
-    let first = p.placed (omega (arith, length-line l)) in
-    let same : length bs₁ ≡ length bs = ap length first.holds ∙ length-written bs (8 + 21 * n) (flat_line l) in
-    let last = (put-placed q).placed (omega (arith, length-le_bytes 8 (n + 1))) in
+pub line_kept : {report : MutBor (List ℕ)} (l : Line) (n : ℕ) → length report.now ≡ 1352 → n ≡ number_at report.now 0 → n < 64 → {p q : Put}
+    → PutsWhereFits (record { out = report; at = 8 + 21 * n }) (flat_line l) p → Puts (record { out = p.out; at = 0 }) (le_bytes 8 (n + 1)) q
+    → q.out.now ≡ with_line_in report.now l
+line_kept {report} l n e told h {p} {q} line count =
+    let bs = report.now in
+    let first = line.placed (omega (arith, length-line l)) in
+    let same : length p.out.now ≡ length bs = ap length first.holds ∙ length-written bs (8 + 21 * n) (flat_line l) in
+    let last = (puts-fit count).placed (omega (arith, length-le_bytes 8 (n + 1))) in
     last.holds ∙ rw (first.holds, told)
 
 -- ---- the sums and the text

@@ -1,54 +1,54 @@
 // A GTID record as 116 bytes: written, field after field, and read again.
 ghost use Rattle.std.specs.Prelude.{◌≡◌, length};
-ghost use Rattle.misc.specs.Output.{WhereFits};
+ghost use Rattle.misc.specs.Put.{PutsWhereFits};
 ghost use Rattle.abi.specs.Flat.{record_size, flat_identity, flat_clock, flat_rest, flat, four_at, typecode_if, flat_read};
 
 use gtid_event::GtidEvent;
 use misc::le::{number_at, read_u32_le};
-use misc::put::{put_byte, put_bytes, put_u32_le, put_u64_le};
+use misc::put::Put;
 use packets::{tag_bytes, uuid_bytes};
 
-// ---- writing: each function hands back the place after what it wrote, and promises nothing where there is no room
+// ---- writing: nothing is promised where there is no room
 
-fn put_identity(event: GtidEvent, out: &mut [u8], at: usize) -> usize
-    ensures { WhereFits out.old at (flat_identity event) out.new result }
+fn put_identity(put: &mut Put<'_>, event: GtidEvent)
+    ensures { PutsWhereFits put.old (flat_identity event) put.new }
 {
     let sid = event.sid;
     let tag = event.tag;
-    let after_flags = put_byte(event.flags, out, at);
-    let after_sid = put_bytes(&sid, out, after_flags);
-    let after_gno = put_u64_le(event.gno, out, after_sid);
-    let after_len = put_byte(event.tag_len, out, after_gno);
-    put_bytes(&tag, out, after_len)
+    put.byte(event.flags);
+    put.bytes(&sid);
+    put.u64_le(event.gno);
+    put.byte(event.tag_len);
+    put.bytes(&tag);
 }
 
-fn put_clock(event: GtidEvent, out: &mut [u8], at: usize) -> usize
-    ensures { WhereFits out.old at (flat_clock event) out.new result }
+fn put_clock(put: &mut Put<'_>, event: GtidEvent)
+    ensures { PutsWhereFits put.old (flat_clock event) put.new }
 {
-    let there = (0 < event.lc_typecode) as u8;
-    let after_there = put_byte(there, out, at);
-    let after_typecode = put_byte(event.lc_typecode, out, after_there);
-    let after_last = put_u64_le(event.last_committed, out, after_typecode);
-    let after_sequence = put_u64_le(event.sequence_number, out, after_last);
-    let after_immediate = put_u64_le(event.immediate_commit_timestamp, out, after_sequence);
-    put_u64_le(event.original_commit_timestamp, out, after_immediate)
+    let there = 0 < event.lc_typecode;
+    put.byte(there as u8);
+    put.byte(event.lc_typecode);
+    put.u64_le(event.last_committed);
+    put.u64_le(event.sequence_number);
+    put.u64_le(event.immediate_commit_timestamp);
+    put.u64_le(event.original_commit_timestamp);
 }
 
-fn put_rest(event: GtidEvent, out: &mut [u8], at: usize) -> usize
-    ensures { WhereFits out.old at (flat_rest event) out.new result }
+fn put_rest(put: &mut Put<'_>, event: GtidEvent)
+    ensures { PutsWhereFits put.old (flat_rest event) put.new }
 {
-    let after_length = put_u64_le(event.tx_length, out, at);
-    let after_immediate = put_u32_le(event.immediate_server_version, out, after_length);
-    let after_original = put_u32_le(event.original_server_version, out, after_immediate);
-    put_u64_le(event.commit_group_ticket, out, after_original)
+    put.u64_le(event.tx_length);
+    put.u32_le(event.immediate_server_version);
+    put.u32_le(event.original_server_version);
+    put.u64_le(event.commit_group_ticket);
 }
 
-pub(crate) fn put_record(event: GtidEvent, out: &mut [u8], at: usize) -> usize
-    ensures { WhereFits out.old at (flat event) out.new result }
+pub(crate) fn put_record(put: &mut Put<'_>, event: GtidEvent)
+    ensures { PutsWhereFits put.old (flat event) put.new }
 {
-    let after_identity = put_identity(event, out, at);
-    let after_clock = put_clock(event, out, after_identity);
-    put_rest(event, out, after_clock)
+    put_identity(put, event);
+    put_clock(put, event);
+    put_rest(put, event);
 }
 
 // ---- reading

@@ -1,12 +1,12 @@
 // A binlog reader as 48 bytes, with what its last call said: written, and read again.
 ghost use Rattle.std.specs.Prelude.{◌≡◌, length};
-ghost use Rattle.misc.specs.Output.{WhereFits};
+ghost use Rattle.misc.specs.Put.{PutsWhereFits};
 ghost use Rattle.abi.specs.FlatBinlog.{reader_size, phase_numbers, phase_from, told_number, said_numbers, flat_step, reader_in};
 
 use binlog::Phase;
 use binlog_reader::{Answer, Reader, Said, Told};
 use misc::le::number_at;
-use misc::put::{put_bytes, put_u64_le};
+use misc::put::Put;
 
 // Where a reader is, as numbers: a reader goes through C as 48 bytes.
 #[derive(Clone, Copy)]
@@ -133,8 +133,8 @@ pub(crate) fn said_numbers(said: Said) -> SaidNumbers
 }
 
 // Puts a reader and what was said, where there is room.
-pub(crate) fn put_step(step: Answer, out: &mut [u8], at: usize) -> usize
-    ensures { WhereFits out.old at (flat_step step) out.new result }
+pub(crate) fn put_step(put: &mut Put<'_>, step: Answer)
+    ensures { PutsWhereFits put.old (flat_step step) put.new }
 {
     let reader = step.reader;
     let phase = reader.phase;
@@ -151,12 +151,12 @@ pub(crate) fn put_step(step: Answer, out: &mut [u8], at: usize) -> usize
         0,
         0,
     ];
-    let after_head = put_bytes(&head, out, at);
-    let after_left = put_u64_le(here.left as u64, out, after_head);
-    let after_have = put_u64_le(here.have as u64, out, after_left);
-    let after_len = put_u64_le(reader.len as u64, out, after_have);
-    let after_used = put_u64_le(step.used as u64, out, after_len);
-    put_u64_le(said.len as u64, out, after_used)
+    put.bytes(&head);
+    put.u64_le(here.left as u64);
+    put.u64_le(here.have as u64);
+    put.u64_le(reader.len as u64);
+    put.u64_le(step.used as u64);
+    put.u64_le(said.len as u64);
 }
 
 pub(crate) fn reader_in(s: &[u8]) -> Reader
@@ -183,6 +183,7 @@ pub(crate) fn keep_step(step: Answer, reader: &mut [u8]) -> u8
 {
     let words = step.said;
     let said = said_numbers(words);
-    put_step(step, reader, 0);
+    let mut put = Put { out: reader, at: 0 };
+    put_step(&mut put, step);
     said.refusal
 }

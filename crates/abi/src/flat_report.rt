@@ -1,26 +1,26 @@
 // A report as 1,352 bytes: how many sets it is over, and 21 bytes for each of its lines.
 ghost use Rattle.std.specs.Prelude.{◌≡◌, ◌<◌, length, Ok};
-ghost use Rattle.misc.specs.Output.{WhereFits};
+ghost use Rattle.misc.specs.Put.{PutsWhereFits};
 ghost use Rattle.abi.specs.FlatReport.{line_size, report_size, flat_line, line_in, report_in, with_line_in, room_for};
 
 use crate::REPORT_SIZE;
 use crate::flat::four_at;
 use misc::le::number_at;
-use misc::put::{put_byte, put_u32_le, put_u64_le};
+use misc::put::Put;
 use misc::refusal::Refusal;
 use report::{Line, MAX_SETS, Report};
 
 // How many bytes a line has.
 pub(crate) const LINE_SIZE: usize = 21;
 
-fn put_line(line: Line, out: &mut [u8], at: usize) -> usize
-    ensures { WhereFits out.old at (flat_line line) out.new result }
+fn put_line(put: &mut Put<'_>, line: Line)
+    ensures { PutsWhereFits put.old (flat_line line) put.new }
 {
-    let after_refusal = put_byte(line.refusal, out, at);
-    let after_entries = put_u32_le(line.entries, out, after_refusal);
-    let after_intervals = put_u32_le(line.intervals, out, after_entries);
-    let after_high = put_u32_le(line.high, out, after_intervals);
-    put_u64_le(line.low, out, after_high)
+    put.byte(line.refusal);
+    put.u32_le(line.entries);
+    put.u32_le(line.intervals);
+    put.u32_le(line.high);
+    put.u64_le(line.low);
 }
 
 // Whether there is a place for one line more: refused are bytes that are no report (12) and a report over 64 sets (11).
@@ -42,8 +42,13 @@ pub(crate) fn keep_line(line: Line, report: &mut [u8])
     ensures { report.new ≡ with_line_in report.old line }
 {
     let sets = number_at(report, 0);
-    put_line(line, report, 8 + LINE_SIZE * sets as usize);
-    put_u64_le(sets + 1, report, 0);
+    let mut put = Put {
+        out: report,
+        at: 8 + LINE_SIZE * sets as usize,
+    };
+    put_line(&mut put, line);
+    put.at = 0;
+    put.u64_le(sets + 1);
 }
 
 fn line_in(s: &[u8]) -> Line

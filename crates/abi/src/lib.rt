@@ -28,6 +28,7 @@ use flat_binlog::{keep_step, reader_in};
 use flat_report::{LINE_SIZE, keep_line, report_in, room_for};
 use gtid_event_read::{GtidRead, read};
 use gtid_event_write::write::write;
+use misc::put::Put;
 use misc::refusal::{Refusal, WriteError};
 use misc::varlen::read_varlen_uint;
 use previous_gtids_event::EntryRead;
@@ -347,7 +348,8 @@ fn read_into(event_type: u8, body: &[u8], out: &mut [u8]) -> Result<GtidRead, Wr
     if out.len() < RECORD_SIZE {
         return Err(WriteError::NoRoom(RECORD_SIZE));
     }
-    put_record(said.event, out, 0);
+    let mut put = Put { out, at: 0 };
+    put_record(&mut put, said.event);
     Ok(said)
 }
 

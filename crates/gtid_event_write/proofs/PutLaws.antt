@@ -10,34 +10,35 @@ use lib.Seq.{take-suc, take_all}
 use lib.Bits.{bit_or, or_shifted_r}
 use borrow.Author.Tests.{ne_eqb}
 use Rattle.std.specs.Prelude.{Ok}
+use Rattle.std.proofs.Common.{MutBor}
 use Rattle.misc.specs.Le.{le_bytes}
-use Rattle.misc.specs.Output.{bytes, answer_of, output_of, Placed, WhereFits}
+use Rattle.misc.specs.Output.{bytes, answer_of, output_of}
+use Rattle.misc.specs.Put.{PutsWhereFits}
+use Rattle.misc.specs.declared.put.Put.{Put}
 use Rattle.misc.specs.Varlen.{varlen_bytes}
 use Rattle.misc.proofs.VarlenLaws.{bytes-short}
-use Rattle.misc.proofs.OutputLaws.{nothing_placed, output-fits, ◌also◌}
+use Rattle.misc.proofs.OutputLaws.{output-fits}
+use Rattle.misc.proofs.PutLaws.{◌and◌, puts-fit, puts_none}
 use Rattle.gtid_event_write.proofs.SizeLaws.{size-two}
 use Rattle.gtid_event.specs.Event.{IsWidth}
 use Rattle.gtid_event_write.specs.Layout.{items_bytes, pair_bytes}
 use mathlib.Core.Logic.{inl, inr}
 
--- what is placed is placed where it fits
-pub fits : {l bs l' : List ℕ} {at next : ℕ} → Placed l at bs l' next → WhereFits l at bs l' next
-fits p = record { placed = λ room. p }
+-- the same bytes, said otherwise
+pub with-bytes : {p q : Put} {a b : List ℕ} → a ≡ b → PutsWhereFits p a q → PutsWhereFits p b q
+with-bytes {p} {q} {a} {b} e f = rw e at f
 
-pub with-bytes : {l a b l' : List ℕ} {at next : ℕ} → a ≡ b → WhereFits l at a l' next → WhereFits l at b l' next
-with-bytes {l} {a} {b} {l'} {at} {next} e p = rw e at p
-
--- what is placed at the front of an output, where it fits, is the answer
-pub wrote : {l bs l' : List ℕ} {n : ℕ} → length bs ≤ length l → WhereFits l 0 bs l' n
-    → (Ok n ≡ answer_of l (bytes bs)) × (l' ≡ output_of l (bytes bs))
-wrote room p = output-fits room (p.placed (omega arith))
+-- what is put at the front of an output, where it fits, is the answer
+pub wrote : {out : MutBor (List ℕ)} {q : Put} {bs : List ℕ} → length bs ≤ length out.now → PutsWhereFits (record { out = out; at = 0 }) bs q
+    → (Ok q.at ≡ answer_of out.now (bytes bs)) × (q.out.now ≡ output_of out.now (bytes bs))
+wrote room f = output-fits room (f.placed (omega arith))
 
 -- and so many bytes are written as there are
-pub wrote-all : {l bs l' : List ℕ} {n : ℕ} (size : ℕ) → size ≡ length bs → size ≤ length l → WhereFits l 0 bs l' n
-    → (Ok size ≡ answer_of l (bytes bs)) × (l' ≡ output_of l (bytes bs))
-wrote-all {l} {bs} {l'} {n} size is room p =
-    let ends : n ≡ size = (p.placed (omega arith)).ends ∙ omega arith in
-    rw ends at (wrote (omega arith) p)
+pub wrote-all : {out : MutBor (List ℕ)} {q : Put} {bs : List ℕ} (size : ℕ) → size ≡ length bs → size ≤ length out.now
+    → PutsWhereFits (record { out = out; at = 0 }) bs q → (Ok size ≡ answer_of out.now (bytes bs)) × (q.out.now ≡ output_of out.now (bytes bs))
+wrote-all {out} {q} {bs} size is room f =
+    let ends : q.at ≡ size = (f.placed (omega arith)).ends ∙ omega arith in
+    rw ends at (wrote (omega arith) f)
 
 -- ---- an integer in two bytes
 
@@ -60,18 +61,17 @@ pub items-next : (s : List ℕ) (i : ℕ) → i < length s → items_bytes (take
 unfolding items_bytes
 items-next s i h = rw (add-one, take-suc s i 0 h, items-append) (ap (λ (t : List ℕ). items_bytes (take i s) ++ t) (append-nil (varlen_bytes (get_or s i 0))))
 
--- a turn of the loop that writes them
-pub items-turn : (s : List ℕ) (i : ℕ) {l l₁ l₂ : List ℕ} {at at₁ at₂ : ℕ} → i < length s → WhereFits l at (items_bytes (take i s)) l₁ at₁
-    → WhereFits l₁ at₁ (varlen_bytes (get_or s i 0)) l₂ at₂ → WhereFits l at (items_bytes (take (i + 1) s)) l₂ at₂
-items-turn s i h p q = rw (items-next s i h) (p also q)
+-- a turn of the loop that puts them
+pub items-turn : (s : List ℕ) (i : ℕ) {p q r : Put} → i < length s → PutsWhereFits p (items_bytes (take i s)) q
+    → PutsWhereFits q (varlen_bytes (get_or s i 0)) r → PutsWhereFits p (items_bytes (take (i + 1) s)) r
+items-turn s i h f g = rw (items-next s i h) (f and g)
 
-pub items-start : (s l : List ℕ) (at : ℕ) → WhereFits l at (items_bytes (take 0 s)) l at
+pub items-start : (s : List ℕ) (p : Put) → PutsWhereFits p (items_bytes (take 0 s)) p
 unfolding items_bytes
-items-start s l at = fits (nothing_placed l at)
+items-start s p = puts-fit (puts_none p)
 
-pub items-end : (s : List ℕ) (i : ℕ) {l l' : List ℕ} {at next : ℕ} → length s ≤ i → WhereFits l at (items_bytes (take i s)) l' next
-    → WhereFits l at (items_bytes s) l' next
-items-end s i h p = rw (take_all i s h) at p
+pub items-end : (s : List ℕ) (i : ℕ) {p q : Put} → length s ≤ i → PutsWhereFits p (items_bytes (take i s)) q → PutsWhereFits p (items_bytes s) q
+items-end s i h f = rw (take_all i s h) at f
 
 -- ---- an immediate number and its original, which differ
 
@@ -84,6 +84,6 @@ pub marked : (w x : ℕ) → IsWidth w → x < 2 ^ (8 * w - 1)
 marked w x (inl e) h = let below : x < 2 ^ 55 = rw e at h in rw e (flagged 55 x below, omega arith)
 marked w x (inr e) h = let below : x < 2 ^ 31 = rw e at h in rw e (flagged 31 x below, omega arith)
 
-pub pair-placed : (w mark x y : ℕ) {m : ℕ} {l l₁ l₂ : List ℕ} {at at₁ at₂ : ℕ} → m ≡ x + mark → (x ≡ y → ⊥) → WhereFits l at (le_bytes w m) l₁ at₁
-    → WhereFits l₁ at₁ (le_bytes w y) l₂ at₂ → WhereFits l at (pair_bytes w mark x y) l₂ at₂
-pair-placed w mark x y is ne p q = rw (ne_eqb x y ne) (with-bytes (ap (le_bytes w) is) p also q)
+pub pair-placed : (w mark x y : ℕ) {m : ℕ} {p q r : Put} → m ≡ x + mark → (x ≡ y → ⊥) → PutsWhereFits p (le_bytes w m) q
+    → PutsWhereFits q (le_bytes w y) r → PutsWhereFits p (pair_bytes w mark x y) r
+pair-placed w mark x y is ne f g = rw (ne_eqb x y ne) (with-bytes (ap (le_bytes w) is) f and g)

@@ -1,7 +1,8 @@
 // The untagged layout: fixed places, and the highest bit of an immediate number says that its original follows.
 ghost use Rattle.std.specs.Prelude.{◌≡◌, true, ℕ, ◌*◌, ◌-◌, ◌^◌, ◌≤◌, ◌<◌, length};
 ghost use Rattle.misc.specs.Le.{le_bytes};
-ghost use Rattle.misc.specs.Output.{bytes, output_of, answer_of, WhereFits};
+ghost use Rattle.misc.specs.Output.{bytes, output_of, answer_of};
+ghost use Rattle.misc.specs.Put.{PutsWhereFits};
 ghost use Rattle.gtid_event.specs.Event.{IsWidth};
 ghost use Rattle.gtid_event_write.specs.Writable.{writable_untagged};
 ghost use Rattle.gtid_event_write.specs.Layout.{pair_bytes, opening_bytes, later_bytes, untagged_bytes};
@@ -11,31 +12,33 @@ use gtid_event::{
     IMMEDIATE_SERVER_VERSION_LENGTH, LOGICAL_TIMESTAMP_TYPECODE,
 };
 use misc::lenenc::lenenc_int_len;
-use misc::put::{put_byte, put_bytes, put_lenenc_int, put_u32_le, put_u56_le, put_u64_le};
+use misc::put::Put;
 use misc::refusal::WriteError;
 
 // A number of a timestamp's width, or of a server version's.
-fn put_wide<const WIDTH: usize>(value: u64, out: &mut [u8], at: usize) -> usize
+fn put_wide<const WIDTH: usize>(put: &mut Put<'_>, value: u64)
     requires { IsWidth WIDTH × (value < 256 ^ WIDTH) }
-    ensures { WhereFits out.old at (le_bytes WIDTH value) out.new result }
+    ensures { PutsWhereFits put.old (le_bytes WIDTH value) put.new }
 {
     if WIDTH == IMMEDIATE_COMMIT_TIMESTAMP_LENGTH {
-        return put_u56_le(value, out, at);
+        put.u56_le(value);
+        return;
     }
-    put_u32_le(value as u32, out, at)
+    put.u32_le(value as u32);
 }
 
 // An immediate number, and its original if it differs: then the highest bit of the immediate one says so.
-fn put_pair<const WIDTH: usize>(immediate: u64, original: u64, out: &mut [u8], at: usize) -> usize
+fn put_pair<const WIDTH: usize>(put: &mut Put<'_>, immediate: u64, original: u64)
     requires { IsWidth WIDTH × (immediate < 2 ^ (8 * WIDTH - 1)) × (original < 256 ^ WIDTH) }
-    ensures { WhereFits out.old at (pair_bytes WIDTH (2 ^ (8 * WIDTH - 1)) immediate original) out.new result }
+    ensures { PutsWhereFits put.old (pair_bytes WIDTH (2 ^ (8 * WIDTH - 1)) immediate original) put.new }
 {
     if immediate == original {
-        return put_wide::<WIDTH>(immediate, out, at);
+        put_wide::<WIDTH>(put, immediate);
+        return;
     }
     let mark = 1 << (8 * WIDTH - 1);
-    let after_immediate = put_wide::<WIDTH>(immediate | mark, out, at);
-    put_wide::<WIDTH>(original, out, after_immediate)
+    put_wide::<WIDTH>(put, immediate | mark);
+    put_wide::<WIDTH>(put, original);
 }
 
 // The length of both; whatever the mark is.
@@ -49,35 +52,33 @@ fn pair_len(width: usize, immediate: u64, original: u64) -> usize
     width + width
 }
 
-fn put_opening(event: GtidEvent, out: &mut [u8], at: usize) -> usize
-    ensures { WhereFits out.old at (opening_bytes event) out.new result }
+fn put_opening(put: &mut Put<'_>, event: GtidEvent)
+    ensures { PutsWhereFits put.old (opening_bytes event) put.new }
 {
     let sid = event.sid;
-    let after_flags = put_byte(event.flags, out, at);
-    let after_sid = put_bytes(&sid, out, after_flags);
-    put_u64_le(event.gno, out, after_sid)
+    put.byte(event.flags);
+    put.bytes(&sid);
+    put.u64_le(event.gno);
 }
 
-fn put_later(event: GtidEvent, out: &mut [u8], at: usize) -> usize
+fn put_later(put: &mut Put<'_>, event: GtidEvent)
     requires { writable_untagged event ≡ true }
-    ensures { WhereFits out.old at (later_bytes event) out.new result }
+    ensures { PutsWhereFits put.old (later_bytes event) put.new }
 {
-    let after_typecode = put_byte(LOGICAL_TIMESTAMP_TYPECODE, out, at);
-    let after_last = put_u64_le(event.last_committed, out, after_typecode);
-    let after_sequence = put_u64_le(event.sequence_number, out, after_last);
-    let after_times = put_pair::<IMMEDIATE_COMMIT_TIMESTAMP_LENGTH>(
+    put.byte(LOGICAL_TIMESTAMP_TYPECODE);
+    put.u64_le(event.last_committed);
+    put.u64_le(event.sequence_number);
+    put_pair::<IMMEDIATE_COMMIT_TIMESTAMP_LENGTH>(
+        put,
         event.immediate_commit_timestamp,
         event.original_commit_timestamp,
-        out,
-        after_sequence,
     );
-    let after_length = put_lenenc_int(event.tx_length, out, after_times);
+    put.lenenc_int(event.tx_length);
     put_pair::<IMMEDIATE_SERVER_VERSION_LENGTH>(
+        put,
         event.immediate_server_version as u64,
         event.original_server_version as u64,
-        out,
-        after_length,
-    )
+    );
 }
 
 pub(crate) fn len_untagged(event: GtidEvent) -> usize
@@ -112,9 +113,11 @@ pub(crate) fn serialize_untagged(event: GtidEvent, out: &mut [u8]) -> Result<usi
     if out.len() < needed {
         return Err(WriteError::NoRoom(needed));
     }
-    let after_gno = put_opening(event, out, 0);
+    let mut put = Put { out, at: 0 };
+    put_opening(&mut put, event);
     if event.lc_typecode == 0 {
-        return Ok(after_gno);
+        return Ok(put.at);
     }
-    Ok(put_later(event, out, after_gno))
+    put_later(&mut put, event);
+    Ok(put.at)
 }

@@ -7,11 +7,14 @@ use lib.ListN.{length, take, drop, length-append, length-drop}
 use lib.Seq.{take_at, drop-append-le}
 use borrow.Author.Tests.{le-leb, ne_eqb}
 use Rattle.misc.specs.Parse.{Bytes}
-use Rattle.misc.specs.Output.{bytes, output_of, answer_of, put_end, WhereFits}
+use Rattle.misc.specs.Output.{bytes, output_of, answer_of}
+use Rattle.misc.specs.Put.{Puts, PutsWhereFits}
+use Rattle.misc.specs.declared.put.Put.{Put}
 use Rattle.misc.specs.declared.refusal.WriteError.{WriteError}
 use Rattle.std.specs.Prelude.{Result, Ok, IsOk}
 use Rattle.misc.proofs.ParseLaws.{split}
 use Rattle.misc.proofs.OutputLaws.{put-short}
+use Rattle.misc.proofs.PutLaws.{puts-fit}
 use Rattle.gtid_sets.specs.Run as run
 use Rattle.gtid_sets.specs.Run.{anonymous, broken, names}
 use Rattle.resume_set.specs.Answers.{event_of}
@@ -26,11 +29,11 @@ use Rattle.gtid_follow.specs.declared.lines.Lines.{Lines}
 use Rattle.gtid_follow.specs.Program.{line_room, id_line, answer_line, Names, Added, Lined}
 
 -- a place in a text, behind what was put there
-pub put-within : (l : List ℕ) (at : ℕ) (bs : List ℕ) (r : ℕ) → at ≤ length l → r ≡ put_end l at bs → r ≤ length l
-unfolding put_end
-put-within l at bs r h e = split (at + length bs) (length l)
-    (λ room. let is : r ≡ at + length bs = e ∙ rw (le-leb (at + length bs) (length l) room) in omega arith)
-    (λ none. omega (arith, e, (put-short l bs at none).0))
+pub put-within : (p : Put) (bs : List ℕ) (q : Put) → p.at ≤ length p.out.now → Puts p bs q → q.at ≤ length p.out.now
+put-within p bs q h f = let l = p.out.now in
+    split (p.at + length bs) (length l)
+    (λ room. omega (arith, ((puts-fit f).placed room).ends))
+    (λ none. omega (arith, f.at, (put-short l bs p.at none).0))
 
 -- ---- the line of an id
 
@@ -97,12 +100,12 @@ answer-line-most AlreadyThere type body other ok = simp length-append (omega (ar
 answer-line-most Taken type body other ok = simp length-append (omega (arith, id-line-most type body other ok))
 answer-line-most Joined type body other ok = omega arith
 
-pub line-added : (told : Told) (type : ℕ) (body l l' : List ℕ) (at r : ℕ) → Names told type → Bytes body → at + line_room ≤ length l
-    → WhereFits l at (answer_line told type body) l' r → Added l (answer_line told type body) l' r
-line-added told type body l l' at r other ok room fits =
+pub line-added : (told : Told) (type : ℕ) (body : List ℕ) (p q : Put) → Names told type → Bytes body → p.at + line_room ≤ length p.out.now
+    → PutsWhereFits p (answer_line told type body) q → {after : List ℕ} → after ≡ q.out.now → Added p.out.now (answer_line told type body) after q.at
+line-added told type body p q other ok room fits left =
     let most = answer-line-most told type body other ok in
     let placed = fits.placed (omega arith) in
-    record { start = at; placed = placed; within = omega (arith, placed.ends) }
+    record { start = p.at; placed = record { holds = left ∙ placed.holds; ends = placed.ends }; within = omega (arith, placed.ends) }
 
 pub lined-within : (said : Said) (work : List ℕ) (lines : Lines) (text : List ℕ) (lines' : Lines) (text' : List ℕ)
     → Lined said work lines text lines' text' → lines.waiting ≤ length text → lines'.waiting ≤ length text

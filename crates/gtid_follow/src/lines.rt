@@ -1,13 +1,13 @@
 // The lines that the program writes: they gather at the front of a text, and are written when that is nearly full, and before the program
 // waits for more input.
 ghost use Rattle.std.specs.Prelude.{◌≡◌, ◌++◌, ◌+◌, ◌≤◌, length};
-ghost use Rattle.misc.specs.Output.{WhereFits};
+ghost use Rattle.misc.specs.Put.{PutsWhereFits};
 ghost use Rattle.binlog_reader.specs.declared.Told.TheVariants.{Taken};
 ghost use Rattle.gtid_follow.specs.Program.{line_room, id_line, answer_line, Names, Added, StaysUnheard};
 
 use binlog_reader::Told;
 use listing::event_text::list;
-use misc::put::put_bytes;
+use misc::put::Put;
 use text::lines::put_refused;
 
 // No line is longer.
@@ -64,26 +64,26 @@ fn with_room(lines: Lines, text: &[u8]) -> Lines
 }
 
 // Puts a word and the id of an event, as the listing has it.
-fn put_id(word: &[u8], event_type: u8, body: &[u8], text: &mut [u8], at: usize) -> usize
+fn put_id(put: &mut Put<'_>, word: &[u8], event_type: u8, body: &[u8])
     requires { Names Taken event_type }
-    ensures { WhereFits text.old at (word.now ++ id_line event_type body.now) text.new result }
+    ensures { PutsWhereFits put.old (word.now ++ id_line event_type body.now) put.new }
 {
     let mut line = [0u8; LINE_ROOM];
     let len = list(event_type, body, &mut line).unwrap();
-    let from = put_bytes(word, text, at);
-    put_bytes(&line[WORD..len], text, from)
+    put.bytes(word);
+    put.bytes(&line[WORD..len]);
 }
 
 // Puts the line of what an event was told.
-fn put_told(told: Told, event_type: u8, body: &[u8], text: &mut [u8], at: usize) -> usize
+fn put_told(put: &mut Put<'_>, told: Told, event_type: u8, body: &[u8])
     requires { Names told event_type }
-    ensures { WhereFits text.old at (answer_line told event_type body.now) text.new result }
+    ensures { PutsWhereFits put.old (answer_line told event_type body.now) put.new }
 {
     match told {
-        Told::NoId => put_bytes(b"no id\n", text, at),
-        Told::AlreadyThere => put_id(b"already there ", event_type, body, text, at),
-        Told::Taken => put_id(b"taken ", event_type, body, text, at),
-        Told::Joined => put_bytes(b"joined\n", text, at),
+        Told::NoId => put.bytes(b"no id\n"),
+        Told::AlreadyThere => put_id(put, b"already there ", event_type, body),
+        Told::Taken => put_id(put, b"taken ", event_type, body),
+        Told::Joined => put.bytes(b"joined\n"),
     }
 }
 
@@ -101,9 +101,13 @@ pub(crate) fn put_answer(
     ensures stays_unheard { StaysUnheard lines result }
 {
     let before = with_room(lines, text);
-    let waiting = put_told(told, event_type, body, text, before.waiting);
+    let mut put = Put {
+        out: text,
+        at: before.waiting,
+    };
+    put_told(&mut put, told, event_type, body);
     Lines {
-        waiting,
+        waiting: put.at,
         heard: before.heard,
     }
 }
@@ -117,12 +121,14 @@ pub(crate) fn put_refusal(lines: Lines, refusal: Option<u8>, text: &mut [u8]) ->
         return flushed(lines, text);
     };
     let before = with_room(lines, text);
-    let waiting = put_refused(number, text, before.waiting);
-    flushed(
-        Lines {
-            waiting,
-            heard: before.heard,
-        },
-        text,
-    )
+    let mut put = Put {
+        out: text,
+        at: before.waiting,
+    };
+    put_refused(&mut put, number);
+    let lines = Lines {
+        waiting: put.at,
+        heard: before.heard,
+    };
+    flushed(lines, text)
 }

@@ -148,6 +148,7 @@ fn through(
     ensures used_value { UsesAll (length chunk.now) result }
 {
     let mut here = walk;
+    // each turn uses as much as the reader says: no index is counted
     while here.used < chunk.len() {
         match step(here, chunk, work, set, spare, text) {
             Turn::On(next) => here = next,

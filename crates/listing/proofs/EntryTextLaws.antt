@@ -6,9 +6,10 @@ use native.Mathlib.Omega.{arith}
 use lib.ListN.{length, length-append}
 use Rattle.packets.proofs.KeptLaws.{kept_whole}
 use Rattle.misc.specs.Parse.{part}
-use Rattle.misc.specs.Output.{WhereFits}
+use Rattle.misc.specs.Put.{PutsWhereFits}
+use Rattle.misc.specs.declared.put.Put.{Put}
 use Rattle.misc.proofs.ParseLaws.{part_length}
-use Rattle.misc.proofs.OutputLaws.{◌also◌}
+use Rattle.misc.proofs.PutLaws.{◌and◌}
 use Rattle.packets.specs.Kept.{kept}
 use Rattle.previous_gtids_event.proofs.Reading.{uuid-of, tag-of}
 use Rattle.set_check.specs.Places.{place_in}
@@ -44,10 +45,10 @@ module _ (set : List ℕ) (at : ℕ) (e : EntryPlace) (there : at + 16 ≤ lengt
       let key = key-long uuid (tag_in set e) whole in
       rw entry-text (simp length-append (omega arith))
 
-  pub entry-put : {l l₁ l₂ l₃ : List ℕ} {at₀ at₁ at₂ at₃ : ℕ} → WhereFits l at₀ (key_text uuid (tag_in set e)) l₁ at₁
-      → WhereFits l₁ at₁ (intervals_text (intervals_there set e)) l₂ at₂ → WhereFits l₂ at₂ (newline ∷ []) l₃ at₃
-      → WhereFits l at₀ (entry_text (entry_in set at e)) l₃ at₃
-  entry-put p q r = rw entry-text (p also q also r)
+  pub entry-put : {p q r s : Put} → PutsWhereFits p (key_text uuid (tag_in set e)) q
+      → PutsWhereFits q (intervals_text (intervals_there set e)) r → PutsWhereFits r (newline ∷ []) s
+      → PutsWhereFits p (entry_text (entry_in set at e)) s
+  entry-put f g h = rw entry-text (f and g and h)
 
 -- ---- the entries from a cursor on
 

@@ -7,11 +7,14 @@ use lib.ListN.{length, take, length-append}
 use borrow.Author.Tests.{eq-eqb, ne_eqb}
 use Rattle.std.specs.Prelude.{Result, Ok, Err}
 use Rattle.misc.specs.Parse.{Parse, Bytes}
-use Rattle.misc.specs.Output.{Output, bytes, output_of, answer_of, WhereFits}
+use Rattle.misc.specs.Output.{Output, bytes, output_of, answer_of}
+use Rattle.misc.specs.Put.{PutsWhereFits}
+use Rattle.misc.specs.declared.put.Put.{Put}
 use Rattle.misc.specs.Refusal.{number}
 use Rattle.misc.specs.declared.refusal.Refusal.{Refusal}
 use Rattle.misc.specs.declared.refusal.WriteError.{WriteError}
-use Rattle.misc.proofs.OutputLaws.{◌also◌, output-fits}
+use Rattle.misc.proofs.PutLaws.{◌and◌}
+use Rattle.misc.proofs.OutputLaws.{output-fits}
 use Rattle.previous_gtids_event.specs.Previous.{previous}
 use Rattle.previous_gtids_event.proofs.Reading.{uuid-of, tag-of}
 use Rattle.gtid_event.specs.declared.GtidEvent.{GtidEvent}
@@ -29,11 +32,11 @@ use Rattle.listing.specs.EventText.{anonymous_word, gtid_word, id_text, record_t
 -- ---- a text that is written whole
 
 -- it is put at the front, and there is room
-pub fits_whole : {l l' bs : List ℕ} {r : ℕ} (n : ℕ) → n ≡ length bs → n ≤ length l → WhereFits l 0 bs l' r
-    → (Ok n ≡ answer_of l (bytes bs)) × (l' ≡ output_of l (bytes bs))
-fits_whole {l} {l'} {bs} {r} n size room w =
-    let p = w.placed (omega arith) in
-    output-fits (omega arith) (record { holds = p.holds; ends = omega arith })
+pub fits_whole : {p q : Put} {bs : List ℕ} (n : ℕ) → n ≡ length bs → p.at ≡ 0 → n ≤ length p.out.now → PutsWhereFits p bs q
+    → (Ok n ≡ answer_of p.out.now (bytes bs)) × (q.out.now ≡ output_of p.out.now (bytes bs))
+fits_whole {p} {q} {bs} n size front room w =
+    let there = w.placed (omega (arith, front, size, room)) in
+    output-fits (omega arith) (record { holds = rw front at there.holds; ends = omega (arith, size) })
 
 -- the same by another name
 pub same-output : {l' : List ℕ} {a b : Output} {w : Result ℕ WriteError} (l : List ℕ) → a ≡ b → (w ≡ answer_of l a) × (l' ≡ output_of l a)
@@ -51,11 +54,11 @@ module _ (uuid tag : List ℕ) (gno : ℕ) where
   unfolding id_text
   id-long = simp length-append (omega arith)
 
-  pub id-put : {l l₁ l₂ l₃ l₄ l₅ : List ℕ} {at at₁ at₂ at₃ at₄ at₅ : ℕ}
-      → WhereFits l at gtid_word l₁ at₁ → WhereFits l₁ at₁ (key_text uuid tag) l₂ at₂ → WhereFits l₂ at₂ (colon ∷ []) l₃ at₃
-      → WhereFits l₃ at₃ (decimal gno) l₄ at₄ → WhereFits l₄ at₄ (newline ∷ []) l₅ at₅ → WhereFits l at (id_text uuid tag gno) l₅ at₅
+  pub id-put : {p q r s u v : Put}
+      → PutsWhereFits p gtid_word q → PutsWhereFits q (key_text uuid tag) r → PutsWhereFits r (colon ∷ []) s
+      → PutsWhereFits s (decimal gno) u → PutsWhereFits u (newline ∷ []) v → PutsWhereFits p (id_text uuid tag gno) v
   unfolding id_text
-  id-put p₁ p₂ p₃ p₄ p₅ = p₁ also p₂ also (p₃ also p₄) also p₅
+  id-put p₁ p₂ p₃ p₄ p₅ = p₁ and p₂ and (p₃ and p₄) and p₅
 
 -- ---- the text of a GTID event
 

@@ -8,9 +8,12 @@ use Rattle.std.specs.Prelude.{Ok, Err}
 use Rattle.misc.specs.Refusal.{not_a_set}
 use Rattle.misc.specs.declared.refusal.Refusal.{Refusal}
 use Rattle.misc.specs.declared.refusal.WriteError.TheVariants.{Refused, NoRoom}
-use Rattle.misc.specs.Output.{bytes, output_of, answer_of, WhereFits}
+use Rattle.misc.specs.Output.{bytes, output_of, answer_of}
+use Rattle.misc.specs.Put.{PutsWhereFits}
+use Rattle.misc.specs.declared.put.Put.{Put}
 use Rattle.misc.proofs.ParseLaws.{ok-err}
-use Rattle.misc.proofs.OutputLaws.{◌also◌, output-fits, output-short, output-refused}
+use Rattle.misc.proofs.PutLaws.{◌and◌}
+use Rattle.misc.proofs.OutputLaws.{output-fits, output-short, output-refused}
 use Rattle.previous_gtids_event.specs.Entry.{Entry}
 use Rattle.gtid_sets.specs.Limits.{intervals}
 use Rattle.gtid_sets.specs.Lent.{Lent, form, unfit, lent_set}
@@ -62,9 +65,9 @@ module _ (word set out : List ℕ) (c : Checked) (told : Ok c ≡ checked_of (le
         × (out ≡ output_of out (listed_set word (lent_set set)))
     list-short h = rw listed (output-short out _ _ size h)
 
-    pub list-fits : length word + 21 + n + m + k ≤ length out → {l₁ l₂ : List ℕ} {at₁ at₂ : ℕ}
-        → WhereFits out 0 (head_text word c.entries c.intervals) l₁ at₁ → WhereFits l₁ at₁ lines l₂ at₂
-        → (Ok (length word + 21 + n + m + k) ≡ answer_of out (listed_set word (lent_set set))) × (l₂ ≡ output_of out (listed_set word (lent_set set)))
-    list-fits room head entries =
-        let whole = (head also entries).placed (omega (arith, size)) in
-        rw listed (output-fits (omega (arith, size)) (record { holds = whole.holds; ends = omega (arith, size) }))
+    pub list-fits : length word + 21 + n + m + k ≤ length out → {p q r : Put} → p.out.now ≡ out → p.at ≡ 0
+        → PutsWhereFits p (head_text word c.entries c.intervals) q → PutsWhereFits q lines r
+        → (Ok (length word + 21 + n + m + k) ≡ answer_of out (listed_set word (lent_set set))) × (r.out.now ≡ output_of out (listed_set word (lent_set set)))
+    list-fits room {p} {q} {r} lent front head entries =
+        let whole = (head and entries).placed (rw (lent, front) (omega (arith, size))) in
+        rw listed (output-fits (omega (arith, size)) (record { holds = rw (lent, front) at whole.holds; ends = omega (arith, size) }))

@@ -11,7 +11,7 @@ use crate::set_text::list_set;
 use gtid_event::{ANONYMOUS_GTID_EVENT, GtidEvent};
 use gtid_event_read::read_named;
 use misc::bytes::write_bytes;
-use misc::put::put_bytes;
+use misc::put::Put;
 use misc::refusal::{Refusal, WriteError};
 use previous_gtids_event::PREVIOUS_GTIDS_EVENT;
 use set_check::LONGEST_SET;
@@ -20,7 +20,7 @@ use text::digits::{decimal_len, put_decimal};
 use text::keys::{key_len, put_key};
 use text::lines::{put_refused, refused_len};
 
-// Writes that an event is refused, and the number.
+// Writes that an event is refused, and the number, which may be a refusal's or 13.
 fn write_refused(refusal: u8, out: &mut [u8]) -> Result<usize, WriteError>
     ensures value { result ≡ answer_of out.old (bytes (refused_text refusal)) }
     ensures out_after { out.new ≡ output_of out.old (bytes (refused_text refusal)) }
@@ -29,7 +29,8 @@ fn write_refused(refusal: u8, out: &mut [u8]) -> Result<usize, WriteError>
     if out.len() < len {
         return Err(WriteError::NoRoom(len));
     }
-    put_refused(refusal, out, 0);
+    let mut put = Put { out, at: 0 };
+    put_refused(&mut put, refusal);
     Ok(len)
 }
 
@@ -47,11 +48,12 @@ fn write_id(event: GtidEvent, out: &mut [u8]) -> Result<usize, WriteError>
     if out.len() < len {
         return Err(WriteError::NoRoom(len));
     }
-    let at1 = put_bytes(b"gtid ", out, 0);
-    let at2 = put_key(uuid, &tag[..tag_len], out, at1);
-    let at3 = put_bytes(b":", out, at2);
-    let at4 = put_decimal(gno, out, at3);
-    put_bytes(b"\n", out, at4);
+    let mut put = Put { out, at: 0 };
+    put.bytes(b"gtid ");
+    put_key(&mut put, uuid, &tag[..tag_len]);
+    put.byte(b':');
+    put_decimal(&mut put, gno);
+    put.byte(b'\n');
     Ok(len)
 }
 

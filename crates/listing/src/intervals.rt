@@ -1,11 +1,13 @@
-// The intervals of an entry as text.
+// The intervals of an entry as text. How long it is and the putting of it stay two functions, here and in set_text: the one counts before
+// anything is written, the other writes, and one walk over both would be a flag.
 ghost use Rattle.std.specs.Prelude.{◌≡◌, ◌+◌, ◌*◌, ◌^◌, ◌≤◌, length};
-ghost use Rattle.misc.specs.Output.{WhereFits};
+ghost use Rattle.misc.specs.Put.{PutsWhereFits};
 ghost use Rattle.set_intervals.specs.Intervals.{intervals_at};
 ghost use Rattle.listing.specs.SetText.{intervals_text};
 
 use misc::INTERVAL_LEN;
 use misc::le::number_at;
+use misc::put::Put;
 use text::intervals::{interval_len, put_interval};
 
 // How long the text of the intervals at a place is. One takes 42 bytes at most, a colon, a dash and two numbers of 20 digits; in a set that
@@ -24,20 +26,12 @@ pub(crate) fn intervals_len(set: &[u8], first: usize, count: usize) -> usize
 }
 
 // Puts the intervals at a place.
-pub(crate) fn put_intervals(
-    set: &[u8],
-    first: usize,
-    count: usize,
-    out: &mut [u8],
-    at: usize,
-) -> usize
+pub(crate) fn put_intervals(put: &mut Put<'_>, set: &[u8], first: usize, count: usize)
     requires { first + 16 * count ≤ length set.now }
-    ensures { WhereFits out.old at (intervals_text (intervals_at count set.now first)) out.new result }
+    ensures { PutsWhereFits put.old (intervals_text (intervals_at count set.now first)) put.new }
 {
-    let mut end = at;
     for i in 0..count {
         let from = first + INTERVAL_LEN * i;
-        end = put_interval(number_at(set, from), number_at(set, from + 8), out, end);
+        put_interval(put, number_at(set, from), number_at(set, from + 8));
     }
-    end
 }

@@ -1,6 +1,7 @@
 // The text of a set: a line of its counts, and then its entries, one a line.
 ghost use Rattle.std.specs.Prelude.{◌≡◌, ◌+◌, ◌*◌, ◌≤◌, length};
-ghost use Rattle.misc.specs.Output.{output_of, answer_of, WhereFits};
+ghost use Rattle.misc.specs.Output.{output_of, answer_of};
+ghost use Rattle.misc.specs.Put.{PutsWhereFits};
 ghost use Rattle.gtid_sets.specs.Lent.{lent_set};
 ghost use Rattle.set_check.specs.Cursor.{entries_left, CursorIs};
 ghost use Rattle.listing.specs.SetText.{entry_text, entries_text, listed_set};
@@ -8,7 +9,7 @@ ghost use Rattle.listing.specs.Inside.{EntryThere, entry_in, line_length, head_t
 
 use crate::intervals::{intervals_len, put_intervals};
 use misc::UUID_LEN;
-use misc::put::put_bytes;
+use misc::put::Put;
 use misc::refusal::WriteError;
 use packets::uuid_bytes;
 use set_check::check::check;
@@ -28,17 +29,17 @@ fn entry_len(set: &[u8], entry: EntryPlace) -> usize
 }
 
 // Puts the line of an entry.
-fn put_entry(set: &[u8], uuid_at: usize, entry: EntryPlace, out: &mut [u8], at: usize) -> usize
+fn put_entry(put: &mut Put<'_>, set: &[u8], uuid_at: usize, entry: EntryPlace)
     requires uuid_at_in_bounds { uuid_at + 16 ≤ length set.now }
     requires entry_there { EntryThere set.now entry }
-    ensures { WhereFits out.old at (entry_text (entry_in set.now uuid_at entry)) out.new result }
+    ensures { PutsWhereFits put.old (entry_text (entry_in set.now uuid_at entry)) put.new }
 {
     let tag_at = entry.tag_at;
     let tag_end = tag_at + entry.tag_len;
     let uuid = uuid_bytes(&set[uuid_at..uuid_at + UUID_LEN]);
-    let at1 = put_key(uuid, &set[tag_at..tag_end], out, at);
-    let at2 = put_intervals(set, entry.first, entry.count, out, at1);
-    put_bytes(b"\n", out, at2)
+    put_key(put, uuid, &set[tag_at..tag_end]);
+    put_intervals(put, set, entry.first, entry.count);
+    put.byte(b'\n');
 }
 
 // How long the lines of the entries from a cursor on are.
@@ -57,30 +58,28 @@ fn entries_len(set: &[u8], from: Cursor) -> usize
 }
 
 // Puts the lines of the entries from a cursor on.
-fn put_entries(set: &[u8], from: Cursor, out: &mut [u8], at: usize) -> usize
+fn put_entries(put: &mut Put<'_>, set: &[u8], from: Cursor)
     requires { CursorIs set.now from }
-    ensures { WhereFits out.old at (entries_text (entries_left set.now from)) out.new result }
+    ensures { PutsWhereFits put.old (entries_text (entries_left set.now from)) put.new }
 {
-    let mut end = at;
     let mut rest = from;
     for _ in 0..from.left {
         let entry = entry_here(set, rest);
-        end = put_entry(set, rest.at, entry, out, end);
+        put_entry(put, set, rest.at, entry);
         rest = beyond(rest, entry);
     }
-    end
 }
 
 // Puts the line of counts.
-fn put_head(word: &[u8], entries: u64, total: u64, out: &mut [u8], at: usize) -> usize
-    ensures { WhereFits out.old at (head_text word.now entries total) out.new result }
+fn put_head(put: &mut Put<'_>, word: &[u8], entries: u64, total: u64)
+    ensures { PutsWhereFits put.old (head_text word.now entries total) put.new }
 {
-    let at1 = put_bytes(word, out, at);
-    let at2 = put_bytes(b" entries ", out, at1);
-    let at3 = put_decimal(entries, out, at2);
-    let at4 = put_bytes(b" intervals ", out, at3);
-    let at5 = put_decimal(total, out, at4);
-    put_bytes(b"\n", out, at5)
+    put.bytes(word);
+    put.bytes(b" entries ");
+    put_decimal(put, entries);
+    put.bytes(b" intervals ");
+    put_decimal(put, total);
+    put.byte(b'\n');
 }
 
 // Lists a set after a first word. Refused are bytes that are no set (14) and an output that is too short (13).
@@ -97,7 +96,8 @@ pub fn list_set(word: &[u8], set: &[u8], out: &mut [u8]) -> Result<usize, WriteE
     if out.len() < len {
         return Err(WriteError::NoRoom(len));
     }
-    let at = put_head(word, entries, total, out, 0);
-    put_entries(set, from, out, at);
+    let mut put = Put { out, at: 0 };
+    put_head(&mut put, word, entries, total);
+    put_entries(&mut put, set, from);
     Ok(len)
 }

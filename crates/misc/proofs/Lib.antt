@@ -2,6 +2,7 @@ pub mod ParseLaws
 pub mod BodyLaws
 pub mod Walk
 pub mod OutputLaws
+pub mod PutLaws
 pub mod LeLaws
 pub mod VarlenLaws
 pub mod SignedLaws

@@ -13,3 +13,4 @@ pub mod Signed
 pub mod Lenenc
 pub mod Forms
 pub mod Mark
+pub mod Put

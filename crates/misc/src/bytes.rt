@@ -4,7 +4,7 @@ ghost use Rattle.misc.specs.Output.{bytes, output_of, answer_of};
 
 use crate::refusal::WriteError;
 
-// The smaller of two lengths.
+// The smaller of two lengths: `min`, with what slices want to know of it.
 pub fn smaller(a: usize, b: usize) -> usize
     ensures { (result ≡ min a b) × (result ≤ a) × (result ≤ b) }
 {

@@ -74,6 +74,8 @@ pub(crate) fn read_le(s: &[u8], at: usize, n: usize) -> Result<Read<u64>, Refusa
     })
 }
 
+// The public readers and writers are a line each over one of any width: the width is in the name, and a reader of any width would ask its caller
+// for at most eight bytes.
 pub fn read_u32_le(s: &[u8], at: usize) -> Result<Read<u64>, Refusal>
     ensures value { result ≡ read_of (le_at 4 s.now at) }
     ensures bound { IfOk result (λ read. read.value < 2 ^ 32) }

@@ -1,6 +1,7 @@
 // Integers of the MySQL wire formats: fixed little-endian, variable-length (the server's serialization library) and
-// length-encoded (the protocol). Readers take a slice and a place, wherever that is, and answer what they read or a `Refusal`; writers
-// write at the front of the output that they are lent, those of `put` at a place of it, and answer how many bytes they wrote or a `WriteError`.
+// length-encoded (the protocol). Readers take a slice and a place, wherever that is (two plain parameters: their promise is an equation over both,
+// for any place), and answer what they read or a `Refusal`; writers write at the front of the output that they are lent, and answer how many bytes
+// they wrote or a `WriteError`; `put` puts at a place of an output.
 #![tactic(auto)]
 
 pub mod bytes;

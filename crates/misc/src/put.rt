@@ -1,10 +1,11 @@
-// Writing at a place of an output: where there is room for all of the bytes they are put there, and the place behind them is returned;
-// where there isn't, nothing is written, and the place itself is returned.
-ghost use Rattle.std.specs.Prelude.{◌≡◌, [], ◌∷◌, ◌++◌, ◌+◌, ◌^◌, ◌<◌, length, IfOk};
+// Putting bytes at a place of an output: where there is room for all of them they are put there, and the place moves on behind them; where
+// there isn't, nothing is written, and the place stays. `Put` is an output with its place; the functions above it return the place behind.
+ghost use Rattle.std.specs.Prelude.{◌≡◌, [], ◌∷◌, ◌++◌, ◌+◌, ◌^◌, ◌<◌, ◌-◌, length, IfOk};
 ghost use Rattle.misc.specs.Le.{le_bytes};
 ghost use Rattle.misc.specs.Lenenc.{lenenc_bytes};
 ghost use Rattle.misc.specs.Varlen.{varlen_bytes};
 ghost use Rattle.misc.specs.Output.{behind, put_at, put_end};
+ghost use Rattle.misc.specs.Put.{Puts};
 
 use crate::bytes::{left_at, write_bytes};
 use crate::le::write_le;
@@ -23,7 +24,7 @@ fn place_behind(wrote: Result<usize, WriteError>, at: usize) -> usize
     }
 }
 
-pub fn put_byte(b: u8, out: &mut [u8], at: usize) -> usize
+fn put_byte(b: u8, out: &mut [u8], at: usize) -> usize
     ensures value { result ≡ put_end out.old at (b ∷ []) }
     ensures out_after { out.new ≡ put_at out.old at (b ∷ []) }
 {
@@ -57,20 +58,6 @@ fn put_le(value: u64, n: usize, out: &mut [u8], at: usize) -> usize
     place_behind(wrote, at)
 }
 
-pub fn put_u32_le(value: u32, out: &mut [u8], at: usize) -> usize
-    ensures value { result ≡ put_end out.old at (le_bytes 4 value) }
-    ensures out_after { out.new ≡ put_at out.old at (le_bytes 4 value) }
-{
-    put_le(u64::from(value), 4, out, at)
-}
-
-pub fn put_u56_le(value: u64, out: &mut [u8], at: usize) -> usize
-    ensures value { result ≡ put_end out.old at (le_bytes 7 value) }
-    ensures out_after { out.new ≡ put_at out.old at (le_bytes 7 value) }
-{
-    put_le(value, 7, out, at)
-}
-
 pub fn put_u64_le(value: u64, out: &mut [u8], at: usize) -> usize
     ensures value { result ≡ put_end out.old at (le_bytes 8 value) }
     ensures out_after { out.new ≡ put_at out.old at (le_bytes 8 value) }
@@ -78,7 +65,7 @@ pub fn put_u64_le(value: u64, out: &mut [u8], at: usize) -> usize
     put_le(value, 8, out, at)
 }
 
-pub fn put_lenenc_int(value: u64, out: &mut [u8], at: usize) -> usize
+fn put_lenenc_int(value: u64, out: &mut [u8], at: usize) -> usize
     ensures value { result ≡ put_end out.old at (lenenc_bytes value) }
     ensures out_after { out.new ≡ put_at out.old at (lenenc_bytes value) }
 {
@@ -89,7 +76,7 @@ pub fn put_lenenc_int(value: u64, out: &mut [u8], at: usize) -> usize
     place_behind(wrote, at)
 }
 
-pub fn put_varlen_uint(value: u64, out: &mut [u8], at: usize) -> usize
+fn put_varlen_uint(value: u64, out: &mut [u8], at: usize) -> usize
     ensures value { result ≡ put_end out.old at (varlen_bytes value) }
     ensures out_after { out.new ≡ put_at out.old at (varlen_bytes value) }
 {
@@ -101,7 +88,7 @@ pub fn put_varlen_uint(value: u64, out: &mut [u8], at: usize) -> usize
 }
 
 // Bytes behind their number, which is a variable-length integer.
-pub fn put_sized(source: &[u8], out: &mut [u8], at: usize) -> usize
+fn put_sized(source: &[u8], out: &mut [u8], at: usize) -> usize
     ensures value { result ≡ put_end out.old at (varlen_bytes (length source.now) ++ source.now) }
     ensures out_after { out.new ≡ put_at out.old at (varlen_bytes (length source.now) ++ source.now) }
 {
@@ -116,4 +103,70 @@ pub fn put_sized(source: &[u8], out: &mut [u8], at: usize) -> usize
     }
     let from = put_varlen_uint(len as u64, out, at);
     put_bytes(source, out, from)
+}
+
+// A place of an output, which moves on behind what is put there.
+#[derive(Drop)]
+pub struct Put<'a> {
+    pub out: &'a mut [u8],
+    pub at: usize,
+}
+
+impl Put<'_> {
+    // How many bytes have room.
+    pub fn left(&self) -> usize
+        ensures { result ≡ length self.now.out.now - self.now.at }
+    {
+        left_at(self.out, self.at)
+    }
+
+    pub fn byte(&mut self, b: u8)
+        ensures { Puts self.old (b ∷ []) self.new }
+    {
+        self.at = put_byte(b, self.out, self.at);
+    }
+
+    pub fn bytes(&mut self, source: &[u8])
+        ensures { Puts self.old source.now self.new }
+    {
+        self.at = put_bytes(source, self.out, self.at);
+    }
+
+    pub fn u32_le(&mut self, value: u32)
+        ensures { Puts self.old (le_bytes 4 value) self.new }
+    {
+        self.at = put_le(u64::from(value), 4, self.out, self.at);
+    }
+
+    // The seven low bytes: the highest byte of `value` is left out, whatever it is.
+    pub fn u56_le(&mut self, value: u64)
+        ensures { Puts self.old (le_bytes 7 value) self.new }
+    {
+        self.at = put_le(value, 7, self.out, self.at);
+    }
+
+    pub fn u64_le(&mut self, value: u64)
+        ensures { Puts self.old (le_bytes 8 value) self.new }
+    {
+        self.at = put_u64_le(value, self.out, self.at);
+    }
+
+    pub fn lenenc_int(&mut self, value: u64)
+        ensures { Puts self.old (lenenc_bytes value) self.new }
+    {
+        self.at = put_lenenc_int(value, self.out, self.at);
+    }
+
+    pub fn varlen_uint(&mut self, value: u64)
+        ensures { Puts self.old (varlen_bytes value) self.new }
+    {
+        self.at = put_varlen_uint(value, self.out, self.at);
+    }
+
+    // Bytes behind their number, which is a variable-length integer.
+    pub fn sized(&mut self, source: &[u8])
+        ensures { Puts self.old (varlen_bytes (length source.now) ++ source.now) self.new }
+    {
+        self.at = put_sized(source, self.out, self.at);
+    }
 }

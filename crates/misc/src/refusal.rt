@@ -26,7 +26,7 @@ pub enum Refusal {
     Diverged = 22,
 }
 
-// The number of an output that is shorter than the answer.
+// The number of an output that is shorter than the answer, as C is told it.
 pub const NO_ROOM: u8 = 13;
 
 // Why nothing was written: a refusal, or an output that is too short, with the length that is needed.

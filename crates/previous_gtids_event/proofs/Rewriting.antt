@@ -17,8 +17,11 @@ use Rattle.misc.specs.Parse.{Bytes, Parse, refuse, parsed, many, part, refusal_o
 use Rattle.misc.specs.Body.{used_of}
 use Rattle.misc.specs.Varlen.{varlen_bytes}
 use Rattle.misc.specs.Output.{bytes, output_of, answer_of, WhereFits}
+use Rattle.misc.specs.Put.{Puts, PutsWhereFits}
+use Rattle.misc.specs.declared.put.Put.{Put}
 use Rattle.misc.proofs.ParseLaws.{no_zero, part_length, answered-ok}
-use Rattle.misc.proofs.OutputLaws.{◌also◌, nothing_placed, output-fits, output-short, output-refused}
+use Rattle.misc.proofs.OutputLaws.{output-fits, output-short, output-refused}
+use Rattle.misc.proofs.PutLaws.{◌and◌, puts-fit, puts_none}
 use Rattle.misc.proofs.Walk.{ahead, many-none, many-next, Whole, whole-turn}
 use Rattle.packets.specs.Gno.{Interval}
 use Rattle.packets.specs.Key.{Key}
@@ -100,36 +103,30 @@ sized tagged s at r told v e =
 
 -- ---- the second pass
 
--- a tag with its length
-pub tag-wanted : (tags : Bool) (t : List ℕ) → tags ≡ true → varlen_bytes (length t) ++ t ≡ tag_bytes tags t
-tag-wanted tags t e = rw e
-
+-- no tag is wanted
 pub tag-unwanted : (tags : Bool) (t : List ℕ) → tags ≡ false → [] ≡ tag_bytes tags t
 tag-unwanted tags t e = rw e
 
 -- a key, and the count and the intervals behind it, make an entry
 module _ (tagged : Bool) (s : List ℕ) (from : ℕ) (r : Read HeadRead) (told : WholeTold tagged s from r) (tags : Bool) (are_bytes : Bytes s) where
-  pub entry-put : {l l₁ l₂ : List ℕ} {at at₁ at₂ : ℕ}
-      → WhereFits l at
-      (part s from (from + 16 - from)
-      ++ tag_bytes tags (part s (r.value.first - 8 - r.value.tag_len) (r.value.first - 8 - (r.value.first - 8 - r.value.tag_len))))
-      l₁ at₁
-      → WhereFits l₁ at₁ (part s (r.value.first - 8) (r.next - (r.value.first - 8))) l₂ at₂
-      → WhereFits l at (entry_bytes_of tags (entry_at tagged s from)) l₂ at₂
-  entry-put {l} {l₁} {l₂} {at} {at₁} {at₂} p q =
+  pub entry-put : {p p₁ p₂ p₃ : Put}
+      → Puts p (part s from (from + 16 - from)) p₁
+      → Puts p₁ (tag_bytes tags (part s (r.value.first - 8 - r.value.tag_len) (r.value.first - 8 - (r.value.first - 8 - r.value.tag_len)))) p₂
+      → Puts p₂ (part s (r.value.first - 8) (r.next - (r.value.first - 8))) p₃
+      → PutsWhereFits p (entry_bytes_of tags (entry_at tagged s from)) p₃
+  entry-put {p} {p₁} {p₂} {p₃} f g h =
       let t = r.value.first - 8 - r.value.tag_len in
-      let key : ℕ → ℕ → List ℕ = λ u n. part s from u ++ tag_bytes tags (part s t n) in
       let uuid : from + 16 - from ≡ 16 = omega arith in
       let tag : r.value.first - 8 - t ≡ r.value.tag_len = omega (arith, whole-places told) in
-      let named : WhereFits l at (key 16 (r.value.first - 8 - t)) l₁ at₁ = subst (λ (n : ℕ). WhereFits l at (key n (r.value.first - 8 - t)) l₁ at₁) uuid p in
-      let keyed : WhereFits l at (key 16 r.value.tag_len) l₁ at₁ = subst (λ (n : ℕ). WhereFits l at (key 16 n) l₁ at₁) tag named in
+      let named : Puts p (part s from 16) p₁ = subst (λ (n : ℕ). Puts p (part s from n) p₁) uuid f in
+      let keyed : Puts p₁ (tag_bytes tags (part s t r.value.tag_len)) p₂ = subst (λ (n : ℕ). Puts p₁ (tag_bytes tags (part s t n)) p₂) tag g in
       let all = ap (entry_bytes_of tags) told.is ∙ entry-bytes tagged s from r told tags are_bytes in
-      subst (λ (bs : List ℕ). WhereFits l at bs l₂ at₂) (sym all) (keyed also q)
+      subst (λ (bs : List ℕ). PutsWhereFits p bs p₃) (sym all) (puts-fit named and puts-fit keyed and puts-fit h)
 
 -- whoever writes the entries that are left writes all of them
-pub record PutSoFar (item : ℕ → Parse Entry) (tags : Bool) (out₀ : List ℕ) (at : ℕ) (wanted : List ℕ) (left next : ℕ) (out : List ℕ) (put : ℕ) : Type 0 where
+pub record PutSoFar (item : ℕ → Parse Entry) (tags : Bool) (wanted : List ℕ) (p₀ : Put) (left next : ℕ) (p : Put) : Type 0 where
   pub whole : refusal_of (many item left next) ≡ 0
-  pub rest : {l' : List ℕ} {end : ℕ} → WhereFits out put (entries_bytes_of tags (many item left next)) l' end → WhereFits out₀ at wanted l' end
+  pub rest : {q : Put} → PutsWhereFits p (entries_bytes_of tags (many item left next)) q → PutsWhereFits p₀ wanted q
 
 bytes-ahead : (tags : Bool) (e : Entry) (p : Parse (List Entry)) → refusal_of p ≡ 0
     → entries_bytes_of tags (ahead e p) ≡ entry_bytes tags e ++ entries_bytes_of tags p
@@ -137,8 +134,8 @@ unfolding entries_bytes
 bytes-ahead tags e (refuse x) h = absurd (no_zero x h)
 bytes-ahead tags e (parsed es last) h = refl
 
-module _ (item : ℕ → Parse Entry) (tags : Bool) (out₀ : List ℕ) (at : ℕ) (wanted : List ℕ) (n next : ℕ) (out : List ℕ) (put : ℕ)
-    (so_far : PutSoFar item tags out₀ at wanted (suc n) next out put) where
+module _ {item : ℕ → Parse Entry} {tags : Bool} {wanted : List ℕ} {p₀ p : Put} {n next : ℕ}
+    (so_far : PutSoFar item tags wanted p₀ (suc n) next p) where
   turn : Whole item n next
   turn = whole-turn item n next so_far.whole
 
@@ -147,25 +144,23 @@ module _ (item : ℕ → Parse Entry) (tags : Bool) (out₀ : List ℕ) (at : �
   put_whole = ap refusal_of turn.is
 
   -- once it is written
-  pub put_next : (next' put' : ℕ) (out' : List ℕ) → next' ≡ used_of (item next) → WhereFits out put (entry_bytes_of tags (item next)) out' put'
-      → PutSoFar item tags out₀ at wanted n next' out' put'
-  put_next next' put' out' e step =
+  pub put_next : {next' : ℕ} {q : Put} → next' ≡ used_of (item next) → PutsWhereFits p (entry_bytes_of tags (item next)) q
+      → PutSoFar item tags wanted p₀ n next' q
+  put_next {next'} {q} e step =
       let same : next' ≡ turn.next = e ∙ ap used_of turn.is in
-      let one : WhereFits out put (entry_bytes tags turn.head) out' put' =
-      subst (λ (p : Parse Entry). WhereFits out put (entry_bytes_of tags p) out' put') turn.is step in
+      let one : PutsWhereFits p (entry_bytes tags turn.head) q = subst (λ (x : Parse Entry). PutsWhereFits p (entry_bytes_of tags x) q) turn.is step in
       let all : entries_bytes_of tags (many item (suc n) next) ≡ entry_bytes tags turn.head ++ entries_bytes_of tags (many item n turn.next) =
       ap (entries_bytes_of tags) (many-next item n next turn.head turn.next turn.is)
       ∙ bytes-ahead tags turn.head (many item n turn.next) turn.rest in
-      subst (λ (m : ℕ). PutSoFar item tags out₀ at wanted n m out' put') (sym same) (record {
+      subst (λ (m : ℕ). PutSoFar item tags wanted p₀ n m q) (sym same) (record {
         whole = turn.rest;
-        rest = λ {l'} {end} q. so_far.rest (subst (λ (bs : List ℕ). WhereFits out put bs l' end) (sym all) (one also q));
+        rest = λ {q = r} f. so_far.rest (subst (λ (bs : List ℕ). PutsWhereFits p bs r) (sym all) (one and f));
       })
 
-pub put-done : (item : ℕ → Parse Entry) (tags : Bool) (out₀ : List ℕ) (at : ℕ) (wanted : List ℕ) (next : ℕ) (out : List ℕ) (put : ℕ)
-    → PutSoFar item tags out₀ at wanted 0 next out put → WhereFits out₀ at wanted out put
+pub put-done : {item : ℕ → Parse Entry} {tags : Bool} {wanted : List ℕ} {p₀ p : Put} {next : ℕ}
+    → PutSoFar item tags wanted p₀ 0 next p → PutsWhereFits p₀ wanted p
 unfolding entries_bytes
-put-done item tags out₀ at wanted next out put so_far =
-    so_far.rest (rw (many-none item next) (record { placed = λ _. nothing_placed out put }))
+put-done {item} {tags} {wanted} {p₀} {p} {next} so_far = so_far.rest (rw (many-none item next) (puts-fit (puts_none p)))
 
 -- ---- the whole
 pub rewrite-refused : (p : Parse (List Entry)) (out : List ℕ) {x : Refusal} {r : Result ℕ WriteError} → p ≡ refuse x → r ≡ Err (Refused x)
@@ -208,9 +203,9 @@ module _ (item : ℕ → Parse Entry) (n : ℕ) (z : Sizes) (is : Ok z ≡ sizes
     rewrite-short h = rw body_is (output-short out _ len (size ∙ sym body-size) h)
 
     -- the header stands at the front, and the entries behind it
-    pub rewrite-whole : {out₁ out₂ : List ℕ} {first end : ℕ} → len ≤ length out → WhereFits out 0 (header_bytes z.tagged n) out₁ first
-        → WhereFits out₁ first (entries_bytes_of z.tagged entries) out₂ end
-        → (Ok end ≡ answer_of out (rewritten entries)) × (out₂ ≡ output_of out (rewritten entries))
-    rewrite-whole room front run =
+    pub rewrite-whole : {l : List ℕ} {end : ℕ} → len ≤ length out
+        → WhereFits out 0 (header_bytes z.tagged n ++ entries_bytes_of z.tagged entries) l end
+        → (Ok end ≡ answer_of out (rewritten entries)) × (l ≡ output_of out (rewritten entries))
+    rewrite-whole room run =
         let all : length (header_bytes z.tagged n ++ entries_bytes_of z.tagged entries) ≤ length out = omega (arith, body-size) in
-        rw body_is (output-fits all ((front also run).placed (omega arith)))
+        rw body_is (output-fits all (run.placed (omega arith)))

@@ -75,10 +75,3 @@ pub(crate) struct Sizes {
     pub(crate) plain: usize,
     pub(crate) full: usize,
 }
-
-// Where the writing of entries has come to: the place of the next one in the body, and its place in the output.
-#[derive(Clone, Copy)]
-pub(crate) struct Places {
-    pub(crate) from: usize,
-    pub(crate) at: usize,
-}

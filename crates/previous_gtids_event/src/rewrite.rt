@@ -3,15 +3,15 @@ ghost use Rattle.std.specs.Prelude.{◌≡◌, ◌+◌, ◌-◌, ◌^◌, ◌≤
 ghost use Rattle.misc.specs.Pick.{pick};
 ghost use Rattle.misc.specs.Parse.{many, refusal_of};
 ghost use Rattle.misc.specs.Body.{used_of};
-ghost use Rattle.misc.specs.Output.{output_of, answer_of, put_at, put_end, WhereFits};
+ghost use Rattle.misc.specs.Output.{output_of, answer_of};
+ghost use Rattle.misc.specs.Put.{Puts, PutsWhereFits};
 ghost use Rattle.previous_gtids_event.specs.Previous.{entry_at, previous};
 ghost use Rattle.previous_gtids_event.specs.Rewrite.{tag_bytes, head_run, header_bytes, rewritten};
 ghost use Rattle.previous_gtids_event.specs.Inside.{sizes_read, entry_bytes_of, entries_bytes_of};
 
 use crate::read::{header_of, whole_at};
-use crate::{COUNT_TOP, ENTRY_HEAD, FIRST_ENTRY, HeaderRead, Places, Sizes, TOP_ONE};
-use misc::bytes::left_at;
-use misc::put::{put_bytes, put_sized, put_u64_le};
+use crate::{COUNT_TOP, ENTRY_HEAD, FIRST_ENTRY, HeaderRead, Sizes, TOP_ONE};
+use misc::put::Put;
 use misc::refusal::{Refusal, WriteError};
 use misc::varlen::varlen_uint_size;
 use misc::{INTERVAL_LEN, UUID_LEN};
@@ -55,17 +55,13 @@ impl Sizes {
     }
 }
 
-// The `put` functions write from a place of the output on where there is room, and return the place behind what they wrote.
-
 // A tag behind its length, where tags are wanted.
-pub fn put_tag(tag: &[u8], tags: bool, out: &mut [u8], at: usize) -> usize
-    ensures value { result ≡ put_end out.old at (tag_bytes tags tag.now) }
-    ensures out_after { out.new ≡ put_at out.old at (tag_bytes tags tag.now) }
+pub fn put_tag(put: &mut Put<'_>, tag: &[u8], tags: bool)
+    ensures { Puts put.old (tag_bytes tags tag.now) put.new }
 {
     if tags {
-        return put_sized(tag, out, at);
+        put.sized(tag);
     }
-    at
 }
 
 // What is left of a room behind a tag.
@@ -82,63 +78,56 @@ fn left_behind_tag(tag: &[u8], tags: bool, room: usize) -> usize
 }
 
 // The head of an entry: its uuid, its tag, and how many intervals follow.
-pub fn put_head(uuid: &[u8], tag: &[u8], tags: bool, count: u64, out: &mut [u8], at: usize) -> usize
-    ensures value { result ≡ put_end out.old at (head_run uuid.now tags tag.now count) }
-    ensures out_after { out.new ≡ put_at out.old at (head_run uuid.now tags tag.now count) }
+pub fn put_head(put: &mut Put<'_>, uuid: &[u8], tag: &[u8], tags: bool, count: u64)
+    ensures { Puts put.old (head_run uuid.now tags tag.now count) put.new }
 {
-    let room = left_at(out, at).saturating_sub(uuid.len());
+    let room = put.left().saturating_sub(uuid.len());
     if left_behind_tag(tag, tags, room) < 8 {
-        return at;
+        return;
     }
-    let after_uuid = put_bytes(uuid, out, at);
-    let after_tag = put_tag(tag, tags, out, after_uuid);
-    put_u64_le(count, out, after_tag)
+    put.bytes(uuid);
+    put_tag(put, tag, tags);
+    put.u64_le(count);
 }
 
-// The next entry, which has been read before: its key, and then the count and the intervals as they stand in the body.
-fn put_entry(body: &[u8], tagged: bool, tags: bool, out: &mut [u8], places: Places) -> Places
-    requires { refusal_of (entry_at tagged body.now places.from) ≡ 0 }
-    ensures next_value { result.from ≡ used_of (entry_at tagged body.now places.from) }
-    ensures where_fits { WhereFits out.old places.at (entry_bytes_of tags (entry_at tagged body.now places.from)) out.new result.at }
+// The entry at a place of the body, which has been read before: its key, and then the count and the intervals as they stand in the body.
+// Returns the place of the next.
+fn put_entry(put: &mut Put<'_>, body: &[u8], from: usize, tagged: bool, tags: bool) -> usize
+    requires { refusal_of (entry_at tagged body.now from) ≡ 0 }
+    ensures next_value { result ≡ used_of (entry_at tagged body.now from) }
+    ensures where_fits { PutsWhereFits put.old (entry_bytes_of tags (entry_at tagged body.now from)) put.new }
 {
-    let read = whole_at(body, places.from, tagged).unwrap();
+    let read = whole_at(body, from, tagged).unwrap();
     let head = read.value;
     let tag_end = head.first - 8;
     let tag = tag_end - head.tag_len;
-    let uuid_end = places.from + UUID_LEN;
-    let after_uuid = put_bytes(&body[places.from..uuid_end], out, places.at);
-    let after_tag = put_tag(&body[tag..tag_end], tags, out, after_uuid);
-    let at = put_bytes(&body[tag_end..read.next], out, after_tag);
-    Places {
-        from: read.next,
-        at,
-    }
+    let uuid_end = from + UUID_LEN;
+    put.bytes(&body[from..uuid_end]);
+    put_tag(put, &body[tag..tag_end], tags);
+    put.bytes(&body[tag_end..read.next]);
+    read.next
 }
 
 // The second pass: the entries behind the header, which have been read before.
-fn put_entries(body: &[u8], header: HeaderRead, tags: bool, out: &mut [u8], at: usize) -> usize
+fn put_entries(put: &mut Put<'_>, body: &[u8], header: HeaderRead, tags: bool)
     requires { refusal_of (many (entry_at header.tagged body.now) header.entries 8) ≡ 0 }
-    ensures { WhereFits out.old at (entries_bytes_of tags (many (entry_at header.tagged body.now) header.entries 8)) out.new result }
+    ensures { PutsWhereFits put.old (entries_bytes_of tags (many (entry_at header.tagged body.now) header.entries 8)) put.new }
 {
-    let mut places = Places {
-        from: FIRST_ENTRY,
-        at,
-    };
+    let mut from = FIRST_ENTRY;
     for _ in 0..header.entries {
-        places = put_entry(body, header.tagged, tags, out, places);
+        from = put_entry(put, body, from, header.tagged, tags);
     }
-    places.at
 }
 
-// The header at a place: the count, and where tags follow 1 in the bytes below and above the six of the count.
-pub fn put_header(count: u64, tagged: bool, out: &mut [u8], at: usize) -> usize
-    ensures value { result ≡ put_end out.old at (header_bytes tagged count) }
-    ensures out_after { out.new ≡ put_at out.old at (header_bytes tagged count) }
+// The header: the count, and where tags follow 1 in the bytes below and above the six of the count.
+pub fn put_header(put: &mut Put<'_>, count: u64, tagged: bool)
+    ensures { Puts put.old (header_bytes tagged count) put.new }
 {
     if tagged {
-        return put_u64_le(TOP_ONE + (count % COUNT_TOP) * 256 + 1, out, at);
+        put.u64_le(TOP_ONE + (count % COUNT_TOP) * 256 + 1);
+    } else {
+        put.u64_le(count);
     }
-    put_u64_le(count, out, at)
 }
 
 // Writes the entries that a body holds anew.
@@ -153,6 +142,8 @@ pub fn rewrite(body: &[u8], out: &mut [u8]) -> Result<usize, WriteError>
     if out.len() < len {
         return Err(WriteError::NoRoom(len));
     }
-    let first = put_header(header.entries, tags, out, 0);
-    Ok(put_entries(body, header, tags, out, first))
+    let mut put = Put { out, at: 0 };
+    put_header(&mut put, header.entries, tags);
+    put_entries(&mut put, body, header, tags);
+    Ok(put.at)
 }

@@ -26,9 +26,10 @@ use Rattle.previous_gtids_event.proofs.Reading.{headed}
 use Rattle.previous_gtids_reader.specs.declared.Cursor.{Cursor}
 use Rattle.previous_gtids_reader.specs.declared.Step.{Step}
 use Rattle.previous_gtids_reader.specs.declared.Reader.{Reader}
+use Rattle.previous_gtids_reader.specs.declared.Asked.{Asked}
 use Rattle.previous_gtids_reader.specs.Held.{reader_at, begun}
 use Rattle.previous_gtids_reader.specs.Steps.{cursor_at, cursor_of, start_of, entry_step, stepped, headed_step, step_of, onwards, cursor_after}
-use Rattle.previous_gtids_reader.specs.Steps.{step_from, step_after}
+use Rattle.previous_gtids_reader.specs.Steps.{asked_at, asked, step_from, step_after}
 
 -- what the body's header says
 abbrev pub says : List ℕ → Result HeaderRead Refusal
@@ -177,7 +178,7 @@ module _ (s : List ℕ) where
       let one : suc n + m ≡ suc (n + m) = omega arith in
       rw (one, after_next (n + m) c, after_next n c) (after_more n m (onwards c (step_of s c)))
 
-  pub step_after_lem : (n : ℕ) (c : Cursor) → start_of s ≡ Ok c → step_after s n ≡ step_of s (cursor_after s n c)
+  pub step_after_lem : (n : ℕ) (c : Cursor) → start_of s ≡ Ok c → step_after s n ≡ asked s (cursor_after s n c)
   unfolding step_after
   step_after_lem n c begins = ap (step_from s n) begins
 
@@ -187,27 +188,27 @@ module _ (s : List ℕ) where
   never-begun n is = ap (step_from s n) is
 
   -- the step that is wanted lies n steps on from a cursor
-  pub record Ahead (whole : Result (Option Step) Refusal) (n : ℕ) (c : Cursor) : Type 0 where
-    pub is : whole ≡ step_of s (cursor_after s n c)
+  pub record Ahead (whole : Result Asked Refusal) (n : ℕ) (c : Cursor) : Type 0 where
+    pub is : whole ≡ asked s (cursor_after s n c)
 
   pub ahead-start : (index : ℕ) (c : Cursor) → Ok c ≡ start_of s → Ahead (step_after s index) index c
   ahead-start index c begins = record { is = step_after_lem index c (sym begins) }
 
-  module _ (whole : Result (Option Step) Refusal) (n : ℕ) (c : Cursor) (far : Ahead whole n c) where
+  module _ (whole : Result Asked Refusal) (n : ℕ) (c : Cursor) (far : Ahead whole n c) where
     pub ahead-turn : (m : ℕ) → n ≡ suc m → (r : Step) → Ok (Some r) ≡ step_of s c → Ahead whole m r.cursor
     ahead-turn m h r e =
         record {
           is =
-              far.is ∙ ap (λ (k : ℕ). step_of s (cursor_after s k c)) h ∙ ap (step_of s) (after_next m c)
-              ∙ ap (λ (y : Result (Option Step) Refusal). step_of s (cursor_after s m (onwards c y))) (sym e);
+              far.is ∙ ap (λ (k : ℕ). asked s (cursor_after s k c)) h ∙ ap (asked s) (after_next m c)
+              ∙ ap (λ (y : Result (Option Step) Refusal). asked s (cursor_after s m (onwards c y))) (sym e);
         }
 
     -- a step that hands out nothing is the one that is wanted
-    pub ahead-still : (r : Result (Option Step) Refusal) → r ≡ step_of s c → onwards c r ≡ c → r ≡ whole
-    ahead-still r e stays = e ∙ sym (far.is ∙ ap (step_of s) (after-still c (ap (onwards c) (sym e) ∙ stays) n))
+    pub ahead-still : (r : Result (Option Step) Refusal) → r ≡ step_of s c → onwards c r ≡ c → asked_at c r ≡ whole
+    ahead-still r e stays = ap (asked_at c) e ∙ sym (far.is ∙ ap (asked s) (after-still c (ap (onwards c) (sym e) ∙ stays) n))
 
-    pub ahead_none : n ≡ 0 → (r : Result (Option Step) Refusal) → r ≡ step_of s c → r ≡ whole
-    ahead_none h r e = e ∙ sym (far.is ∙ ap (λ (k : ℕ). step_of s (cursor_after s k c)) h ∙ ap (step_of s) (after_none c))
+    pub ahead_none : n ≡ 0 → (r : Result (Option Step) Refusal) → r ≡ step_of s c → asked_at c r ≡ whole
+    ahead_none h r e = ap (asked_at c) e ∙ sym (far.is ∙ ap (λ (k : ℕ). asked s (cursor_after s k c)) h ∙ ap (asked s) (after_none c))
 
 -- ---- a reader, from what `new` answers
 module _ (body : Bor (List ℕ)) where
@@ -226,7 +227,7 @@ module _ (body : Bor (List ℕ)) where
       subst (λ (y : Reader). Ahead y.body.now (step_after body.now index) index y.cursor) (sym is) (ahead-start body.now index c begins)
 
 -- moved behind the entry that it handed out, it is one step nearer
-pub reader-turn : (whole : Result (Option Step) Refusal) (n m : ℕ) (r : Reader) {r' : Reader} {step : Step} → Ahead r.body.now whole n r.cursor
+pub reader-turn : (whole : Result Asked Refusal) (n m : ℕ) (r : Reader) {r' : Reader} {step : Step} → Ahead r.body.now whole n r.cursor
     → n ≡ suc m → Ok (Some step) ≡ step_of r.body.now r.cursor → r' ≡ reader_at r.body step.cursor → Ahead r'.body.now whole m r'.cursor
 reader-turn whole n m r {r'} {step} far less e is =
     subst (λ (y : Reader). Ahead y.body.now whole m y.cursor) (sym is) (ahead-turn r.body.now whole n r.cursor far m less step e)

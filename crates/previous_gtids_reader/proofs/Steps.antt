@@ -15,7 +15,7 @@ use Rattle.previous_gtids_event.specs.Previous.{entry_at, previous}
 use Rattle.previous_gtids_event.specs.declared.HeaderRead.{HeaderRead}
 use Rattle.previous_gtids_event.proofs.Reading.{headless, headed}
 use Rattle.previous_gtids_reader.specs.declared.Cursor.{Cursor}
-use Rattle.previous_gtids_reader.specs.Steps.{cursor_at, start_of, entry_step, step_of, onwards, cursor_after, step_after}
+use Rattle.previous_gtids_reader.specs.Steps.{cursor_at, start_of, entry_step, step_of, asked_at, asked, onwards, cursor_after, step_after}
 use Rattle.previous_gtids_reader.proofs.StepLaws.{says, Hands, start-refused, start-read, step_end, step-there, after_none, after_next}
 use Rattle.previous_gtids_reader.proofs.StepLaws.{after-still, after_more, step_after_lem, never-begun}
 
@@ -150,16 +150,15 @@ module _ (s : List ℕ) where
       → step_after s (n + m) ≡ step_after s n
   repeats n b c begins e h m =
       step_after_lem s (n + m) b begins
-      ∙ ap (step_of s) (after_more s n m b ∙ ap (cursor_after s m) e ∙ after-still s c h m ∙ sym e)
+      ∙ ap (asked s) (after_more s n m b ∙ ap (cursor_after s m) e ∙ after-still s c h m ∙ sym e)
       ∙ sym (step_after_lem s n b begins)
 
   -- what the answer tells of an entry that is handed out
-  pub tells : (k : ℕ) (e : Entry) → HandsAt s k e → (left : ℕ) × (next : ℕ) × (step_after s k ≡ Ok (Some (entry_step left e next)))
-  tells k e h = (
-    (cursor_after s k h.begin).left - 1,
-    h.hands.next,
-    step_after_lem s k h.begin h.begins ∙ h.hands.is,
-  )
+  pub tells : (k : ℕ) (e : Entry) → HandsAt s k e → (left : ℕ) × (next : ℕ) × (at : ℕ)
+      × (step_after s k ≡ Ok (record { step = Some (entry_step left e next); at = at }))
+  tells k e h =
+      let c = cursor_after s k h.begin in
+      (c.left - 1, h.hands.next, c.at, step_after_lem s k h.begin h.begins ∙ ap (asked_at c) h.hands.is)
 
   module _ (es : List Entry) (used : ℕ) (read : previous s ≡ parsed es used) where
     -- the start, from which these entries are handed out, up to where the bytes used end; there the end is
@@ -189,13 +188,10 @@ module _ (s : List ℕ) where
     pub steps-give : GivesFirst s es
     steps-give = gives-first s given.begin given.begins es given.gives
 
-    -- behind the last entry comes the end
-    pub steps-end : step_after s (length es) ≡ Ok None
-    steps-end = step_after_lem s (length es) given.begin given.begins ∙ ap (step_of s) given.comes ∙ given.ends
-
-    -- where the bytes used end
-    pub steps-come : (begin : Cursor) × (start_of s ≡ Ok begin) × (cursor_after s (length es) begin ≡ cursor_at 0 used)
-    steps-come = (given.begin, given.begins, given.comes)
+    -- behind the last entry comes the end, where the bytes used end
+    pub steps-end : step_after s (length es) ≡ Ok (record { step = None; at = used })
+    steps-end =
+        step_after_lem s (length es) given.begin given.begins ∙ ap (asked s) given.comes ∙ ap (asked_at (cursor_at 0 used)) given.ends
 
     -- and it stays the end
     pub steps-end-again : (m : ℕ) → step_after s (length es + m) ≡ step_after s (length es)
@@ -232,6 +228,6 @@ steps-refuse s x read = go (says s) refl
         record {
           before = o.before;
           gives = gives-first s begin begins o.before o.gives;
-          refused = step_after_lem s n begin begins ∙ o.is;
+          refused = step_after_lem s n begin begins ∙ ap (asked_at c) o.is;
           again = repeats s n begin c begins refl (ap (onwards c) o.is);
         }

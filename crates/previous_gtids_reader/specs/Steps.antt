@@ -10,6 +10,7 @@ use Rattle.previous_gtids_event.specs.Previous.{says_tagged, says_count, entry_a
 use Rattle.previous_gtids_event.specs.Answers.{entry_told}
 use Rattle.previous_gtids_reader.specs.declared.Cursor.{Cursor}
 use Rattle.previous_gtids_reader.specs.declared.Step.{Step}
+use Rattle.previous_gtids_reader.specs.declared.Asked.{Asked}
 
 -- a cursor with so many entries left at a place
 abbrev pub cursor_at : ℕ → ℕ → Cursor
@@ -55,11 +56,19 @@ unfoldable pub cursor_after : List ℕ → ℕ → Cursor → Cursor
 cursor_after s zero c = c
 cursor_after s (suc n) c = cursor_after s n (onwards c (step_of s c))
 
+-- a step, and the place where it was asked; a refusal has none
+abbrev pub asked_at : Cursor → Result (Option Step) Refusal → Result Asked Refusal
+asked_at c (Ok step) = Ok (record { step = step; at = c.at })
+asked_at c (Err r) = Err r
+
+abbrev pub asked : List ℕ → Cursor → Result Asked Refusal
+asked s c = asked_at c (step_of s c)
+
 -- the step that has n before it, from a start on
-abbrev pub step_from : List ℕ → ℕ → Result Cursor Refusal → Result (Option Step) Refusal
-step_from s n (Ok c) = step_of s (cursor_after s n c)
+abbrev pub step_from : List ℕ → ℕ → Result Cursor Refusal → Result Asked Refusal
+step_from s n (Ok c) = asked s (cursor_after s n c)
 step_from s n (Err r) = Err r
 
 -- from the start of the body on
-unfoldable pub step_after : List ℕ → ℕ → Result (Option Step) Refusal
+unfoldable pub step_after : List ℕ → ℕ → Result Asked Refusal
 step_after s n = step_from s n (start_of s)

@@ -25,6 +25,14 @@ pub struct Step {
     pub cursor: Cursor,
 }
 
+// A step that was asked for by its number: the step, unless no entry is left, and the place where it was asked. At the end that is where
+// the entries end.
+#[derive(Clone, Copy)]
+pub struct Asked {
+    pub step: Option<Step>,
+    pub at: usize,
+}
+
 // The place of a body's first entry.
 pub fn start(body: &[u8]) -> Result<Cursor, Refusal>
     ensures { result ≡ start_of body.now }
@@ -89,15 +97,24 @@ pub fn moved<'a>(r: Reader<'a>, cursor: Cursor) -> Reader<'a>
 
 // The step that has so many before it, from the start on, for callers who keep no reader. Where there is none, all later steps
 // repeat that.
-pub fn entry_number(body: &[u8], index: u64) -> Result<Option<Step>, Refusal>
+pub fn entry_number(body: &[u8], index: u64) -> Result<Asked, Refusal>
     ensures { result ≡ step_after body.now index }
 {
     let mut reader = new(body)?;
     for _ in 0..index {
         match next(reader)? {
             Some(step) => reader = moved(reader, step.cursor),
-            None => return Ok(None),
+            None => {
+                return Ok(Asked {
+                    step: None,
+                    at: reader.cursor.at,
+                });
+            }
         }
     }
-    next(reader)
+    let step = next(reader)?;
+    Ok(Asked {
+        step,
+        at: reader.cursor.at,
+    })
 }

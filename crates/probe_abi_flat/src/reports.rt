@@ -6,16 +6,8 @@ use probe_lines::checks::{MARK, dirty};
 use probe_lines::parts::{from_on, front, u32_at};
 use report::{Counts, Line, Report, refused_line};
 
-// The four numbers that the archive hands out.
-#[derive(Clone, Copy, PartialEq, Eq)]
-struct Numbers {
-    entries: u64,
-    intervals: u64,
-    high: u64,
-    low: u64,
-}
-
-const NONE: Numbers = Numbers {
+// Before the archive hands its numbers out.
+const NONE: Counts = Counts {
     entries: UNSET as u64,
     intervals: UNSET as u64,
     high: UNSET as u64,
@@ -33,7 +25,7 @@ fn line_differs(said: Line, set: &[u8], bytes: &mut [u8]) -> bool {
         &mut told.high,
         &mut told.low,
     );
-    let wanted = Numbers {
+    let wanted = Counts {
         entries: said.entries as u64,
         intervals: said.intervals as u64,
         high: said.high as u64,
@@ -52,13 +44,7 @@ fn sum_differs(sum: Counts, bytes: &[u8]) -> bool {
         &mut told.high,
         &mut told.low,
     );
-    let wanted = Numbers {
-        entries: sum.entries,
-        intervals: sum.intervals,
-        high: sum.high,
-        low: sum.low,
-    };
-    (refusal != 0) | (wanted != told)
+    (refusal != 0) | (sum != told)
 }
 
 // The library's report over all sets, and whether the archive said something else of one of them.

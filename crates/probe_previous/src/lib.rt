@@ -53,11 +53,10 @@ fn push_entries(line: &mut Line<'_>, body: &[u8], count: u64) -> Result<usize, R
 const NO_SUCH_INDEX: u64 = 65_536;
 
 // Whether a reader that is asked on and on stops otherwise than reading the whole body does.
-fn stops_elsewhere(body: &[u8], refusal: Option<Refusal>) -> bool {
+fn stops_elsewhere(body: &[u8], whole: Result<usize, Refusal>) -> bool {
     match entry_number(body, NO_SUCH_INDEX) {
-        Ok(Some(_)) => true,
-        Ok(None) => refusal.is_some(),
-        Err(last) => refusal != Some(last),
+        Ok(last) => last.step.is_some() | (whole != Ok(last.at)),
+        Err(last) => whole != Err(last),
     }
 }
 
@@ -68,7 +67,7 @@ fn push_read(line: &mut Line<'_>, a: &[u8], said: PreviousRead, rest: &[u8]) {
     line.number(said.entries);
     let end = push_entries(line, a, said.entries);
     line.text_if(!checks::is_suffix(a, said.used, rest), b" notsuffix");
-    let elsewhere = (end != Ok(said.used)) | stops_elsewhere(a, None);
+    let elsewhere = (end != Ok(said.used)) | stops_elsewhere(a, Ok(said.used));
     line.text_if(elsewhere, b" elsewhere");
 }
 
@@ -79,7 +78,7 @@ fn prev(a: &[u8], line: &mut Line<'_>) {
         Err(refusal) => {
             answers::refused(line, refusal);
             line.text_if(!rest.is_empty(), b" nonzero");
-            line.text_if(stops_elsewhere(a, Some(refusal)), b" elsewhere");
+            line.text_if(stops_elsewhere(a, Err(refusal)), b" elsewhere");
         }
     }
 }

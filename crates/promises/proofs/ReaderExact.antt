@@ -24,9 +24,10 @@ use Rattle.previous_gtids_event.specs.Previous.{entry_at, says_tagged, says_coun
 use Rattle.previous_gtids_event.proofs.Laying.{header-reads, entries-read}
 use Rattle.previous_gtids_event.proofs.Accepting.{header-found, entries-found}
 use Rattle.previous_gtids_reader.specs.declared.Cursor.{Cursor}
-use Rattle.previous_gtids_reader.specs.Steps.{cursor_at, start_of, entry_step, stepped, headed_step, onwards, step_of, cursor_after, step_after}
+use Rattle.previous_gtids_reader.specs.declared.Step.{Step}
+use Rattle.previous_gtids_reader.specs.Steps.{cursor_at, start_of, entry_step, stepped, headed_step, onwards, step_of, asked_at, cursor_after, step_after}
 use Rattle.previous_gtids_reader.proofs.StepLaws.{after_none, after_next, after-still, step_after_lem}
-use Rattle.std.specs.Prelude.{Some, None, Ok, Err}
+use Rattle.std.specs.Prelude.{Option, Some, None, Result, Ok, Err}
 use Rattle.promises.specs.PlainFaults.{FixedFault, OfBody, HeadedFault, NumberFault}
 use Rattle.promises.specs.Exact.{RefusesExactly, ReaderExact}
 use Rattle.promises.proofs.Forces.{many-stops}
@@ -63,6 +64,11 @@ module _ (s : List ℕ) (c : Cursor) where
   step-exact are = rw step-says (headed-exact c.left s c.at are)
 
 -- ---- steps one after another
+
+-- a step that was asked for by its number is refused as it is
+asked-refusal : (c : Cursor) (step : Result (Option Step) Refusal) → refusal_in (asked_at c step) ≡ refusal_in step
+asked-refusal c (Ok step) = refl
+asked-refusal c (Err r) = refl
 
 -- a call whose number is known
 known-exactly : (refusal k : ℕ) (Fault : ℕ → Type 0) → refusal ≡ k → (k ≡ 0 → ⊥) → Fault k → ((n : ℕ) → Fault n → n ≡ k) → RefusesExactly refusal Fault
@@ -247,7 +253,8 @@ module _ (s : List ℕ) (short : length s ≤ body_limit) (h : ℕ) (read : le_a
     read-exact : RefusesExactly (refusal_in (step_after s index)) (OfBody s (NumberFault index s))
     read-exact =
         map-exactly (refusal_in (step_after s index)) (said index (cursor_at (says_count h) 8)) (OfBody s (NumberFault index s)) (Hits index (says_count h) 8)
-        (ap refusal_in (step_after_lem s index (cursor_at (says_count h) 8) start_is))
+        (ap refusal_in (step_after_lem s index (cursor_at (says_count h) 8) start_is)
+        ∙ asked-refusal (cursor_after s index (cursor_at (says_count h) 8)) (step_of s (cursor_after s index (cursor_at (says_count h) 8))))
         (hits-exact index (says_count h) 8) hit-fault fault-hit
 
 module _ (s : List ℕ) (index : ℕ) where

@@ -9,8 +9,11 @@ use lib.ListN.{length, drop, get_or, length-append, drop_of_length-le}
 use lib.Seq.{drop-cons}
 use Rattle.std.specs.Prelude.{Ok, Err}
 use Rattle.misc.specs.declared.refusal.WriteError.TheVariants.{NoRoom}
-use Rattle.misc.specs.Output.{bytes, output_of, answer_of, WhereFits}
-use Rattle.misc.proofs.OutputLaws.{◌also◌, output-fits, output-short}
+use Rattle.misc.specs.Output.{bytes, output_of, answer_of}
+use Rattle.misc.specs.Put.{Puts, PutsWhereFits}
+use Rattle.misc.specs.declared.put.Put.{Put}
+use Rattle.misc.proofs.OutputLaws.{output-fits, output-short}
+use Rattle.misc.proofs.PutLaws.{◌and◌, puts-fit}
 use Rattle.text.specs.Digits.{decimal}
 use Rattle.text.specs.Lines.{newline, space, refused_text}
 use Rattle.report.specs.Report.{counts_of, sum_of}
@@ -26,12 +29,11 @@ module _ (word : List ℕ) (c : Counts) where
   unfolding counts_text
   counts-long three e i h l p q r s = simp length-append (omega arith)
 
-  pub counts-put : {l l₁ l₂ l₃ l₄ l₅ l₆ : List ℕ} {at at₁ at₂ at₃ at₄ at₅ at₆ : ℕ}
-      → WhereFits l at word l₁ at₁ → WhereFits l₁ at₁ (space ∷ decimal c.entries) l₂ at₂ → WhereFits l₂ at₂ (space ∷ decimal c.intervals) l₃ at₃
-      → WhereFits l₃ at₃ (space ∷ decimal c.high) l₄ at₄ → WhereFits l₄ at₄ (space ∷ decimal c.low) l₅ at₅ → WhereFits l₅ at₅ (newline ∷ []) l₆ at₆
-      → WhereFits l at (counts_text word c) l₆ at₆
+  pub counts-put : {p p₁ p₂ p₃ p₄ p₅ p₆ : Put} → Puts p word p₁ → PutsWhereFits p₁ (space ∷ decimal c.entries) p₂
+      → PutsWhereFits p₂ (space ∷ decimal c.intervals) p₃ → PutsWhereFits p₃ (space ∷ decimal c.high) p₄
+      → PutsWhereFits p₄ (space ∷ decimal c.low) p₅ → Puts p₅ (newline ∷ []) p₆ → PutsWhereFits p (counts_text word c) p₆
   unfolding counts_text
-  counts-put p e i h w n = p also e also i also h also w also n
+  counts-put f e i h w n = puts-fit f and e and i and h and w and puts-fit n
 
 -- the words have three letters each
 pub words-alike : (c : Counts) → length (counts_text set_word c) ≡ length (counts_text sum_word c)
@@ -49,13 +51,13 @@ module _ (l : Line) where
   unfolding line_text
   refused-line h = rw (ne_eqb l.refusal 0 h)
 
-  module _ {out out' : List ℕ} {at end : ℕ} where
-    pub set-put : l.refusal ≡ 0 → (counts : Counts) → counts ≡ counts_of l → WhereFits out at (counts_text set_word counts) out' end
-        → WhereFits out at (line_text l) out' end
-    set-put h counts e p = rw (set_line h, ← e) p
+  module _ {p q : Put} where
+    pub set-put : l.refusal ≡ 0 → (counts : Counts) → counts ≡ counts_of l → PutsWhereFits p (counts_text set_word counts) q
+        → PutsWhereFits p (line_text l) q
+    set-put h counts e f = rw (set_line h, ← e) f
 
-    pub refused-put : (l.refusal ≡ 0 → ⊥) → WhereFits out at (refused_text l.refusal) out' end → WhereFits out at (line_text l) out' end
-    refused-put h p = rw (refused-line h) p
+    pub refused-put : (l.refusal ≡ 0 → ⊥) → Puts p (refused_text l.refusal) q → PutsWhereFits p (line_text l) q
+    refused-put h f = rw (refused-line h) (puts-fit f)
 
 -- ---- lines, one after another
 
@@ -83,10 +85,10 @@ module _ (ls : List Line) (sum : Counts) (summed : sum ≡ sum_of ls) (len last 
       → (Err (NoRoom (len + last)) ≡ answer_of out (bytes (report_text ls))) × (out ≡ output_of out (bytes (report_text ls)))
   report-short h = output-short out (report_text ls) (len + last) long h
 
-  pub report-fits : len + last ≤ length out → {out₁ out₂ : List ℕ} {at end : ℕ} → WhereFits out 0 (lines_text ls) out₁ at
-      → WhereFits out₁ at (counts_text sum_word sum) out₂ end
-      → (Ok (len + last) ≡ answer_of out (bytes (report_text ls))) × (out₂ ≡ output_of out (bytes (report_text ls)))
-  report-fits h {out₁} {out₂} {at} {end} lines sums =
-      let run : WhereFits out 0 (report_text ls) out₂ end = rw text at (lines also sums) in
-      let whole = run.placed (omega (arith, long)) in
-      output-fits (omega (arith, long)) (record { holds = whole.holds; ends = omega (arith, long) })
+  pub report-fits : len + last ≤ length out → {p q r : Put} → p.out.now ≡ out → p.at ≡ 0 → PutsWhereFits p (lines_text ls) q
+      → PutsWhereFits q (counts_text sum_word sum) r
+      → (Ok (len + last) ≡ answer_of out (bytes (report_text ls))) × (r.out.now ≡ output_of out (bytes (report_text ls)))
+  report-fits h {p} {q} {r} whole front lines sums =
+      let run : PutsWhereFits p (report_text ls) r = rw text at (lines and sums) in
+      let placed = rw (whole, front) at (run.placed (omega (arith, long, ap length whole))) in
+      output-fits (omega (arith, long)) (record { holds = placed.holds; ends = omega (arith, long) })

@@ -12,6 +12,7 @@ ghost use Rattle.report.specs.Text.{report_text};
 use crate::ids::ids_in;
 use crate::sums::{high_word, low_word, sum_of};
 use crate::text_lines::{counts_len, lines_len, put_counts, put_lines};
+use misc::put::Put;
 use misc::refusal::{Refusal, WriteError};
 use set_check::check::check;
 use set_check::walk::entries_of;
@@ -40,7 +41,7 @@ pub struct Line {
 }
 
 // The four numbers of a line, or of all lines together; the ids as in a line.
-#[derive(Clone, Copy)]
+#[derive(Clone, Copy, PartialEq, Eq)]
 pub struct Counts {
     pub entries: u64,
     pub intervals: u64,
@@ -143,8 +144,9 @@ impl Report {
         if out.len() < len {
             return Err(WriteError::NoRoom(len));
         }
-        let at = put_lines(lines, out, 0);
-        put_counts(b"sum", sum, out, at);
+        let mut put = Put { out, at: 0 };
+        put_lines(&mut put, lines);
+        put_counts(&mut put, b"sum", sum);
         Ok(len)
     }
 }

@@ -1,12 +1,12 @@
 // The lines of a report as text.
 ghost use Rattle.std.specs.Prelude.{◌≡◌, ◌∷◌, ◌≤◌, length};
-ghost use Rattle.misc.specs.Output.{WhereFits};
+ghost use Rattle.misc.specs.Put.{PutsWhereFits};
 ghost use Rattle.text.specs.Digits.{decimal};
 ghost use Rattle.text.specs.Lines.{space};
 ghost use Rattle.report.specs.Text.{counts_text, set_word, line_text, lines_text};
 
 use crate::{Counts, Line};
-use misc::put::put_bytes;
+use misc::put::Put;
 use text::digits::{decimal_len, put_decimal};
 use text::lines::{put_refused, refused_len};
 
@@ -21,23 +21,23 @@ pub(crate) fn counts_len(counts: Counts) -> usize
 }
 
 // Puts a space and a number.
-fn put_number(n: u64, out: &mut [u8], at: usize) -> usize
-    ensures { WhereFits out.old at (space ∷ decimal n) out.new result }
+fn put_number(put: &mut Put<'_>, n: u64)
+    ensures { PutsWhereFits put.old (space ∷ decimal n) put.new }
 {
-    let from = put_bytes(b" ", out, at);
-    put_decimal(n, out, from)
+    put.byte(b' ');
+    put_decimal(put, n);
 }
 
 // Puts a line of four numbers after a word.
-pub(crate) fn put_counts(word: &[u8], counts: Counts, out: &mut [u8], at: usize) -> usize
-    ensures { WhereFits out.old at (counts_text word.now counts) out.new result }
+pub(crate) fn put_counts(put: &mut Put<'_>, word: &[u8], counts: Counts)
+    ensures { PutsWhereFits put.old (counts_text word.now counts) put.new }
 {
-    let at1 = put_bytes(word, out, at);
-    let at2 = put_number(counts.entries, out, at1);
-    let at3 = put_number(counts.intervals, out, at2);
-    let at4 = put_number(counts.high, out, at3);
-    let at5 = put_number(counts.low, out, at4);
-    put_bytes(b"\n", out, at5)
+    put.bytes(word);
+    put_number(put, counts.entries);
+    put_number(put, counts.intervals);
+    put_number(put, counts.high);
+    put_number(put, counts.low);
+    put.byte(b'\n');
 }
 
 fn line_len(line: Line) -> usize
@@ -49,13 +49,13 @@ fn line_len(line: Line) -> usize
     refused_len(line.refusal)
 }
 
-fn put_line(line: Line, out: &mut [u8], at: usize) -> usize
-    ensures { WhereFits out.old at (line_text line) out.new result }
+fn put_line(put: &mut Put<'_>, line: Line)
+    ensures { PutsWhereFits put.old (line_text line) put.new }
 {
     if line.refusal == 0 {
-        return put_counts(b"set", line.counts(), out, at);
+        return put_counts(put, b"set", line.counts());
     }
-    put_refused(line.refusal, out, at)
+    put_refused(put, line.refusal);
 }
 
 // How long so many lines are.
@@ -67,12 +67,10 @@ pub(crate) fn lines_len(lines: &[Line]) -> u32
 }
 
 // Puts them.
-pub(crate) fn put_lines(lines: &[Line], out: &mut [u8], at: usize) -> usize
-    ensures { WhereFits out.old at (lines_text lines.now) out.new result }
+pub(crate) fn put_lines(put: &mut Put<'_>, lines: &[Line])
+    ensures { PutsWhereFits put.old (lines_text lines.now) put.new }
 {
-    let mut end = at;
     for line in lines {
-        end = put_line(*line, out, end);
+        put_line(put, *line);
     }
-    end
 }

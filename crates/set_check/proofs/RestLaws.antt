@@ -7,7 +7,7 @@ use native.Mathlib.Omega.{arith}
 use lib.Dec.{ltb, leb}
 use borrow.Author.Tests.{ltb-false, leb-true}
 use lib.ListN.{length, drop}
-use Rattle.std.specs.Prelude.{Option, Some, None, MatchBool}
+use Rattle.std.specs.Prelude.{Option, Some, MatchBool}
 use Rattle.std.specs.Ordering.{is_lt}
 use Rattle.misc.specs.Parse.{part, Bytes}
 use Rattle.misc.proofs.ParseLaws.{part_length}
@@ -74,14 +74,6 @@ pub told-above : (o : Ordering) (told : cmp.Ordering) (b : Bool) → order_read 
 told-above Ordering.lt told b e h = rw (h, ← e) refl
 told-above Ordering.eq told b e h = rw (h, ← e) (λ p. cc)
 told-above Ordering.gt told b e h = rw (h, ← e) (λ p. cc)
-
--- where there is none, it is higher
-pub low_none : (bs : List ℕ) (low : Option KeyPlace) (j : KeyPlace) → low ≡ None → KeyThere bs j → low_key bs low ≺ key_in bs j
-low_none bs low j e g = rw e (lowest (part bs j.at 16) (part bs j.tag_at j.tag_len) (part_length 16 bs j.at g.uuid))
-  where
-    lowest : (u t : List ℕ) → length u ≡ 16 → [] ≺ (u ++ t)
-    lowest [] t h = absurd (omega arith)
-    lowest (x ∷ u) t h = refl
 
 -- ---- the tests of `entry_above`
 

@@ -29,7 +29,7 @@ struct Reach {
     end: u64,
 }
 
-// The numbers from a start up to, and without, an end.
+// The numbers from a start up to, and without, an end, as sixteen bytes spell them (`IntervalRead` is what a body answers for one of its).
 #[derive(Clone, Copy)]
 struct Interval {
     start: u64,

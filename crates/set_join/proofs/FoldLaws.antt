@@ -129,6 +129,9 @@ module _ (body : List ℕ) (k : Key) (wanted : List Entry) (held : List ℕ) (se
     judged : (is_interval (interval a b) ≡ true) × (proper (intervals_at (left - 1) body (at + 16)) ≡ true)
     judged = and-true (is_interval (interval a b)) _ (rw next-interval at j.lawful)
 
+    pub joining-next : is_interval (interval a b) ≡ true
+    joining-next = judged.0
+
     pub joining-turn : GoodKey k → (held' : List ℕ) (set' : Held) → length held' ≡ length held → HeldIs held' set'
         → held_set held' set' ≡ join k a b (held_set held set) → Joining body k wanted held' set' (at + 16) (left - 1)
     joining-turn good held' set' same is joined =

@@ -8,8 +8,10 @@ use lib.ListN.{length, take, drop, length-drop}
 use lib.Seq.{take_all}
 use Rattle.misc.specs.Parse.{part}
 use Rattle.misc.specs.Output.{WhereFits}
+use Rattle.misc.specs.Put.{PutsWhereFits}
+use Rattle.misc.specs.declared.put.Put.{Put}
 use Rattle.misc.proofs.Places.{part-there}
-use Rattle.misc.proofs.OutputLaws.{◌also◌, nothing_placed}
+use Rattle.misc.proofs.PutLaws.{◌and◌, puts-fit, puts_none}
 use Rattle.packets.specs.Kept.{kept}
 use Rattle.packets.proofs.KeptLaws.{kept_whole}
 use Rattle.previous_gtids_event.specs.Rewrite.{head_run}
@@ -22,29 +24,29 @@ use Rattle.set_join.specs.declared.Run.{Run}
 use Rattle.set_join.specs.Put.{wider_run, widened, entries_run}
 
 -- a part of some bytes, its length told in another way
-pub put-part : {l l' : List ℕ} {at r : ℕ} (s : List ℕ) (from n m : ℕ) → m ≡ n → WhereFits l at (part s from m) l' r → WhereFits l at (part s from n) l' r
-put-part s from n m e p = rw e at p
+pub put-part : {p q : Put} (s : List ℕ) (from n m : ℕ) → m ≡ n → PutsWhereFits p (part s from m) q → PutsWhereFits p (part s from n) q
+put-part s from n m e h = rw e at h
 
 -- all from a place on
-pub put_rest : {l l' : List ℕ} {at r : ℕ} (s : List ℕ) (from : ℕ) → WhereFits l at (part s from (length s - from)) l' r → WhereFits l at (drop from s) l' r
-put_rest s from p = rw (part-there s from (length s - from) (drop from s) [] (sym (append-nil (drop from s))) (length-drop from s)) at p
+pub put_rest : {p q : Put} (s : List ℕ) (from : ℕ) → PutsWhereFits p (part s from (length s - from)) q → PutsWhereFits p (drop from s) q
+put_rest s from h = rw (part-there s from (length s - from) (drop from s) [] (sym (append-nil (drop from s))) (length-drop from s)) at h
 
 -- a head, with a copy of its uuid
-pub put-copied : {l l' : List ℕ} {at r : ℕ} (u own : List ℕ) (tags : Bool) (t : List ℕ) (n : ℕ) → length u ≡ 16 → own ≡ kept 16 (take 16 u)
-    → WhereFits l at (head_run own tags t n) l' r → WhereFits l at (head_run u tags t n) l' r
-put-copied u own tags t n e is p =
-    let all : kept 16 (take 16 u) ≡ u = ap (kept 16) (take_all 16 u (omega arith)) ∙ kept_whole 16 u e in rw (is ∙ all) at p
+pub put-copied : {p q : Put} (u own : List ℕ) (tags : Bool) (t : List ℕ) (n : ℕ) → length u ≡ 16 → own ≡ kept 16 (take 16 u)
+    → PutsWhereFits p (head_run own tags t n) q → PutsWhereFits p (head_run u tags t n) q
+put-copied u own tags t n e is h =
+    let all : kept 16 (take 16 u) ≡ u = ap (kept 16) (take_all 16 u (omega arith)) ∙ kept_whole 16 u e in rw (is ∙ all) at h
 
--- no bytes
-pub put-none : (l : List ℕ) (at : ℕ) → WhereFits l at [] l at
-put-none l at = record { placed = λ _. nothing_placed l at }
+-- what was put, by what then is in the output that was lent
+pub put_into : {p q : Put} {bs l : List ℕ} → PutsWhereFits p bs q → l ≡ q.out.now → WhereFits p.out.now p.at bs l q.at
+put_into f e = rw e (record { placed = f.placed })
 
 -- ---- widened entries
 
--- what is left, written on, gives what is wanted
-pub record Widening (bs wanted l₀ : List ℕ) (at : ℕ) (c : Cursor) (out : List ℕ) (put : ℕ) : Type 0 where
+-- what is left, put behind what stands at `q`, gives what is wanted behind `p`
+pub record Widening (bs wanted : List ℕ) (p : Put) (c : Cursor) (q : Put) : Type 0 where
   pub there : EntriesIn c.left false bs c.at
-  pub goes_on : (l : List ℕ) (r : ℕ) → WhereFits out put (widened c.left bs c.at) l r → WhereFits l₀ at wanted l r
+  pub goes_on : (r : Put) → PutsWhereFits q (widened c.left bs c.at) r → PutsWhereFits p wanted r
   pub untagged : c.tagged ≡ false
 
 -- the next entry, as the walk tells it
@@ -67,26 +69,25 @@ wider-here bs at (suc n) p some there told =
       others = rw less there.1;
     })
 
-module _ (bs wanted l₀ : List ℕ) (at : ℕ) (c : Cursor) (out : List ℕ) (put : ℕ) (g : Widening bs wanted l₀ at c out put) where
-  pub widening-all : c.left ≡ 0 → WhereFits l₀ at wanted out put
+module _ (bs wanted : List ℕ) (p : Put) (c : Cursor) (q : Put) (g : Widening bs wanted p c q) where
+  pub widening-all : c.left ≡ 0 → PutsWhereFits p wanted q
   unfolding widened
-  widening-all e = g.goes_on out put (rw e (put-none out put))
+  widening-all e = g.goes_on q (rw e (puts-fit (puts_none q)))
 
-  module _ (p : EntryPlace) (some : 0 < c.left) (told : p ≡ place_in c.tagged bs c.at) where
-    pub wider : Wider bs c.at c.left p
-    wider = wider-here bs c.at c.left p some g.there (told ∙ ap (λ (w : Bool). place_in w bs c.at) g.untagged)
+  module _ (e : EntryPlace) (some : 0 < c.left) (told : e ≡ place_in c.tagged bs c.at) where
+    pub wider : Wider bs c.at c.left e
+    wider = wider-here bs c.at c.left e some g.there (told ∙ ap (λ (w : Bool). place_in w bs c.at) g.untagged)
 
-    pub widening-turn : (out' : List ℕ) (r : ℕ) → WhereFits out put (wider_run bs c.at p.next) out' r
-        → Widening bs wanted l₀ at (beyond_of c p) out' r
-    widening-turn out' r w = record {
+    pub widening-turn : (r : Put) → PutsWhereFits q (wider_run bs c.at e.next) r → Widening bs wanted p (beyond_of c e) r
+    widening-turn r w = record {
       there = wider.others;
-      goes_on = λ l q v. g.goes_on l q (rw wider.run (w also v));
+      goes_on = λ s v. g.goes_on s (rw wider.run (w and v));
       untagged = g.untagged;
     }
 
 -- ---- entries as they are or widened
 
 module _ (w : Bool) (bs : List ℕ) (run : Run) where
-  pub run-plain : {l l' : List ℕ} {at r : ℕ} → w ≡ false → WhereFits l at (part bs run.from (run.to - run.from)) l' r
-      → WhereFits l at (entries_run w bs run) l' r
-  run-plain e p = rw e p
+  pub run-plain : {p q : Put} → w ≡ false → PutsWhereFits p (part bs run.from (run.to - run.from)) q
+      → PutsWhereFits p (entries_run w bs run) q
+  run-plain e h = rw e h

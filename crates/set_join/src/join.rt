@@ -11,12 +11,13 @@ ghost use Rattle.set_join.specs.Join.{extra, PlanIs, Runs, plan_runs};
 
 use crate::find::find;
 use crate::put::{put_entries, put_head_of, put_spliced};
-use crate::{Held, KeyParts, Plan, Run, Span};
+use crate::{Held, KeyParts, Plan, Run};
 use misc::INTERVAL_LEN;
 use misc::bytes::write_bytes;
+use misc::put::Put;
 use misc::refusal::WriteError;
-use previous_gtids_event::ENTRY_HEAD;
 use previous_gtids_event::rewrite::put_header;
+use previous_gtids_event::{ENTRY_HEAD, IntervalRead};
 use set_check::limits::{judge, over};
 use set_check::{Checked, Cursor, SET_HEADER};
 use set_intervals::splice_in;
@@ -42,7 +43,7 @@ fn gained(wanted: bool, count: usize) -> usize
 }
 
 // How a set grows by an interval of a key.
-pub(crate) fn plan_join(set: &[u8], is: Held, key: KeyParts, span: Span) -> Plan
+pub(crate) fn plan_join(set: &[u8], is: Held, key: KeyParts, span: IntervalRead) -> Plan
     requires set { IsSet set.now is.tagged is.entries × (intervals (set_of set.now) ≡ is.intervals) }
     requires uuid_len { (length key.uuid.now ≡ 16) × (length key.tag.now ≤ 32) }
     requires start_lt_end { span.start < span.end }
@@ -87,11 +88,13 @@ pub(crate) fn put_joined(set: &[u8], key: KeyParts, plan: Plan, out: &mut [u8]) 
         to: set.len(),
         count: plan.entries - (1 + before.count),
     };
-    let at0 = put_header(plan.entries as u64, plan.tags, out, 0);
-    let at1 = put_entries(set, before, plan.widen, out, at0);
-    let at2 = put_head_of(key, plan.tags, plan.held as u64, out, at1);
-    let at3 = put_spliced(&set[own.from..own.to], plan.splice, out, at2);
-    put_entries(set, after, plan.widen, out, at3)
+    let mut put = Put { out, at: 0 };
+    put_header(&mut put, plan.entries as u64, plan.tags);
+    put_entries(&mut put, set, before, plan.widen);
+    put_head_of(&mut put, key, plan.tags, plan.held as u64);
+    put_spliced(&mut put, &set[own.from..own.to], plan.splice);
+    put_entries(&mut put, set, after, plan.widen);
+    put.at
 }
 
 // Writes a set that has been made, if it is within the limits and there is room.
@@ -108,7 +111,7 @@ pub(crate) fn write_set(set: &[u8], is: Held, out: &mut [u8]) -> Result<usize, W
 pub(crate) fn write_joined(
     set: &[u8],
     key: KeyParts,
-    span: Span,
+    span: IntervalRead,
     plan: Plan,
     out: &mut [u8],
 ) -> Result<usize, WriteError>

@@ -8,11 +8,12 @@ ghost use Rattle.set_check.specs.SetOf.{set_of, Fits};
 ghost use Rattle.set_join.specs.Answers.{output, joined_id};
 
 use crate::join::{lent, plan_join, write_joined};
-use crate::{Joined, KeyParts, Span};
+use crate::{Joined, KeyParts};
 use misc::UUID_LEN;
 use misc::bytes::{smaller, write_bytes};
 use misc::refusal::{Refusal, WriteError};
 use packets::{MAX_TAG, is_gno};
+use previous_gtids_event::IntervalRead;
 use set_check::Checked;
 use set_check::check::check;
 use set_intervals::held_behind;
@@ -37,7 +38,7 @@ fn join_checked(set: &[u8], checked: Checked, key: KeyParts, gno: u64, out: &mut
     if !is_gno(gno) {
         return refused(Refusal::BadGno);
     }
-    let span = Span {
+    let span = IntervalRead {
         start: gno,
         end: gno + 1,
     };

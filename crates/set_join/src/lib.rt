@@ -25,6 +25,7 @@ pub mod take_in;
 // An id joined to a set: whether it was there already, and what was written.
 #[derive(Clone, Copy)]
 pub struct Joined {
+    // told with a refusal too (`joined_id`), so it is no case of the answer
     pub already: bool,
     pub wrote: Result<usize, WriteError>,
 }
@@ -52,13 +53,6 @@ pub(crate) struct Run {
 pub(crate) struct Found {
     pub(crate) before: Run,
     pub(crate) own: Run,
-}
-
-// An interval that is to be joined: its start, and its end, which it doesn't hold.
-#[derive(Clone, Copy)]
-pub(crate) struct Span {
-    pub(crate) start: u64,
-    pub(crate) end: u64,
 }
 
 // A set in a work buffer: whether it has tags; how many entries, intervals, and entries with too many intervals it has; and its length.

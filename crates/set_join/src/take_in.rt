@@ -14,13 +14,13 @@ ghost use Rattle.set_check.specs.SetOf.{set_of, entries_of, Fits};
 ghost use Rattle.set_join.specs.TakeIn.{HeldIs, held_set, key_in, EntryIs, widest, enough, Room};
 
 use crate::join::{lent, plan_join, put_joined, write_set};
-use crate::{Held, KeyParts, Span};
+use crate::{Held, KeyParts};
 use misc::bytes::write_bytes;
 use misc::le::number_at;
 use misc::refusal::{Refusal, WriteError};
 use misc::{INTERVAL_LEN, MAX_BODY};
 use previous_gtids_event::read::{entry_at, header_of, read};
-use previous_gtids_event::{ENTRY_HEAD, EntryRead};
+use previous_gtids_event::{ENTRY_HEAD, EntryRead, IntervalRead};
 use set_check::check::check;
 use set_check::limits::over;
 use set_check::{Checked, LONGEST_SET, SET_HEADER};
@@ -60,7 +60,13 @@ pub(crate) fn lawful_body(body: &[u8]) -> bool
 // The two work buffers are two slices, which every call leaves as long as they are; of buffers in a struct each function had to promise it.
 
 // Joins an interval of a key to the set in `held`.
-fn join_interval(held: &mut [u8], spare: &mut [u8], is: Held, key: KeyParts, span: Span) -> Held
+fn join_interval(
+    held: &mut [u8],
+    spare: &mut [u8],
+    is: Held,
+    key: KeyParts,
+    span: IntervalRead,
+) -> Held
     requires held_is { HeldIs held.old is }
     requires uuid_len { (length key.uuid.now ≡ 16) × (length key.tag.now ≤ 32) × (none_or_tag key.tag.now ≡ true) }
     requires end_value { is_interval (interval span.start span.end) ≡ true }
@@ -98,7 +104,7 @@ fn join_entry(body: &[u8], entry: EntryRead, held: &mut [u8], spare: &mut [u8], 
     let mut set = is;
     let mut at = entry.first;
     for _ in 0..entry.intervals {
-        let span = Span {
+        let span = IntervalRead {
             start: number_at(body, at),
             end: number_at(body, at + 8),
         };

@@ -4,39 +4,40 @@ use mathlib.Core.List.{List, [], ◌∷◌, ◌++◌}
 use Prim.Native.Nat.{ℕ, suc, ◌+◌, ◌≤◌}
 use native.Mathlib.Omega.{arith}
 use lib.ListN.{length, length-append}
-use Rattle.misc.specs.Output.{WhereFits}
 use Rattle.misc.specs.Parse.{part}
+use Rattle.misc.specs.Put.{Puts, PutsWhereFits}
+use Rattle.misc.specs.declared.put.Put.{Put}
 use Rattle.misc.proofs.ParseLaws.{part_length}
-use Rattle.misc.proofs.OutputLaws.{◌also◌, put-placed, put-nothing}
+use Rattle.misc.proofs.PutLaws.{◌and◌, puts-fit, puts_none}
 use Rattle.text.specs.Digits.{hex}
 use Rattle.text.specs.Keys.{colon, dash, uuid_text, tag_text, key_text}
 use Rattle.text.proofs.DigitLaws.{hex-long}
 
 -- ---- putting them
 
-pub no-tag-put : (tag l : List ℕ) (at : ℕ) → length tag ≡ 0 → WhereFits l at (tag_text tag) l at
-no-tag-put [] l at e = put-placed (put-nothing l at)
-no-tag-put (b ∷ bs) l at e = absurd (omega arith)
+pub no-tag-put : (tag : List ℕ) (p : Put) → length tag ≡ 0 → PutsWhereFits p (tag_text tag) p
+no-tag-put [] p e = puts-fit (puts_none p)
+no-tag-put (b ∷ bs) p e = absurd (omega arith)
 
-pub tag-put : {l l₁ l₂ : List ℕ} {at at₁ at₂ : ℕ} (tag : List ℕ) → (length tag ≡ 0 → ⊥)
-    → WhereFits l at (colon ∷ []) l₁ at₁ → WhereFits l₁ at₁ tag l₂ at₂ → WhereFits l at (tag_text tag) l₂ at₂
-tag-put [] h p q = absurd (h refl)
-tag-put (b ∷ bs) h p q = p also q
+pub tag-put : {p q r : Put} (tag : List ℕ) → (length tag ≡ 0 → ⊥) → Puts p (colon ∷ []) q → Puts q tag r → PutsWhereFits p (tag_text tag) r
+tag-put [] h f g = absurd (h refl)
+tag-put (b ∷ bs) h f g = puts-fit f and puts-fit g
 
-pub key-put : {l l₁ l₂ : List ℕ} {at at₁ at₂ : ℕ} (uuid tag : List ℕ)
-    → WhereFits l at (uuid_text uuid) l₁ at₁ → WhereFits l₁ at₁ (tag_text tag) l₂ at₂ → WhereFits l at (key_text uuid tag) l₂ at₂
+pub key-put : {p q r : Put} (uuid tag : List ℕ) → Puts p (uuid_text uuid) q → PutsWhereFits q (tag_text tag) r → PutsWhereFits p (key_text uuid tag) r
 unfolding key_text
-key-put uuid tag p q = p also q
+key-put uuid tag f g = puts-fit f and g
+
+-- a dash and a group of digits
+group-put : {p q r : Put} {digits : List ℕ} → Puts p (dash ∷ []) q → Puts q digits r → PutsWhereFits p (dash ∷ digits) r
+group-put f g = puts-fit f and puts-fit g
 
 -- five groups of digits with dashes between them
-pub uuid-put : {l l₁ l₂ l₃ l₄ l₅ l₆ l₇ l₈ l₉ : List ℕ} {at at₁ at₂ at₃ at₄ at₅ at₆ at₇ at₈ at₉ : ℕ} (u : List ℕ)
-    → WhereFits l at (hex (part u 0 4)) l₁ at₁ → WhereFits l₁ at₁ (dash ∷ []) l₂ at₂
-    → WhereFits l₂ at₂ (hex (part u 4 2)) l₃ at₃ → WhereFits l₃ at₃ (dash ∷ []) l₄ at₄
-    → WhereFits l₄ at₄ (hex (part u 6 2)) l₅ at₅ → WhereFits l₅ at₅ (dash ∷ []) l₆ at₆
-    → WhereFits l₆ at₆ (hex (part u 8 2)) l₇ at₇ → WhereFits l₇ at₇ (dash ∷ []) l₈ at₈
-    → WhereFits l₈ at₈ (hex (part u 10 6)) l₉ at₉ → WhereFits l at (uuid_text u) l₉ at₉
+pub uuid-put : {p p₁ p₂ p₃ p₄ p₅ p₆ p₇ p₈ p₉ : Put} (u : List ℕ) → Puts p (hex (part u 0 4)) p₁
+    → Puts p₁ (dash ∷ []) p₂ → Puts p₂ (hex (part u 4 2)) p₃ → Puts p₃ (dash ∷ []) p₄ → Puts p₄ (hex (part u 6 2)) p₅
+    → Puts p₅ (dash ∷ []) p₆ → Puts p₆ (hex (part u 8 2)) p₇ → Puts p₇ (dash ∷ []) p₈ → Puts p₈ (hex (part u 10 6)) p₉
+    → PutsWhereFits p (uuid_text u) p₉
 unfolding uuid_text
-uuid-put u p₁ p₂ p₃ p₄ p₅ p₆ p₇ p₈ p₉ = p₁ also (p₂ also p₃) also (p₄ also p₅) also (p₆ also p₇) also (p₈ also p₉)
+uuid-put u f₁ f₂ f₃ f₄ f₅ f₆ f₇ f₈ f₉ = puts-fit f₁ and group-put f₂ f₃ and group-put f₄ f₅ and group-put f₆ f₇ and group-put f₈ f₉
 
 -- ---- how long they are
 

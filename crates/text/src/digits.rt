@@ -1,11 +1,10 @@
 // Numbers and bytes as text.
 ghost use Rattle.std.specs.Prelude.{◌≡◌, ◌≤◌, length};
-ghost use Rattle.misc.specs.Output.{put_at, put_end};
+ghost use Rattle.misc.specs.Put.{Puts};
 ghost use Rattle.text.specs.Digits.{decimal, hex};
 
 use itoa::Buffer;
-use misc::bytes::left_at;
-use misc::put::put_bytes;
+use misc::put::Put;
 
 // How many decimal digits a number has.
 pub fn decimal_len(n: u64) -> usize
@@ -15,23 +14,21 @@ pub fn decimal_len(n: u64) -> usize
 }
 
 // Puts the decimal digits of a number.
-pub fn put_decimal(n: u64, out: &mut [u8], at: usize) -> usize
-    ensures value { result ≡ put_end out.old at (decimal n) }
-    ensures out_after { out.new ≡ put_at out.old at (decimal n) }
+pub fn put_decimal(put: &mut Put<'_>, n: u64)
+    ensures { Puts put.old (decimal n) put.new }
 {
     let mut buffer = Buffer::new();
-    put_bytes(buffer.format(n).as_bytes(), out, at)
+    put.bytes(buffer.format(n).as_bytes());
 }
 
 // Puts two hexadecimal digits for each byte.
-pub fn put_hex(source: &[u8], out: &mut [u8], at: usize) -> usize
-    ensures value { result ≡ put_end out.old at (hex source.now) }
-    ensures out_after { out.new ≡ put_at out.old at (hex source.now) }
+pub fn put_hex(put: &mut Put<'_>, source: &[u8])
+    ensures { Puts put.old (hex source.now) put.new }
 {
-    if source.is_empty() || left_at(out, at) / 2 < source.len() {
-        return at;
+    if source.is_empty() || put.left() / 2 < source.len() {
+        return;
     }
-    let end = at + 2 * source.len();
-    hex::encode_to_slice(source, &mut out[at..end]).unwrap();
-    end
+    let end = put.at + 2 * source.len();
+    hex::encode_to_slice(source, &mut put.out[put.at..end]).unwrap();
+    put.at = end;
 }

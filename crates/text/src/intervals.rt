@@ -1,12 +1,12 @@
 // Intervals as text: the first number, and the last after a dash unless that is the first.
 ghost use Rattle.std.specs.Prelude.{◌≡◌, ◌+◌, ◌≤◌, length, eqb};
-ghost use Rattle.misc.specs.Output.{put_at, put_end};
+ghost use Rattle.misc.specs.Put.{Puts};
 ghost use Rattle.text.specs.Intervals.{last_text, interval_text};
 ghost use Rattle.text.specs.Inside.{Before};
 
 use crate::digits::decimal_len;
 use itoa::write_digits;
-use misc::put::put_bytes;
+use misc::put::Put;
 
 // A colon and twenty digits, a dash and twenty more.
 const ROOM: usize = 42;
@@ -43,13 +43,12 @@ fn fill_last(start: u64, end: u64, text: &mut [u8]) -> usize
 }
 
 // Puts an interval, from a start up to, and without, an end.
-pub fn put_interval(start: u64, end: u64, out: &mut [u8], at: usize) -> usize
-    ensures value { result ≡ put_end out.old at (interval_text start end) }
-    ensures out_after { out.new ≡ put_at out.old at (interval_text start end) }
+pub fn put_interval(put: &mut Put<'_>, start: u64, end: u64)
+    ensures { Puts put.old (interval_text start end) put.new }
 {
     let mut text = [0u8; ROOM];
     let last = fill_last(start, end, &mut text);
     let first = write_digits(start, &mut text, last) - 1;
     text[first] = b':';
-    put_bytes(&text[first..], out, at)
+    put.bytes(&text[first..]);
 }

@@ -1,33 +1,31 @@
 // Keys as text: a uuid with its dashes, and the tag after a colon if there is one.
 ghost use Rattle.std.specs.Prelude.{◌≡◌, ◌+◌, length};
-ghost use Rattle.misc.specs.Output.{put_at, put_end, WhereFits};
+ghost use Rattle.misc.specs.Put.{Puts, PutsWhereFits};
 ghost use Rattle.text.specs.Keys.{uuid_text, tag_text, key_text};
 
 use crate::digits::put_hex;
 use misc::UUID_LEN;
-use misc::bytes::left_at;
-use misc::put::put_bytes;
+use misc::put::Put;
 
 // How long the text of a uuid is.
 pub const UUID_TEXT: usize = 36;
 
 // Puts a uuid with its dashes.
-pub fn put_uuid(uuid: [u8; UUID_LEN], out: &mut [u8], at: usize) -> usize
-    ensures value { result ≡ put_end out.old at (uuid_text uuid) }
-    ensures out_after { out.new ≡ put_at out.old at (uuid_text uuid) }
+pub fn put_uuid(put: &mut Put<'_>, uuid: [u8; UUID_LEN])
+    ensures { Puts put.old (uuid_text uuid) put.new }
 {
-    if left_at(out, at) < UUID_TEXT {
-        return at;
+    if put.left() < UUID_TEXT {
+        return;
     }
-    let at1 = put_hex(&uuid[0..4], out, at);
-    let at2 = put_bytes(b"-", out, at1);
-    let at3 = put_hex(&uuid[4..6], out, at2);
-    let at4 = put_bytes(b"-", out, at3);
-    let at5 = put_hex(&uuid[6..8], out, at4);
-    let at6 = put_bytes(b"-", out, at5);
-    let at7 = put_hex(&uuid[8..10], out, at6);
-    let at8 = put_bytes(b"-", out, at7);
-    put_hex(&uuid[10..UUID_LEN], out, at8)
+    put_hex(put, &uuid[0..4]);
+    put.byte(b'-');
+    put_hex(put, &uuid[4..6]);
+    put.byte(b'-');
+    put_hex(put, &uuid[6..8]);
+    put.byte(b'-');
+    put_hex(put, &uuid[8..10]);
+    put.byte(b'-');
+    put_hex(put, &uuid[10..UUID_LEN]);
 }
 
 // How long the text of a key with this tag is.
@@ -40,24 +38,23 @@ pub fn key_len(tag: &[u8]) -> usize
     UUID_TEXT + 1 + tag.len()
 }
 
-fn put_tag(tag: &[u8], out: &mut [u8], at: usize) -> usize
-    ensures { WhereFits out.old at (tag_text tag.now) out.new result }
+fn put_tag(put: &mut Put<'_>, tag: &[u8])
+    ensures { PutsWhereFits put.old (tag_text tag.now) put.new }
 {
     if tag.is_empty() {
-        return at;
+        return;
     }
-    let from = put_bytes(b":", out, at);
-    put_bytes(tag, out, from)
+    put.byte(b':');
+    put.bytes(tag);
 }
 
 // Puts a key.
-pub fn put_key(uuid: [u8; UUID_LEN], tag: &[u8], out: &mut [u8], at: usize) -> usize
-    ensures value { result ≡ put_end out.old at (key_text uuid tag.now) }
-    ensures out_after { out.new ≡ put_at out.old at (key_text uuid tag.now) }
+pub fn put_key(put: &mut Put<'_>, uuid: [u8; UUID_LEN], tag: &[u8])
+    ensures { Puts put.old (key_text uuid tag.now) put.new }
 {
-    if left_at(out, at) < key_len(tag) {
-        return at;
+    if put.left() < key_len(tag) {
+        return;
     }
-    let from = put_uuid(uuid, out, at);
-    put_tag(tag, out, from)
+    put_uuid(put, uuid);
+    put_tag(put, tag);
 }

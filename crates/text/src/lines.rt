@@ -1,13 +1,12 @@
 // The line that says a refusal and its number.
 ghost use Rattle.std.specs.Prelude.{◌≡◌, ◌≤◌, length};
-ghost use Rattle.misc.specs.Output.{put_at, put_end};
+ghost use Rattle.misc.specs.Put.{Puts};
 ghost use Rattle.text.specs.Lines.{refused_text};
 
 use crate::digits::{decimal_len, put_decimal};
-use misc::bytes::left_at;
-use misc::put::put_bytes;
+use misc::put::Put;
 
-// How long the line is.
+// How long the line is. The refusal is a number: a report that comes back from C has any in a line.
 pub fn refused_len(refusal: u8) -> usize
     ensures { (result ≡ length (refused_text refusal)) × (result ≤ 29) }
 {
@@ -15,14 +14,13 @@ pub fn refused_len(refusal: u8) -> usize
 }
 
 // Puts the line.
-pub fn put_refused(refusal: u8, out: &mut [u8], at: usize) -> usize
-    ensures value { result ≡ put_end out.old at (refused_text refusal) }
-    ensures out_after { out.new ≡ put_at out.old at (refused_text refusal) }
+pub fn put_refused(put: &mut Put<'_>, refusal: u8)
+    ensures { Puts put.old (refused_text refusal) put.new }
 {
-    if left_at(out, at) < refused_len(refusal) {
-        return at;
+    if put.left() < refused_len(refusal) {
+        return;
     }
-    let at1 = put_bytes(b"refused ", out, at);
-    let at2 = put_decimal(refusal as u64, out, at1);
-    put_bytes(b"\n", out, at2)
+    put.bytes(b"refused ");
+    put_decimal(put, refusal as u64);
+    put.byte(b'\n');
 }

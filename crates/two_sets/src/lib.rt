@@ -53,7 +53,8 @@ pub(crate) struct Step {
     pub(crate) mark: u64,
 }
 
-// The entries that are left of the first set, and of the second.
+// The entries that are left of the first set, and of the second. The sets themselves go beside, as two slices: of a struct every contract would
+// speak as `sets.entry.first.now`, where it says `first.now`.
 #[derive(Clone, Copy)]
 pub(crate) struct Cursors {
     pub(crate) first: Cursor,

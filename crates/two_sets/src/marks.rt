@@ -81,6 +81,8 @@ pub(crate) fn next_mark<O: Operation>(first: &[u8], second: &[u8], sides: Sides)
     None
 }
 
+// (A place of the output is a number in this crate: it moves on whether there is room or not, since the first pass over both sets only counts.)
+
 // Writes the marks of an entry whose key the other set doesn't have from a place on, where there is room, if they are kept: then all of
 // them are marks of the result. Returns how many there are, room or not.
 fn put_alone(kept: bool, set: &[u8], side: Side, out: &mut [u8], at: usize) -> usize

@@ -1,5 +1,6 @@
 // Writing a result. The same pass over both sets is made twice: the first time it only counts, since its output has no room, and the second
-// time it writes what was judged and has room.
+// time it writes what was judged and has room. So a place of the output is a number here, and no `Put`: it moves on whether there is room or
+// not.
 ghost use Rattle.std.specs.Prelude.{◌≡◌, ◌+◌, ◌*◌, ◌^◌, ◌≤◌, ◌<◌, length};
 ghost use Rattle.misc.specs.Parse.{part};
 ghost use Rattle.misc.specs.Output.{output_of, answer_of, WhereFits};
@@ -14,6 +15,7 @@ use crate::operation::Operation;
 use crate::pairs::{next_pair, piece};
 use crate::{Cursors, KeyPlace, Made, Pair};
 use misc::UUID_LEN;
+use misc::put::Put;
 use misc::refusal::WriteError;
 use previous_gtids_event::rewrite::{put_head, put_header};
 use previous_gtids_event::{ENTRY_HEAD, TAGGED_HEAD};
@@ -38,7 +40,9 @@ fn put_key(set: &[u8], key: KeyPlace, tags: bool, count: usize, out: &mut [u8], 
 {
     let uuid = piece(set, key.at, UUID_LEN);
     let tag = piece(set, key.tag_at, key.tag_len);
-    put_head(uuid, tag, tags, count as u64, out, at)
+    let mut put = Put { out, at };
+    put_head(&mut put, uuid, tag, tags, count as u64);
+    put.at
 }
 
 // Writes the next entry of the result, unless it is empty, from a place on, and returns how many marks it has. They go first, behind the
@@ -148,7 +152,8 @@ pub(crate) fn write_combined<O: Operation>(
     if out.len() < len {
         return Err(WriteError::NoRoom(len));
     }
-    put_header(made.entries as u64, made.tagged, out, 0);
+    let mut put = Put { out, at: 0 };
+    put_header(&mut put, made.entries as u64, made.tagged);
     put_combined::<O>(made.tagged, first, second, from, out);
     Ok(len)
 }

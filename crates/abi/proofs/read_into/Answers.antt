@@ -1,4 +1,6 @@
 -- `abi::read_into` meets its contract.
+use mathlib.Core.Path.{◌∙◌}
+use borrow.Author.Rules.{rules}
 use Rattle.abi.proofs.FlatLaws.{out-refused, out-short, out-fits}
 use Rattle.abi.proofs.read_into.Goals as goal
 
@@ -11,4 +13,6 @@ returns-then-out-lt-RECORD_SIZE-clause-out_after c = let a = c.args in
 
 pub returns-clause-out_after : goal.returns-clause-out_after
 returns-clause-out_after c = let a = c.args in
-    out-fits a.event_type a.body.now a.out.now (λ i. (c.type_inv.body i).fits) c.in_ok-said.ensures c.if-out-lt-RECORD_SIZE.false c.put_record.ensures
+    let record_put = c.put_record.ensures in
+    search (rules, record_put.same)
+    ∙ out-fits a.event_type a.body.now a.out.now (λ i. (c.type_inv.body i).fits) c.in_ok-said.ensures c.if-out-lt-RECORD_SIZE.false record_put.placed

@@ -24,5 +24,9 @@ pub loop-preserved : goal.loop-preserved
 loop-preserved c = let one : c.args.index - c.loop.counter ≡ suc (c.args.index - (c.loop.counter + 1)) = omega arith in
     reader-turn _ _ _ c.loop.reader c.loop.invariant one (sym (ap Ok c.in-Some.is) ∙ c.in_ok-step.ensures) c.moved-reader.ensures
 
+pub returns-in_err-step-2 : goal.returns-in_err-step-2
+returns-in_err-step-2 c = handed-on _ c.from_residual-in_err-step-2.ensures
+    ∙ ahead_none _ _ _ c.loop.reader.cursor c.loop.invariant (omega arith) _ c.in_err-step-2.ensures
+
 pub returns : goal.returns
-returns c = ahead_none _ _ _ c.loop.reader.cursor c.loop.invariant (omega arith) _ c.next-2.ensures
+returns c = ahead_none _ _ _ c.loop.reader.cursor c.loop.invariant (omega arith) _ c.in_ok-step-2.ensures

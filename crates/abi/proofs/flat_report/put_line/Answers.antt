@@ -1,12 +1,8 @@
 -- `abi::flat_report::put_line` meets its contract.
-use Rattle.misc.proofs.OutputLaws.{◌also◌, put-placed}
+use Rattle.misc.proofs.PutLaws.{◌and◌, puts-fit}
 use Rattle.abi.specs.FlatReport.{flat_line}
 use Rattle.abi.proofs.flat_report.put_line.Goals as goal
 
 pub returns : goal.returns
 unfolding flat_line
-returns c = put-placed (c.put_byte-after_refusal.ensures.value, c.put_byte-after_refusal.ensures.out_after)
-    also put-placed (c.put_u32_le-after_entries.ensures.value, c.put_u32_le-after_entries.ensures.out_after)
-    also put-placed (c.put_u32_le-after_intervals.ensures.value, c.put_u32_le-after_intervals.ensures.out_after)
-    also put-placed (c.put_u32_le-after_high.ensures.value, c.put_u32_le-after_high.ensures.out_after)
-    also put-placed (c.put_u64_le.ensures.value, c.put_u64_le.ensures.out_after)
+returns c = puts-fit c.byte.ensures and puts-fit c.u32_le.ensures and puts-fit c.u32_le-2.ensures and puts-fit c.u32_le-3.ensures and puts-fit c.u64_le.ensures

@@ -1,6 +1,6 @@
 -- `gtid_event_write::tagged::put_clock` meets its contract.
 use native.Mathlib.Omega.{arith}
-use Rattle.misc.proofs.OutputLaws.{◌also◌}
+use Rattle.misc.proofs.PutLaws.{◌and◌}
 use Rattle.gtid_event_write.specs.Layout.{clock_bytes}
 use Rattle.gtid_event_write.proofs.WritableLaws.{tagged-fits}
 use Rattle.gtid_event_write.proofs.tagged.put_clock.Goals as goal
@@ -13,5 +13,4 @@ overflow_mul-event-2 c = omega (arith, (tagged-fits c.args.event c.requires).seq
 
 pub returns : goal.returns
 unfolding clock_bytes
-returns c = c.put_number-after_last.ensures also c.put_number-after_sequence.ensures also c.put_number-after_immediate.ensures
-    also c.put_unless.ensures
+returns c = c.put_number.ensures and c.put_number-2.ensures and c.put_number-3.ensures and c.put_unless.ensures

@@ -1,6 +1,6 @@
 -- `gtid_event_write::tagged::put_identity` meets its contract.
 use native.Mathlib.Omega.{arith}
-use Rattle.misc.proofs.OutputLaws.{◌also◌}
+use Rattle.misc.proofs.PutLaws.{◌and◌}
 use Rattle.gtid_event_write.specs.Layout.{identity_bytes}
 use Rattle.gtid_event_write.proofs.WritableLaws.{tagged-fits}
 use Rattle.gtid_event_write.proofs.tagged.put_identity.Goals as goal
@@ -13,6 +13,5 @@ put_tag-requires c = (tagged-fits c.args.event c.requires).tag
 
 pub returns : goal.returns
 unfolding identity_bytes
-returns c = (c.put_id-after_flags_id.ensures also c.put_item-after_flags.ensures)
-    also (c.put_id-after_sid_id.ensures also c.put_serialized_uuid-after_sid.ensures)
-    also c.put_number-after_gno.ensures also c.put_tag.ensures
+returns c = (c.put_id.ensures and c.put_item.ensures) and (c.put_id-2.ensures and c.put_serialized_uuid.ensures) and c.put_number.ensures
+    and c.put_tag.ensures

@@ -1,9 +1,11 @@
 -- `listing::event_text::write_id` meets its contract.
+use Rattle.std.proofs.Common.{rules}
 use Prim.Native.Nat.{ℕ, ◌+◌, ◌≤◌}
-use mathlib.Core.Path.{◌≡◌}
+use mathlib.Core.Path.{◌≡◌, refl, ◌∙◌}
 use native.Mathlib.Omega.{arith}
 use lib.ListN.{length, take}
-use Rattle.misc.proofs.OutputLaws.{put-placed, output-short}
+use Rattle.misc.proofs.OutputLaws.{output-short}
+use Rattle.misc.proofs.PutLaws.{puts-fit}
 use Rattle.gtid_event.specs.declared.GtidEvent.{GtidEvent}
 use Rattle.text.specs.Digits.{decimal}
 use Rattle.text.specs.Keys.{tag_text}
@@ -27,11 +29,9 @@ pub returns : goal.returns
 returns c =
     let e = c.args.event in
     let size = long e c.requires _ _ c.key_len.ensures c.decimal_len.ensures.0 in
-    let word = c.put_bytes-at1.ensures in
-    let key = c.put_key-at2.ensures in
-    let colon = c.put_bytes-at3.ensures in
-    let number = c.put_decimal-at4.ensures in
-    let newline = c.put_bytes.ensures in
-    let run = id-put e.sid (take e.tag_len e.tag) e.gno (put-placed (word.value, word.out_after)) (put-placed (key.value, key.out_after))
-    (put-placed (colon.value, colon.out_after)) (put-placed (number.value, number.out_after)) (put-placed (newline.value, newline.out_after)) in
-    both (fits_whole _ size (omega (arith, c.if-out-len.false)) run)
+    let run = id-put e.sid (take e.tag_len e.tag) e.gno (puts-fit c.bytes.ensures) (puts-fit c.put_key.ensures)
+    (puts-fit c.byte.ensures) (puts-fit c.put_decimal.ensures) (puts-fit c.byte-2.ensures) in
+    let whole = fits_whole _ size refl (omega (arith, c.if-out-len.false)) run in
+    let left : _ ≡ c.byte-2.new.self.out.now =
+    search (rules, c.bytes.ensures.same, c.put_key.ensures.same, c.byte.ensures.same, c.put_decimal.ensures.same, c.byte-2.ensures.same) in
+    both (whole.0, left ∙ whole.1)

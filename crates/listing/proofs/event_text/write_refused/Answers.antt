@@ -1,6 +1,9 @@
 -- `listing::event_text::write_refused` meets its contract.
+use Rattle.std.proofs.Common.{rules}
+use mathlib.Core.Path.{◌≡◌, refl, ◌∙◌}
 use native.Mathlib.Omega.{arith}
-use Rattle.misc.proofs.OutputLaws.{put-placed, output-short}
+use Rattle.misc.proofs.OutputLaws.{output-short}
+use Rattle.misc.proofs.PutLaws.{puts-fit}
 use Rattle.text.specs.Lines.{refused_text}
 use Rattle.listing.proofs.EventTextLaws.{fits_whole}
 use Rattle.misc.proofs.Clauses.{both}
@@ -12,5 +15,6 @@ returns-then-out-len c =
 
 pub returns : goal.returns
 returns c =
-    let put = c.put_refused.ensures in
-    both (fits_whole _ c.refused_len-len.ensures.0 (omega arith) (put-placed (put.value, put.out_after)))
+    let whole = fits_whole _ c.refused_len-len.ensures.0 refl (omega arith) (puts-fit c.put_refused.ensures) in
+    let left : _ ≡ c.put_refused.new.put.out.now = search (rules, c.put_refused.ensures.same) in
+    both (whole.0, left ∙ whole.1)

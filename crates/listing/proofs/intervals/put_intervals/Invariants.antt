@@ -4,4 +4,4 @@ use Rattle.listing.proofs.IntervalTextLaws.{text_from}
 use Rattle.listing.proofs.intervals.put_intervals.Given as goal
 
 abbrev pub invariant-loop-i : goal.invariant-loop-i
-invariant-loop-i l = Putting (text_from l.set l.first l.count 0) l.initial.out l.at (text_from l.set l.first l.count l.i) l.out l.end
+invariant-loop-i l = Putting (text_from l.set l.first l.count 0) l.fn.put (text_from l.set l.first l.count l.i) l.put

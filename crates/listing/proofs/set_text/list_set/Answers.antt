@@ -1,4 +1,6 @@
 -- `listing::set_text::list_set` meets its contract.
+use Rattle.std.proofs.Common.{rules}
+use mathlib.Core.Path.{◌≡◌, refl, ◌∙◌}
 use native.Mathlib.Omega.{arith}
 use Rattle.gtid_sets.specs.Lent.{lent_set}
 use Rattle.misc.proofs.Clauses.{both}
@@ -29,7 +31,9 @@ put_entries-requires c = let a = c.args in
     (all-ahead a.word.now a.set.now a.out.now _ c.in_ok-checked.ensures _ c.entries_of-from.ensures).0
 
 pub returns : goal.returns
-returns c = both (let a = c.args in
-    list-fits a.word.now a.set.now a.out.now _ c.in_ok-checked.ensures _ c.entries_of-from.ensures _ _ _
+returns c = let a = c.args in
+    let whole = list-fits a.word.now a.set.now a.out.now _ c.in_ok-checked.ensures _ c.entries_of-from.ensures _ _ _
     c.decimal_len.ensures.0 c.decimal_len-2.ensures.0 c.entries_len.ensures.0 (omega arith)
-    c.put_head-at.ensures c.put_entries.ensures)
+    refl refl c.put_head.ensures c.put_entries.ensures in
+    let left : _ ≡ c.put_entries.new.put.out.now = search (rules, c.put_head.ensures.same, c.put_entries.ensures.same) in
+    both (whole.0, left ∙ whole.1)

@@ -8,4 +8,4 @@ use Rattle.listing.proofs.set_text.put_entries.Given as goal
 
 abbrev pub invariant-loop : goal.invariant-loop
 invariant-loop l = CursorIs l.set l.rest × (l.counter + l.rest.left ≡ l.initial.rest.left)
-    × Putting (entries_text (entries_left l.set l.initial.rest)) l.initial.out l.at (entries_text (entries_left l.set l.rest)) l.out l.end-2
+    × Putting (entries_text (entries_left l.set l.initial.rest)) l.fn.put (entries_text (entries_left l.set l.rest)) l.put

@@ -1,8 +1,9 @@
 -- `previous_gtids_event::rewrite::rewrite` meets its contract.
 use native.Mathlib.Omega.{arith}
-use mathlib.Core.Path.{◌∙◌}
+use mathlib.Core.Path.{◌≡◌, ◌∙◌}
+use borrow.Author.Rules.{rules}
 use Rattle.misc.proofs.Clauses.{both}
-use Rattle.misc.proofs.OutputLaws.{put-placed}
+use Rattle.misc.proofs.PutLaws.{◌and◌, puts-fit}
 use Rattle.misc.proofs.ParseLaws.{handed-on, answered-err}
 use Rattle.previous_gtids_event.specs.Inside.{sizes_told}
 use Rattle.previous_gtids_event.proofs.Reading.{headless, headed}
@@ -27,6 +28,7 @@ pub put_entries-requires : goal.put_entries-requires
 put_entries-requires c = was-whole _ _ _ c.in_ok-sizes.ensures.value c.args.out.now
 
 pub returns : goal.returns
-returns c = both (rw (headed _ c.in_ok-header.ensures).0
-    (rewrite-whole _ _ _ c.in_ok-sizes.ensures.value _ _ c.body_len-len.ensures (omega arith)
-    (put-placed (c.put_header-first.ensures.value, c.put_header-first.ensures.out_after)) c.put_entries.ensures))
+returns c = let whole = rewrite-whole _ _ _ c.in_ok-sizes.ensures.value _ _ c.body_len-len.ensures (omega arith)
+    (record { placed = (puts-fit c.put_header.ensures and c.put_entries.ensures).placed }) in
+    let left : _ ≡ c.put_entries.new.put.out.now = search (rules, c.put_header.ensures.same, c.put_entries.ensures.same) in
+    both (rw (headed _ c.in_ok-header.ensures).0 (whole.0, left ∙ whole.1))

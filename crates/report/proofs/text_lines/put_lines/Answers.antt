@@ -1,4 +1,3 @@
-use mathlib.Core.Path.{◌∙◌}
 use native.Mathlib.Omega.{arith}
 use Rattle.text.proofs.PuttingLaws.{putting-all, putting-turn}
 use Rattle.report.specs.Report.{refused_line}
@@ -9,7 +8,7 @@ pub loop-line-preserved : goal.loop-line-preserved
 loop-line-preserved c =
     let l = c.loop-line in
     let text = more-lines c.args.lines.now l.line-index (refused_line 0) c.loop-line-test.true in
-    (c.put_line-end.auto.out ∙ l.invariant.0, putting-turn l.invariant.1 _ _ text _ _ c.put_line-end.ensures)
+    putting-turn l.invariant _ _ text _ c.put_line.ensures
 
 pub returns : goal.returns
-returns c = putting-all c.loop-line.invariant.1 (no_lines c.args.lines.now c.loop-line.line-index (omega arith))
+returns c = putting-all c.loop-line.invariant (no_lines c.args.lines.now c.loop-line.line-index (omega arith))

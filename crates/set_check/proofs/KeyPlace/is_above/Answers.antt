@@ -1,10 +1,7 @@
 -- `set_check::KeyPlace::is_above` meets its contract.
 use native.Mathlib.Nat.{add-sub_cancel_left}
-use Rattle.set_check.proofs.RestLaws.{low-told, low_none, told-above}
+use Rattle.set_check.proofs.RestLaws.{low-told, told-above}
 use Rattle.set_check.proofs.KeyPlace.is_above.Goals as goal
-
-pub returns-in_default : goal.returns-in_default
-returns-in_default c = low_none _ _ _ c.in_default.is c.requires.key
 
 pub returns : goal.returns
 returns c =

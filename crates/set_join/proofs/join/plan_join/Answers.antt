@@ -37,4 +37,4 @@ returns c =
     let a = c.args in
     plan-is a.set.now a.is.tagged a.is.entries c.requires.set.0 a.key.uuid.now a.key.tag.now c.requires.uuid_len.0 c.requires.uuid_len.1 a.span.start a.span.end
     c.find-found.result c.find-found.ensures c.splice_in-splice.result c.splice_in-splice.ensures c.requires.start_lt_end
-    (λ i. (c.type_inv.set i).fits) _ _ a.is.intervals (rw (c.gained.ensures.0, c.gained-2.ensures.0)) (rw c.gained-3.ensures.0) (sym c.requires.set.1)
+    (λ i. (c.type_inv.set i).fits) _ _ a.is.intervals (omega (arith, c.gained.ensures.0, c.gained-2.ensures.0)) (omega (arith, c.gained-3.ensures.0)) (sym c.requires.set.1)

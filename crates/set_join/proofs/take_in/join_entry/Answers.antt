@@ -3,8 +3,12 @@ use Prim.Native.Nat.{◌+◌, ◌-◌}
 use mathlib.Core.Path.{◌≡◌, ◌∙◌}
 use native.Mathlib.Omega.{arith}
 use Rattle.gtid_sets.proofs.KeyLaws.{good-key}
-use Rattle.set_join.proofs.FoldLaws.{joining-room, joining-turn}
+use Rattle.set_join.proofs.FoldLaws.{joining-room, joining-next, joining-turn}
 use Rattle.set_join.proofs.take_in.join_entry.Goals as goal
+
+pub join_interval-set-requires-clause-end_value : goal.join_interval-set-requires-clause-end_value
+join_interval-set-requires-clause-end_value c =
+    joining-next _ _ _ _ _ _ _ c.loop.invariant.joining (omega arith) _ _ c.number_at.ensures c.number_at-in-loop.ensures
 
 pub join_interval-set-requires-clause-room : goal.join_interval-set-requires-clause-room
 join_interval-set-requires-clause-room c =

@@ -4,11 +4,9 @@ use mathlib.Core.Path.{refl}
 use native.Mathlib.Omega.{arith}
 use borrow.Author.Rules.{rules}
 use Rattle.std.proofs.lemmas.Fmt.{length-decimal-le}
-use Rattle.misc.proofs.OutputLaws.{put_as}
 use Rattle.text.proofs.FillLaws.{before-all}
 use Rattle.text.proofs.DigitLaws.{decimal-before, decimal-most}
 use Rattle.text.proofs.IntervalTextLaws.{last-most, interval-put}
-use Rattle.misc.proofs.Clauses.{both}
 use Rattle.text.proofs.intervals.put_interval.Goals as goal
 
 pub write_digits-first-requires : goal.write_digits-first-requires
@@ -21,9 +19,9 @@ overflow_sub-first c = let a = c.args in
     omega (arith, length-decimal-le 20, c.fill_last-last.ensures.begins, last-most a.start a.end, c.write_digits-first.ensures.start)
 
 pub returns : goal.returns
-returns c = both (let a = c.args in
+returns c = let a = c.args in
     let last = c.fill_last-last.ensures in
     let first = decimal-before a.start (search rules) c.write_digits-first.ensures.start c.write_digits-first.ensures.written in
     let some : 0 < c.write_digits-first.result = omega (arith, last.begins, last-most a.start a.end, first.begins, decimal-most a.start) in
     let whole = interval-put a.start a.end last first some (omega (arith, last.begins, first.begins)) in
-    put_as a.out.now a.at (before-all whole refl) (c.put_bytes.ensures.value, c.put_bytes.ensures.out_after))
+    rw (before-all whole refl) at c.bytes.ensures

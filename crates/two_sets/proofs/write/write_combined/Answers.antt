@@ -1,6 +1,8 @@
+use mathlib.Core.Path.{◌≡◌}
+use borrow.Author.Rules.{rules}
 use Rattle.misc.proofs.ParseLaws.{handed-on}
 use Rattle.misc.proofs.Clauses.{both}
-use Rattle.misc.proofs.OutputLaws.{put-placed}
+use Rattle.misc.proofs.PutLaws.{puts-fit}
 use Rattle.two_sets.proofs.AnswerLaws.{combining-good, entries_below, over-limits, no_room, all-written}
 use Rattle.two_sets.proofs.write.write_combined.Goals as goal
 
@@ -23,5 +25,6 @@ returns-then-out-len g c =
 pub returns : goal.returns
 returns g c =
     let good = combining-good g.O.Operation.op c.args.first.now c.args.second.now c.args.from c.requires.0 in
+    let left : c.out-1.given.0 ≡ c.put_header.new.put.out.now = search (rules, c.put_header.ensures.same) in
     both (all-written _ good _ c.put_combined-made.ensures.made_is c.args.out.now c.in_ok-judge.ensures _ c.len-len.ensures c.if-out-len.false
-    (put-placed (c.put_header.ensures.value, c.put_header.ensures.out_after)) c.put_combined.ensures.where_fits)
+    (record { placed = (puts-fit c.put_header.ensures).placed }) (rw left at c.put_combined.ensures.where_fits))
