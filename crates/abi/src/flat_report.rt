@@ -68,14 +68,11 @@ pub(crate) fn report_in(s: &[u8]) -> Report
     requires { length s.now ≡ report_size }
     ensures { result ≡ report_in s.now }
 {
-    let fresh = Report::new();
-    let mut lines = fresh.lines;
+    let mut report = Report::new();
+    report.sets = number_at(s, 0) as usize;
     for i in 0..MAX_SETS {
         let at = 8 + LINE_SIZE * i;
-        lines[i] = line_in(&s[at..at + LINE_SIZE]);
+        report.lines[i] = line_in(&s[at..at + LINE_SIZE]);
     }
-    Report {
-        sets: number_at(s, 0) as usize,
-        lines,
-    }
+    report
 }

@@ -73,15 +73,17 @@ pub fn gtid_read_varlen_uint(s: &[u8], value: &mut u64, used: &mut usize) -> u8
     ensures value_after { value.new ≡ number_in (read_of (varlen_at s.now 0)) (λ read. read.value) }
     ensures used_after { used.new ≡ number_in (read_of (varlen_at s.now 0)) (λ read. read.next) }
 {
-    *value = 0;
-    *used = 0;
     match read_varlen_uint(s, 0) {
         Ok(said) => {
             *value = said.value;
             *used = said.next;
             0
         }
-        Err(refusal) => refusal.number(),
+        Err(refusal) => {
+            *value = 0;
+            *used = 0;
+            refusal.number()
+        }
     }
 }
 

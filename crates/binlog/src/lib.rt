@@ -141,7 +141,9 @@ fn fill(bytes: &[u8], work: &mut [u8], have: usize)
     requires { have + length bytes.now ≤ length work.old }
     ensures { take (have + length bytes.now) work.new ≡ take have work.old ++ bytes.now }
 {
-    work[have..have + bytes.len()].copy_from_slice(bytes);
+    for i in 0..bytes.len() {
+        work[have + i] = bytes[i];
+    }
 }
 
 // An event that is read, behind its header: `n` bytes are to come.

@@ -10,7 +10,7 @@ ghost use Rattle.binlog_reader.specs.Does.{acts, acted_as, ActedIs};
 ghost use Rattle.binlog_reader.specs.Step.{stepped, step_of, run_in, step_answers, step_leaves, step_holds, begin_answers, said_in, rests_in, end_answers_of, settled_in};
 
 use binlog::{Phase, walk};
-use misc::bytes::smaller;
+use misc::bytes::{smaller, write_bytes};
 use misc::refusal::WriteError;
 use previous_gtids_event::PREVIOUS_GTIDS_EVENT;
 use resume_set::{Offered, check_set, offer};
@@ -136,7 +136,7 @@ impl Reader {
         let room = smaller(set.len(), spare.len());
         match event.act(&set[..kept], &mut spare[..room]) {
             Ok(acted) => {
-                set[..acted.len].copy_from_slice(&spare[..acted.len]);
+                let _ = write_bytes(&spare[..acted.len], set);
                 Answer {
                     said: Said::Event(acted.told, event.event_type, event.body.len()),
                     used,

@@ -24,7 +24,7 @@ fn place_behind(wrote: Result<usize, WriteError>, at: usize) -> usize
     }
 }
 
-fn put_byte(b: u8, out: &mut [u8], at: usize) -> usize
+pub fn put_byte(b: u8, out: &mut [u8], at: usize) -> usize
     ensures value { result ≡ put_end out.old at (b ∷ []) }
     ensures out_after { out.new ≡ put_at out.old at (b ∷ []) }
 {
@@ -58,6 +58,21 @@ fn put_le(value: u64, n: usize, out: &mut [u8], at: usize) -> usize
     place_behind(wrote, at)
 }
 
+pub fn put_u32_le(value: u32, out: &mut [u8], at: usize) -> usize
+    ensures value { result ≡ put_end out.old at (le_bytes 4 value) }
+    ensures out_after { out.new ≡ put_at out.old at (le_bytes 4 value) }
+{
+    put_le(u64::from(value), 4, out, at)
+}
+
+// The seven low bytes: the highest byte of `value` is left out, whatever it is.
+pub fn put_u56_le(value: u64, out: &mut [u8], at: usize) -> usize
+    ensures value { result ≡ put_end out.old at (le_bytes 7 value) }
+    ensures out_after { out.new ≡ put_at out.old at (le_bytes 7 value) }
+{
+    put_le(value, 7, out, at)
+}
+
 pub fn put_u64_le(value: u64, out: &mut [u8], at: usize) -> usize
     ensures value { result ≡ put_end out.old at (le_bytes 8 value) }
     ensures out_after { out.new ≡ put_at out.old at (le_bytes 8 value) }
@@ -65,7 +80,7 @@ pub fn put_u64_le(value: u64, out: &mut [u8], at: usize) -> usize
     put_le(value, 8, out, at)
 }
 
-fn put_lenenc_int(value: u64, out: &mut [u8], at: usize) -> usize
+pub fn put_lenenc_int(value: u64, out: &mut [u8], at: usize) -> usize
     ensures value { result ≡ put_end out.old at (lenenc_bytes value) }
     ensures out_after { out.new ≡ put_at out.old at (lenenc_bytes value) }
 {
@@ -76,7 +91,7 @@ fn put_lenenc_int(value: u64, out: &mut [u8], at: usize) -> usize
     place_behind(wrote, at)
 }
 
-fn put_varlen_uint(value: u64, out: &mut [u8], at: usize) -> usize
+pub fn put_varlen_uint(value: u64, out: &mut [u8], at: usize) -> usize
     ensures value { result ≡ put_end out.old at (varlen_bytes value) }
     ensures out_after { out.new ≡ put_at out.old at (varlen_bytes value) }
 {
@@ -88,7 +103,7 @@ fn put_varlen_uint(value: u64, out: &mut [u8], at: usize) -> usize
 }
 
 // Bytes behind their number, which is a variable-length integer.
-fn put_sized(source: &[u8], out: &mut [u8], at: usize) -> usize
+pub fn put_sized(source: &[u8], out: &mut [u8], at: usize) -> usize
     ensures value { result ≡ put_end out.old at (varlen_bytes (length source.now) ++ source.now) }
     ensures out_after { out.new ≡ put_at out.old at (varlen_bytes (length source.now) ++ source.now) }
 {
@@ -135,14 +150,13 @@ impl Put<'_> {
     pub fn u32_le(&mut self, value: u32)
         ensures { Puts self.old (le_bytes 4 value) self.new }
     {
-        self.at = put_le(u64::from(value), 4, self.out, self.at);
+        self.at = put_u32_le(value, self.out, self.at);
     }
 
-    // The seven low bytes: the highest byte of `value` is left out, whatever it is.
     pub fn u56_le(&mut self, value: u64)
         ensures { Puts self.old (le_bytes 7 value) self.new }
     {
-        self.at = put_le(value, 7, self.out, self.at);
+        self.at = put_u56_le(value, self.out, self.at);
     }
 
     pub fn u64_le(&mut self, value: u64)

@@ -1,12 +1,14 @@
 -- Laws of bytes as records keep them (`specs/Kept.antt`).
 use mathlib.Core.Path.{◌≡◌, ap, ◌∙◌}
-use mathlib.Core.List.{List, ◌++◌, append-nil}
-use Prim.Native.Nat.{min, ℕ, zero, suc, ◌-◌}
+use mathlib.Core.List.{List, append-nil}
+use Prim.Native.Nat.{min, ℕ, zero, suc, ◌-◌, ◌≤◌}
 use native.Mathlib.Nat.{suc-sub-suc}
 use native.Mathlib.Omega.{arith}
-use lib.ListN.{length, take, drop, replicate, length-take}
+use lib.ListN.{length, take, drop, replicate, length-take, length-replicate}
 use Rattle.std.proofs.lemmas.List.{take_min}
 use lib.Seq.{take_all}
+use borrow.Author.Tests.{le-leb}
+use Rattle.misc.specs.Output.{bytes, output_of}
 use Rattle.packets.specs.Kept.{padded, kept}
 
 drop-replicate : (n w : ℕ) → drop {A = ℕ} n (replicate w 0) ≡ replicate (w - n) 0
@@ -14,13 +16,13 @@ drop-replicate zero w = let e : w - 0 ≡ w = omega arith in rw e
 drop-replicate (suc n) zero = let e : 0 - suc n ≡ 0 = omega arith in rw e
 drop-replicate (suc n) (suc w) = rw suc-sub-suc (drop-replicate n w)
 
--- they are what is in a field of zeros once they are copied to its front
-pub kept-copied : (w : ℕ) (s front : List ℕ) (len : ℕ) → len ≡ min (length s) w → front ≡ take len s → front ++ drop len (replicate w 0) ≡ kept w s
-unfolding padded
-kept-copied w s front len h e =
+-- they are what is in a field of zeros once they are written to it
+pub kept-written : (w : ℕ) (s : List ℕ) (len : ℕ) → len ≡ min (length s) w → output_of (replicate w 0) (bytes (take len s)) ≡ kept w s
+unfolding output_of padded
+kept-written w s len h =
     let same : take len s ≡ take w s = let m : len ≡ min w (length s) = omega arith in rw (m, take_min) in
-    let size : length (take w s) ≡ len = rw length-take (omega arith) in
-    rw (e, drop-replicate, same, size)
+    let fits : length (take w s) ≤ length (replicate {A = ℕ} w 0) = rw (length-take, length-replicate) (omega arith) in
+    rw (same, le-leb _ _ fits, drop-replicate)
 
 -- as many bytes as are kept are kept as they are
 pub kept_full : (w : ℕ) (s : List ℕ) → length (take w s) ≡ w → kept w s ≡ take w s

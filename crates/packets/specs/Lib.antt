@@ -3,4 +3,5 @@
 pub mod Tag
 pub mod Gno
 pub mod Key
+pub mod Word
 pub mod Kept

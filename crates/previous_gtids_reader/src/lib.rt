@@ -4,7 +4,7 @@
 
 ghost use Rattle.std.specs.Prelude.{◌≡◌};
 ghost use Rattle.previous_gtids_reader.specs.Steps.{start_of, step_of, step_after};
-ghost use Rattle.previous_gtids_reader.specs.Held.{reader_at, begun};
+ghost use Rattle.previous_gtids_reader.specs.Held.{reader_at, or_at_none, begun};
 
 use misc::refusal::Refusal;
 use previous_gtids_event::read::{entry_at, header_of};
@@ -70,8 +70,18 @@ pub struct Reader<'a> {
     pub cursor: Cursor,
 }
 
-// A reader at the start of a body.
-pub fn new<'a>(body: &'a [u8]) -> Result<Reader<'a>, Refusal>
+// A reader at the start of a body. One of a body that is refused is at no entry, and each step tells the refusal.
+pub fn new<'a>(body: &'a [u8]) -> Reader<'a>
+    ensures { result ≡ reader_at body.entry (or_at_none (start_of body.now)) }
+{
+    Reader {
+        body,
+        cursor: start(body).unwrap_or(Cursor { at: 0, left: 0 }),
+    }
+}
+
+// The same, or the refusal.
+pub fn try_new<'a>(body: &'a [u8]) -> Result<Reader<'a>, Refusal>
     ensures { result ≡ begun body.entry (start_of body.now) }
 {
     let cursor = start(body)?;
@@ -100,7 +110,7 @@ pub fn moved<'a>(r: Reader<'a>, cursor: Cursor) -> Reader<'a>
 pub fn entry_number(body: &[u8], index: u64) -> Result<Asked, Refusal>
     ensures { result ≡ step_after body.now index }
 {
-    let mut reader = new(body)?;
+    let mut reader = try_new(body)?;
     for _ in 0..index {
         match next(reader)? {
             Some(step) => reader = moved(reader, step.cursor),

@@ -25,8 +25,10 @@ use Rattle.previous_gtids_event.proofs.Laying.{header-reads, entries-read}
 use Rattle.previous_gtids_event.proofs.Accepting.{header-found, entries-found}
 use Rattle.previous_gtids_reader.specs.declared.Cursor.{Cursor}
 use Rattle.previous_gtids_reader.specs.declared.Step.{Step}
+use Rattle.previous_gtids_reader.specs.Held.{begun}
 use Rattle.previous_gtids_reader.specs.Steps.{cursor_at, start_of, entry_step, stepped, headed_step, onwards, step_of, asked_at, cursor_after, step_after}
 use Rattle.previous_gtids_reader.proofs.StepLaws.{after_none, after_next, after-still, step_after_lem}
+use Rattle.std.specs.Borrow.{Bor}
 use Rattle.std.specs.Prelude.{Option, Some, None, Result, Ok, Err}
 use Rattle.promises.specs.PlainFaults.{FixedFault, OfBody, HeadedFault, NumberFault}
 use Rattle.promises.specs.Exact.{RefusesExactly, ReaderExact}
@@ -42,6 +44,14 @@ start-exact : (s : List ℕ) → RefusesExactly (refusal_in (start_of s)) (OfBod
 unfolding start_of
 start-exact s = answers-exactly _ _ _
     (of-body-exact s (le_at 8 s 0) (FixedFault 8 s) (fixed-given 8 (omega arith) s 0) (fixed-forced 8 (omega arith) s 0))
+
+-- a reader is refused as its start is
+begun-refusal : (body : Bor (List ℕ)) (start : Result Cursor Refusal) → refusal_in (begun body start) ≡ refusal_in start
+begun-refusal body (Ok cursor) = refl
+begun-refusal body (Err r) = refl
+
+new-exact : (body : Bor (List ℕ)) → RefusesExactly (refusal_in (begun body (start_of body.now))) (OfBody body.now (FixedFault 8 body.now))
+new-exact body = rw (begun-refusal body (start_of body.now)) (start-exact body.now)
 
 -- ---- one step
 
@@ -290,4 +300,4 @@ module _ (s : List ℕ) (index : ℕ) where
       long-exact
 
 pub reader-exact : ReaderExact
-reader-exact = record { start = start-exact; step_at = step-exact; entry_number = number-exact }
+reader-exact = record { start = start-exact; try_new = new-exact; step_at = step-exact; entry_number = number-exact }

@@ -3,6 +3,7 @@
 -- different numbers hold at once, so that the tables say which of several faults counts, and that a call accepts exactly where no case holds (`one-case`
 -- and `accepted` of proofs/OneOutcome.antt).
 use Rattle.std.specs.Prelude.{ℕ, ◌+◌, ◌*◌, ◌≤◌, ◌≡◌, Bool, true, false, List, ◌++◌, length, drop, Result, Ok, Err}
+use Rattle.std.specs.Borrow.{Bor}
 use Rattle.misc.specs.declared.refusal.Refusal.{Refusal}
 use Rattle.misc.specs.declared.refusal.WriteError.{WriteError}
 use Rattle.misc.specs.Refusal.{number, error_number, error_needed}
@@ -19,6 +20,7 @@ use Rattle.previous_gtids_event.specs.Previous.{interval_at, entry_at, previous}
 use Rattle.previous_gtids_event.specs.Rewrite.{rewritten}
 use Rattle.previous_gtids_event.specs.Answers.{previous_read, header_read, entry_read, interval_read}
 use Rattle.previous_gtids_reader.specs.declared.Cursor.{Cursor}
+use Rattle.previous_gtids_reader.specs.Held.{begun}
 use Rattle.previous_gtids_reader.specs.Steps.{start_of, step_of, step_after}
 use Rattle.gtid_event.specs.Event.{with_tag, new_tagged}
 use Rattle.gtid_event.specs.declared.GtidEvent.{GtidEvent}
@@ -107,6 +109,7 @@ pub record BodiesExact : Type 0 where
 
 pub record ReaderExact : Type 0 where
   pub start : (body : List ℕ) → RefusesExactly (refusal_in (start_of body)) (OfBody body (FixedFault 8 body))
+  pub try_new : (body : Bor (List ℕ)) → RefusesExactly (refusal_in (begun body (start_of body.now))) (OfBody body.now (FixedFault 8 body.now))
   -- `next`, which holds its body, promises the same
   pub step_at : (body : List ℕ) (c : Cursor) → Bytes body
       → RefusesExactly (refusal_in (step_of body c)) (OfBody body (HeadedFault c.left c.at body))

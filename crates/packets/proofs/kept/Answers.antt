@@ -1,6 +1,7 @@
 -- `packets::kept` meets its contract.
-use Rattle.packets.proofs.KeptLaws.{kept-copied}
+use mathlib.Core.Path.{◌∙◌}
+use Rattle.packets.proofs.KeptLaws.{kept-written}
 use Rattle.packets.proofs.kept.Goals as goal
 
 pub returns : goal.returns
-returns g c = kept-copied g.row.N c.args.bytes.now _ _ c.min-len.ensures c.copy_from_slice.ensures.after
+returns g c = c.write_bytes.ensures.out_after ∙ kept-written g.row.N c.args.bytes.now _ c.min-len.ensures

@@ -1,8 +1,7 @@
 -- `misc::bytes::write_bytes` meets its contract.
-use Rattle.misc.proofs.OutputLaws.{written_is, output-fits, output-short}
+use Rattle.misc.proofs.OutputLaws.{output-fits, output-short}
 use native.Mathlib.Omega.{arith}
-use mathlib.Core.Path.{refl, sym, ◌∙◌}
-use native.Mathlib.Nat.{zero-add}
+use mathlib.Core.Path.{refl}
 use Rattle.misc.proofs.Clauses.{both}
 use Rattle.misc.proofs.bytes.write_bytes.Goals as goal
 
@@ -10,4 +9,4 @@ pub returns-then-out-len : goal.returns-then-out-len
 returns-then-out-len c = both (output-short _ _ _ refl c.if-out-len.true)
 
 pub returns : goal.returns
-returns c = both (output-fits (omega arith) (record { holds = rw (c.copy_from_slice.ensures.after) (sym (written_is _ 0 c.args.source.now (omega arith) ∙ rw zero-add)); ends = omega arith }))
+returns c = both (output-fits (omega arith) (record { holds = c.copy.ensures; ends = omega arith }))
