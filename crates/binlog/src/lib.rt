@@ -136,7 +136,7 @@ fn is_read(event_type: u8) -> bool
     )
 }
 
-// Copies bytes of a chunk into the work bytes, behind the `have` that stand there.
+// Copies bytes of a chunk into the work bytes, behind the `have` that stand there. (By a loop, as `misc::bytes` copies.)
 fn fill(bytes: &[u8], work: &mut [u8], have: usize)
     requires { have + length bytes.now ≤ length work.old }
     ensures { take (have + length bytes.now) work.new ≡ take have work.old ++ bytes.now }
