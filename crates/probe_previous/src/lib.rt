@@ -5,7 +5,7 @@ use misc::refusal::Refusal;
 use previous_gtids_event::read::{interval_at, read, unread};
 use previous_gtids_event::rewrite::rewrite;
 use previous_gtids_event::{EntryRead, PreviousRead};
-use previous_gtids_reader::{entry_number, start, step_at};
+use previous_gtids_reader::{entry_number, new, next, start, step_at};
 use probe_lines::line::Line;
 use probe_lines::parts::front;
 use probe_lines::{answers, checks};
@@ -60,6 +60,15 @@ fn stops_elsewhere(body: &[u8], whole: Result<usize, Refusal>) -> bool {
     }
 }
 
+// Whether the first step of a reader, which any body has, is another than the first step by its number.
+fn begins_elsewhere(body: &[u8]) -> bool {
+    match (next(new(body)), entry_number(body, 0)) {
+        (Ok(step), Ok(first)) => step.is_some() != first.step.is_some(),
+        (Err(step), Err(first)) => step != first,
+        _ => true,
+    }
+}
+
 fn push_read(line: &mut Line<'_>, a: &[u8], said: PreviousRead, rest: &[u8]) {
     answers::ok(line);
     line.decimal(said.used as u64);
@@ -67,7 +76,9 @@ fn push_read(line: &mut Line<'_>, a: &[u8], said: PreviousRead, rest: &[u8]) {
     line.number(said.entries);
     let end = push_entries(line, a, said.entries);
     line.text_if(!checks::is_suffix(a, said.used, rest), b" notsuffix");
-    let elsewhere = (end != Ok(said.used)) | stops_elsewhere(a, Ok(said.used));
+    let elsewhere = (end != Ok(said.used))
+        | stops_elsewhere(a, Ok(said.used))
+        | begins_elsewhere(a);
     line.text_if(elsewhere, b" elsewhere");
 }
 
@@ -78,7 +89,8 @@ fn prev(a: &[u8], line: &mut Line<'_>) {
         Err(refusal) => {
             answers::refused(line, refusal);
             line.text_if(!rest.is_empty(), b" nonzero");
-            line.text_if(stops_elsewhere(a, Err(refusal)), b" elsewhere");
+            let elsewhere = stops_elsewhere(a, Err(refusal)) | begins_elsewhere(a);
+            line.text_if(elsewhere, b" elsewhere");
         }
     }
 }
