@@ -136,11 +136,16 @@ fn is_read(event_type: u8) -> bool
     )
 }
 
-// Copies bytes of a chunk into the work bytes, behind the `have` that stand there. (By a loop, as `misc::bytes` copies.)
+// Copies bytes of a chunk into the work bytes, behind the `have` that stand there. A header mostly comes whole: so few bytes, of a number that
+// is known, are copied in place. All others are copied by a loop, as in `misc::bytes`.
 fn fill(bytes: &[u8], work: &mut [u8], have: usize)
     requires { have + length bytes.now ≤ length work.old }
     ensures { take (have + length bytes.now) work.new ≡ take have work.old ++ bytes.now }
 {
+    if bytes.len() == HEADER {
+        work[have..have + HEADER].copy_from_slice(&bytes[..HEADER]);
+        return;
+    }
     for i in 0..bytes.len() {
         work[have + i] = bytes[i];
     }

@@ -18,7 +18,8 @@ pub fn left_at(s: &[u8], at: usize) -> usize
     s.len().saturating_sub(at)
 }
 
-// (The library's `copy_from_slice` is a call of `memmove`, a name that the archive would ask its linker for.)
+// Copies `source` to the front of `out`. (Not by the library's `copy_from_slice`: of a length that isn't known that is a call of `memmove`, a
+// name that the archive would ask its linker for.)
 fn copy(source: &[u8], out: &mut [u8])
     requires { length source.now ≤ length out.old }
     ensures { out.new ≡ written out.old 0 source.now }

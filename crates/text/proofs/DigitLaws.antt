@@ -40,6 +40,11 @@ unfolding decimal_in
 spelled-more v ds big front zero h = absurd (omega (arith, pow-suc 10 0))
 spelled-more v ds big front (suc k) h = rw (le-ltb v 10 big, front k (fewer-tens (suc k) v h))
 
+-- a digit alone
+pub decimal-one : (v : ℕ) → v < 10 → decimal v ≡ (48 + v) ∷ []
+unfolding decimal
+decimal-one v low = spelled-one v low 19 (omega arith)
+
 -- the library's decimal digits
 pub decimal-is : (v : ℕ) → v < 2 ^ 64 → fmt.decimal v ≡ decimal v
 unfolding decimal

@@ -13,10 +13,13 @@ pub fn decimal_len(n: u64) -> usize
     n.max(1).ilog10() as usize + 1
 }
 
-// Puts the decimal digits of a number.
+// Puts the decimal digits of a number. (A single one is put without the library's buffer, which costs more than it.)
 pub fn put_decimal(put: &mut Put<'_>, n: u64)
     ensures { Puts put.old (decimal n) put.new }
 {
+    if n < 10 {
+        return put.byte(b'0' + n as u8);
+    }
     let mut buffer = Buffer::new();
     put.bytes(buffer.format(n).as_bytes());
 }
