@@ -243,11 +243,12 @@ fn refusals_have_the_names_and_numbers_of_the_source() {
         };
         assert!(source.contains(&line), "{line}");
     }
-    let numbered = source.lines().filter(|line| {
-        let (_, said) = line.rsplit_once(" = ").unwrap_or_default();
-        said.trim_end_matches([',', ';']).parse::<u8>().is_ok()
-    });
-    assert_eq!(numbered.count(), ALL.len());
+    let (_, cases) = source.split_once("\npub enum Refusal {\n").unwrap();
+    let (cases, _) = cases.split_once("\n}\n").unwrap();
+    assert_eq!(
+        cases.lines().count() + source.matches("pub const ").count(),
+        ALL.len()
+    );
 }
 
 #[test]
