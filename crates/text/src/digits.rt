@@ -13,7 +13,7 @@ pub fn decimal_len(n: u64) -> usize
     n.max(1).ilog10() as usize + 1
 }
 
-// Puts the decimal digits of a number. (A single one is put without the library's buffer, which costs more than it.)
+// Puts the decimal digits of a number. (Of one below ten without the library's buffer, which costs more than the digit.)
 pub fn put_decimal(put: &mut Put<'_>, n: u64)
     ensures { Puts put.old (decimal n) put.new }
 {
